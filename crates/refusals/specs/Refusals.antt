@@ -1,0 +1,17 @@
+-- Document 01's numbers of the refusals.
+use Prim.Native.Nat.{ℕ}
+use Rattle.refusals.specs.declared.Refusal.{Refusal}
+use Rattle.refusals.specs.declared.Refusal.the-variants.{Setting, Lengths, BadRow, OffLattice, BadReading, NoPlace, TooLarge, NoWaitingPlace, OutOfRange, BadVertex}
+
+-- the number of a refusal
+abbrev pub numberOf : Refusal → ℕ
+numberOf Setting = 1
+numberOf Lengths = 2
+numberOf BadRow = 3
+numberOf OffLattice = 4
+numberOf BadReading = 5
+numberOf NoPlace = 6
+numberOf TooLarge = 7
+numberOf NoWaitingPlace = 8
+numberOf OutOfRange = 9
+numberOf BadVertex = 10
