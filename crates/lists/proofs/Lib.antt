@@ -1,0 +1,9 @@
+pub mod Bools
+pub mod Table
+pub mod Writing
+pub mod Shifting
+pub mod Lowering
+pub mod PaddingLaws
+pub mod ListLaws
+pub mod Inserting
+pub mod Determined
