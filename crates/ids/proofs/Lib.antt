@@ -1,0 +1,4 @@
+pub mod MortonLaws
+pub mod MaskLaws
+pub mod KeyLaws
+pub mod Determined
