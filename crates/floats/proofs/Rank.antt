@@ -13,6 +13,7 @@ use lib.Ieee.Bits.{ofBits-toBits}
 use lib.Ieee.Fits.{down-pos}
 use lib.Ieee.Positive.{first-pos}
 use borrow.Author.Tests.{ltb-true, ltb-false, lt-ltb, le-ltb, leb-true, le-leb, lt-leb, eqb-true, eqb-false, eq-eqb, ne-eqb}
+use Rattle.floats.proofs.Bools.{same}
 use Rattle.floats.proofs.Values.{units-of, fitting, below-top}
 
 -- ---- the definition
@@ -41,11 +42,6 @@ pub rank : Float → ℕ
 rank x = placed (negative x) (units x)
 
 -- ---- two tests are equal
-same : (s t : Bool) → (s ≡ true → t ≡ true) → (t ≡ true → s ≡ true) → s ≡ t
-same true t f g = sym (f refl)
-same false true f g = g refl
-same false false f g = refl
-
 same-lt : (a b x y : ℕ) → (a < b → x < y) → (x < y → a < b) → ltb a b ≡ ltb x y
 same-lt a b x y f g = same (ltb a b) (ltb x y) (λ (h : ltb a b ≡ true). lt-ltb x y (f (ltb-true a b h))) (λ (h : ltb x y ≡ true). lt-ltb a b (g (ltb-true x y h)))
 
