@@ -11,7 +11,7 @@ use lib.Pow.{pow-pos, pow-mono, pow-add}
 use lib.Ieee.{Float, nan, inf, fin, binary32, up, down, neg, lt, le, eq, below, level, isNan, fits, ofBits}
 use borrow.Author.Tests.{ltb-true, ltb-false, lt-ltb, le-ltb, eq-eqb, ne-eqb, not-true}
 use Rattle.floats.specs.Floats.{zero32, largest, sizeOf, isFinite, between, within, beyond, positiveTo}
-use Rattle.floats.proofs.Bools.{and-first, and-second}
+use Rattle.lists.proofs.Bools.{and-first, and-second}
 use Rattle.floats.proofs.Values.{le-or-lt, fitting}
 
 -- ---- signed sizes: ±a at most ±b is ±b not below ±a

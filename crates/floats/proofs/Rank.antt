@@ -13,7 +13,7 @@ use lib.Ieee.Bits.{ofBits-toBits}
 use lib.Ieee.Fits.{down-pos}
 use lib.Ieee.Positive.{first-pos}
 use borrow.Author.Tests.{ltb-true, ltb-false, lt-ltb, le-ltb, leb-true, le-leb, lt-leb, eqb-true, eqb-false, eq-eqb, ne-eqb}
-use Rattle.floats.proofs.Bools.{same}
+use Rattle.lists.proofs.Bools.{both-ways}
 use Rattle.floats.proofs.Values.{units-of, fitting, below-top}
 
 -- ---- the definition
@@ -43,10 +43,10 @@ rank x = placed (negative x) (units x)
 
 -- ---- two tests are equal
 same-lt : (a b x y : ℕ) → (a < b → x < y) → (x < y → a < b) → ltb a b ≡ ltb x y
-same-lt a b x y f g = same (ltb a b) (ltb x y) (λ (h : ltb a b ≡ true). lt-ltb x y (f (ltb-true a b h))) (λ (h : ltb x y ≡ true). lt-ltb a b (g (ltb-true x y h)))
+same-lt a b x y f g = both-ways (ltb a b) (ltb x y) (λ (h : ltb a b ≡ true). lt-ltb x y (f (ltb-true a b h))) (λ (h : ltb x y ≡ true). lt-ltb a b (g (ltb-true x y h)))
 
 same-eq : (a b x y : ℕ) → (a ≡ b → x ≡ y) → (x ≡ y → a ≡ b) → eqb a b ≡ eqb x y
-same-eq a b x y f g = same (eqb a b) (eqb x y) (λ (h : eqb a b ≡ true). eq-eqb x y (f (eqb-true a b h))) (λ (h : eqb x y ≡ true). eq-eqb a b (g (eqb-true x y h)))
+same-eq a b x y f g = both-ways (eqb a b) (eqb x y) (λ (h : eqb a b ≡ true). eq-eqb x y (f (eqb-true a b h))) (λ (h : eqb x y ≡ true). eq-eqb a b (g (eqb-true x y h)))
 
 -- ---- a finite value's units
 exact : (s : Bool) (m : ℕ) (e : ℤ) → T (fits binary32 (fin s m e)) → m * up e * 2 ^ 149 ≡ units (fin s m e) * down e

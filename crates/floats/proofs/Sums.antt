@@ -11,7 +11,7 @@ use lib.Ieee.{Float, nan, inf, fin, Format, binary32, up, down, low, emax, prec,
 use lib.Ieee.Exact.{HasValue, round-exact}
 use lib.Ieee.Fits.{up-pos, down-pos}
 use Rattle.floats.specs.Floats.{zero32}
-use Rattle.floats.proofs.Bools.{cases}
+use Rattle.lists.proofs.Bools.{cases}
 
 -- at least 0, of either sign
 atLeast0 : Float → Bool
