@@ -1,7 +1,36 @@
 // Lists of places that a caller lends: cleared, a value put in, the first one dropped. One function for each
 // element type in use; their proofs share one law over the type.
+use refusals::Refusal;
 ghost use mathlib.Core.Path.{_≡_};
 ghost use Rattle.lists.specs.Places.{zeroF, filled, clearedFrom, inserted, firstDropped};
+ghost use Rattle.lists.specs.Listing.{roomFor, countOf};
+
+// What is answered to a list: how many it holds, or why it is refused.
+pub enum Listed {
+    Count(usize),
+    Refused(Refusal),
+}
+
+// `n` entries in a list of `room` places.
+pub fn room_for(n: usize, room: usize) -> Listed
+    ensures { λ r. ⌜ r ≡ roomFor n room ⌝ }
+{
+    if n <= room {
+        Listed::Count(n)
+    } else {
+        Listed::Refused(Refusal::NoPlace)
+    }
+}
+
+// How many an answer says; none where it refuses.
+pub fn count_of(listed: Listed) -> usize
+    ensures { λ r. ⌜ r ≡ countOf listed ⌝ }
+{
+    match listed {
+        Listed::Count(n) => n,
+        Listed::Refused(_) => 0,
+    }
+}
 
 // The places from `n` on become 0.
 pub fn clear_from_u64(list: &mut [u64], n: usize)

@@ -1,0 +1,4 @@
+pub mod NeighborLaws
+pub mod Adjacency
+pub mod Samples
+pub mod Determined
