@@ -1,0 +1,171 @@
+// The table: three lent lists whose first `count` places are rows, ascending by key (src/layers/tsdf.rs, the map).
+use floats::Metres;
+use floats::between;
+use floats::positive_to;
+use floats::within;
+use refusals::Refusal;
+ghost use mathlib.Core.Path.{_≡_};
+ghost use Prim.Native.Nat.{_≤_};
+ghost use lib.ListN.{length, take};
+ghost use Rattle.table.specs.Keys.{ascending, halved, findBy};
+ghost use Rattle.table.specs.Table.{defaults, table, rowsOf, farthestOk, settingsOk, lengthsOk, rowOk, rowsOk, tableCheck};
+
+// The most places that a table has.
+const LONGEST: usize = 65536;
+
+// The four settings.
+pub struct Settings {
+    pub truncation: Metres,
+    pub max_weight: f32,
+    pub voxel_size: Metres,
+    pub max_distance: Metres,
+}
+
+impl Settings {
+    // The default maximum weight, 100, and voxel size, 0.02, with a truncation and a maximum distance.
+    pub fn new(truncation: Metres, max_distance: Metres) -> Settings
+        ensures { λ r. ⌜ r ≡ defaults truncation «max_distance» ⌝ }
+    {
+        Settings {
+            truncation,
+            max_weight: 100.0,
+            voxel_size: Metres(0.02),
+            max_distance,
+        }
+    }
+}
+
+// What the tests of a table find.
+pub enum Checked {
+    Passed,
+    Refused(Refusal),
+}
+
+// Where a key stands.
+pub enum Found {
+    At(usize),
+    Absent,
+}
+
+// From 0 to 1,000,000, and not -0.
+fn farthest_ok(x: f32) -> bool
+    ensures { λ r. ⌜ r ≡ farthestOk x ⌝ }
+{
+    if between(0.0, 1000000.0, x) {
+        f32::to_bits(x) != 0x8000_0000
+    } else {
+        false
+    }
+}
+
+// Each setting is in its range.
+pub fn settings_ok(settings: Settings) -> bool
+    ensures { λ r. ⌜ r ≡ settingsOk settings ⌝ }
+{
+    positive_to(1000.0, settings.truncation.0)
+        & (positive_to(1000000.0, settings.max_weight)
+            & (positive_to(1000.0, settings.voxel_size.0) & farthest_ok(settings.max_distance.0)))
+}
+
+// Equal lengths within the limit, and no more rows than places.
+pub fn lengths_ok(keys: usize, distances: usize, weights: usize, count: usize) -> bool
+    ensures { λ r. ⌜ r ≡ lengthsOk keys distances weights count ⌝ }
+{
+    (keys == distances) & ((keys == weights) & ((keys <= LONGEST) & (count <= keys)))
+}
+
+// A row is in its ranges.
+fn row_ok(most: f32, key: u64, distance: f32, weight: f32) -> bool
+    ensures { λ r. ⌜ r ≡ rowOk most key distance weight ⌝ }
+{
+    ids::is_on_lattice(key) & (within(1000000.0, distance) & between(0.0, most, weight))
+}
+
+// Every row is in its ranges.
+fn rows_ok(most: f32, keys: &[u64], distances: &[f32], weights: &[f32], count: usize) -> bool
+    requires { ⌜ (count ≤ length (now keys)) × (length (now distances) ≡ length (now keys)) × (length (now weights) ≡ length (now keys)) ⌝ }
+    ensures { λ r. ⌜ r ≡ rowsOk most (rowsOf (now (keys .entry)) (now (distances .entry)) (now (weights .entry)) count) ⌝ }
+{
+    let mut i = 0;
+    while i < count {
+        if !row_ok(most, keys[i], distances[i], weights[i]) {
+            return false;
+        }
+        i += 1;
+    }
+    true
+}
+
+// Each key is above the one before it.
+fn keys_ascend(keys: &[u64], count: usize) -> bool
+    requires { ⌜ count ≤ length (now keys) ⌝ }
+    ensures { λ r. ⌜ r ≡ ascending (take count (now (keys .entry))) ⌝ }
+{
+    let mut i = 0;
+    while i + 1 < count {
+        let next = i + 1;
+        if keys[next] <= keys[i] {
+            return false;
+        }
+        i = next;
+    }
+    true
+}
+
+// Refusals 1, 2 and 3.
+pub fn check_table(
+    settings: Settings,
+    keys: &[u64],
+    distances: &[f32],
+    weights: &[f32],
+    count: usize,
+) -> Checked
+    ensures { λ r. ⌜ r ≡ tableCheck settings (table (now (keys .entry)) (now (distances .entry)) (now (weights .entry)) count) ⌝ }
+{
+    if !settings_ok(settings) {
+        return Checked::Refused(Refusal::Setting);
+    }
+    if !lengths_ok(keys.len(), distances.len(), weights.len(), count) {
+        return Checked::Refused(Refusal::Lengths);
+    }
+    if !(rows_ok(settings.max_weight, keys, distances, weights, count) & keys_ascend(keys, count)) {
+        return Checked::Refused(Refusal::BadRow);
+    }
+    Checked::Passed
+}
+
+// The place that `key` has or would take, by halving the first `count` keys.
+pub fn place_of(keys: &[u64], count: usize, key: u64) -> usize
+    ensures { λ r. ⌜ r ≡ halved key (take count (now (keys .entry))) ⌝ }
+{
+    let mut low = 0;
+    let mut high = if count <= keys.len() {
+        count
+    } else {
+        keys.len()
+    };
+    while low < high {
+        let middle = low + (high - low) / 2;
+        if keys[middle] < key {
+            low = middle + 1;
+        } else {
+            high = middle;
+        }
+    }
+    low
+}
+
+// Where `key` stands among the first `count` keys, by halves.
+pub fn find_row(keys: &[u64], count: usize, key: u64) -> Found
+    ensures { λ r. ⌜ r ≡ findBy key (take count (now (keys .entry))) ⌝ }
+{
+    let place = place_of(keys, count, key);
+    if place < count {
+        if place < keys.len() {
+            if keys[place] == key {
+                return Found::At(place);
+            }
+        }
+    }
+    Found::Absent
+}
