@@ -1,0 +1,3 @@
+pub mod Snapping
+pub mod Metres
+pub mod Steps
