@@ -1,167 +1,163 @@
--- What snapping is known by. A candidate moves each coordinate by one or not at all, by its parity alone: every even
--- candidate is as far away as there are odd coordinates, every odd one as there are even ones. So the first of the class
--- that moves fewer is the nearest, of the candidates and of all lattice points. Assumes nothing.
-use Prim.Native.Nat.{ℕ, zero, suc, _+_, _*_, _≤_, _<_}
-use native.Mathlib.Nat.{le-refl}
+-- What snapping is known by: the answer is on the lattice, no coordinate moves by more than one, no candidate and no lattice
+-- point is nearer, a lattice point stays, and 9 is given exactly as document 01 says. Each follows from the nearest
+-- candidate's place, which is the point itself on the lattice. Assumes nothing.
+use Prim.Native.Nat.{ℕ, zero, suc, _+_, _*_, _%_, _≤_, _<_}
 use native.Mathlib.Omega.{arith}
 use mathlib.Core.Path.{_≡_, refl, sym, ap, _∙_, subst}
-use mathlib.Core.Bool.{Bool, true, false, cond, not, _&&_, _||_, Bool·beq}
-use mathlib.Core.List.{List, [], _∷_}
-use lib.Dec.{leb, ltb, eqb}
-use lib.IntN.{ℤ, pos, negsuc, sucℤ, predℤ, negℤ, natAbs, _+ℤ_, _-ℤ_, +ℤ-invr, +ℤ-sucℤ, +ℤ-predℤ, negℤ-sucℤ, negℤ-predℤ, -ℤ-+ℤ-cancel, +ℤ-idl}
-use borrow.Author.Tests.{le-ltb}
-use Rattle.bcc_utils.specs.Snapping.{Point, even, onLattice, evenDown, evenUp, oddUp, oddDown, firstEven, otherEvens, firstOdd, otherOdds, squareOf, squaredDistance, nearest, nearer, nearestCandidate}
+use mathlib.Core.Logic.{_↔_}
+use mathlib.Core.Bool.{Bool, true, false, cond, not, _&&_, _||_, Bool·beq, false≢true}
+use mathlib.Core.List.{List, [], _∷_, List·Memᴰ}
+use lib.Dec.{eqb}
+use lib.IntN.{ℤ, pos, negsuc, sucℤ, predℤ, natAbs, _-ℤ_}
+use borrow.Author.Tests.{eqb-true, eqb-false, eq-eqb, ne-eqb}
+use Rattle.refusals.specs.declared.Refusal.{Refusal}
+use Rattle.refusals.specs.declared.Refusal.the-variants.{OutOfRange}
+use Rattle.bcc_utils.specs.declared.WideCells.{WideCells}
+use Rattle.bcc_utils.specs.declared.Snapped.{Snapped}
+use Rattle.bcc_utils.specs.declared.Snapped.the-variants.{At, Refused}
+use Rattle.bcc_utils.specs.Snapping.{Point, even, onLattice, evenDown, oddUp, firstEven, firstOdd, candidates, squaredDistance, nearestCandidate, placed, hasEnd, snapped, snappedPlace}
 use Rattle.bcc_utils.specs.Steps.{mostOf, mostlyEven}
+use Rattle.bcc_utils.proofs.Candidates.{candidate-even, candidate-odd, even-down-moves, odd-up-moves, least-candidate, least-point}
 
--- ---- how far a step moves
+-- ---- parity
 
-none-far : (z : ℤ) → squareOf (z -ℤ z) ≡ 0
-unfolding squareOf
-none-far z = ap (λ (d : ℤ). natAbs d * natAbs d) (+ℤ-invr z)
+not-not : (b : Bool) → b ≡ not (not b)
+not-not true = refl
+not-not false = refl
 
-down-far : (z : ℤ) → squareOf (z -ℤ predℤ z) ≡ 1
-unfolding squareOf
-down-far z =
-    ap (λ (d : ℤ). natAbs d * natAbs d) (ap (λ (w : ℤ). z +ℤ w) (negℤ-predℤ z) ∙ +ℤ-sucℤ z (negℤ z) ∙ ap sucℤ (+ℤ-invr z))
+-- the next number has the other parity
+other : (n : ℕ) → eqb (suc n % 2) 0 ≡ not (eqb (n % 2) 0)
+other n = go (eqb (n % 2) 0) refl
+  where
+    go : (b : Bool) → eqb (n % 2) 0 ≡ b → eqb (suc n % 2) 0 ≡ not b
+    go true e = ne-eqb (suc n % 2) 0 (λ q. omega (arith, eqb-true (n % 2) 0 e))
+    go false e = let h : n % 2 ≡ 0 → ⊥ = eqb-false (n % 2) 0 e in eq-eqb (suc n % 2) 0 (omega arith)
 
-up-far : (z : ℤ) → squareOf (z -ℤ sucℤ z) ≡ 1
-unfolding squareOf
-up-far z =
-    ap (λ (d : ℤ). natAbs d * natAbs d) (ap (λ (w : ℤ). z +ℤ w) (negℤ-sucℤ z) ∙ +ℤ-predℤ z (negℤ z) ∙ ap predℤ (+ℤ-invr z))
+before : (n : ℕ) → eqb (n % 2) 0 ≡ not (eqb (suc n % 2) 0)
+before n = not-not _ ∙ ap not (sym (other n))
 
--- 0 for the parity that is wanted, 1 for the other
-abbrev wrong : Bool → Bool → ℕ
-wrong true b = cond b 0 1
-wrong false b = cond b 1 0
+even-suc : (z : ℤ) → even (sucℤ z) ≡ not (even z)
+unfolding even
+even-suc (pos n) = other n
+even-suc (negsuc zero) = refl
+even-suc (negsuc (suc n)) = before (suc n)
 
--- how far a coordinate z is from the candidates of a parity
-abbrev Off : Bool → ℤ → ℤ → Type 0
-Off parity z a = squareOf (z -ℤ a) ≡ wrong parity (even z)
+even-pred : (z : ℤ) → even (predℤ z) ≡ not (even z)
+unfolding even
+even-pred (pos zero) = refl
+even-pred (pos (suc n)) = before n
+even-pred (negsuc n) = other (suc n)
 
-picked : (z a b : ℤ) (m n : ℕ) → squareOf (z -ℤ a) ≡ m → squareOf (z -ℤ b) ≡ n → (t : Bool) → squareOf (z -ℤ cond t a b) ≡ cond t m n
-picked z a b m n p q true = p
-picked z a b m n p q false = q
-
-even-down-off : (z : ℤ) → Off true z (evenDown z)
+-- a number or its neighbour, by its parity
+pub even-down-even : (z : ℤ) → even (evenDown z) ≡ true
 unfolding evenDown
-even-down-off z = picked z z (predℤ z) 0 1 (none-far z) (down-far z) (even z)
+even-down-even z = go (even z) refl
+  where
+    go : (b : Bool) → even z ≡ b → even (cond b z (predℤ z)) ≡ true
+    go true e = e
+    go false e = even-pred z ∙ ap not e
 
-even-up-off : (z : ℤ) → Off true z (evenUp z)
-unfolding evenUp
-even-up-off z = picked z z (sucℤ z) 0 1 (none-far z) (up-far z) (even z)
-
-odd-up-off : (z : ℤ) → Off false z (oddUp z)
+pub odd-up-odd : (z : ℤ) → even (oddUp z) ≡ false
 unfolding oddUp
-odd-up-off z = picked z (sucℤ z) z 1 0 (up-far z) (none-far z) (even z)
+odd-up-odd z = go (even z) refl
+  where
+    go : (b : Bool) → even z ≡ b → even (cond b (sucℤ z) z) ≡ false
+    go true e = even-suc z ∙ ap not e
+    go false e = e
 
-odd-down-off : (z : ℤ) → Off false z (oddDown z)
-unfolding oddDown
-odd-down-off z = picked z (predℤ z) z 1 0 (down-far z) (none-far z) (even z)
+even-stays : (z : ℤ) → even z ≡ true → evenDown z ≡ z
+unfolding evenDown
+even-stays z e = ap (λ (b : Bool). cond b z (predℤ z)) e
 
--- ---- how far the candidates are
+odd-stays : (z : ℤ) → even z ≡ false → oddUp z ≡ z
+unfolding oddUp
+odd-stays z e = ap (λ (b : Bool). cond b (sucℤ z) z) e
+
+at-not-refused : {a b c : WideCells} {r : Refusal} → At a b c ≡ Refused r → ⊥
+at-not-refused e = let z : _≡_ {A = ℕ} 0 1 = cc in omega arith
 
 module _ (x y z : ℤ) where
-  -- the coordinates that are not of the parity
-  abbrev wrongs : Bool → ℕ
-  wrongs parity = wrong parity (even x) + wrong parity (even y) + wrong parity (even z)
-
-  abbrev Far : Bool → Point → Type 0
-  Far parity q = squaredDistance (x, y, z) q ≡ wrongs parity
-
-  far : (parity : Bool) (a b c : ℤ) → Off parity x a → Off parity y b → Off parity z c → Far parity (a, b, c)
-  unfolding squaredDistance
-  far parity a b c p q r = rw (p, q, r)
-
-  -- the first of several that are equally far stays the best
-  abbrev AllFar : ℕ → List Point → Type 0
-  AllFar d [] = Unit {0}
-  AllFar d (q ∷ qs) = (squaredDistance (x, y, z) q ≡ d) × AllFar d qs
-
-  first-stays : (d : ℕ) (best : Point) (qs : List Point) → squaredDistance (x, y, z) best ≡ d → AllFar d qs → nearest (x, y, z) best qs ≡ best
-  unfolding nearest
-  first-stays d best [] e h = refl
-  first-stays d best (q ∷ qs) e h =
-      ap (λ (t : Bool). nearest (x, y, z) (cond t q best) qs) (ap (λ (n : ℕ). ltb n (squaredDistance (x, y, z) best)) (h .0) ∙ ap (ltb d) e ∙ le-ltb d d (le-refl d))
-      ∙ first-stays d best qs e (h .1)
-
-  first-even-far : Far true (firstEven x y z)
-  first-even-far = far true _ _ _ (even-down-off x) (even-down-off y) (even-down-off z)
-
-  other-evens-far : AllFar (wrongs true) (otherEvens x y z)
-  other-evens-far =
-      let dx = even-down-off x in let dy = even-down-off y in let dz = even-down-off z in
-      let ux = even-up-off x in let uy = even-up-off y in let uz = even-up-off z in (
-        far true _ _ _ ux dy dz,
-        (
-          far true _ _ _ dx uy dz,
-          (
-            far true _ _ _ ux uy dz,
-            (
-              far true _ _ _ dx dy uz,
-              (
-                far true _ _ _ ux dy uz,
-                (
-                  far true _ _ _ dx uy uz,
-                  (far true _ _ _ ux uy uz, tt),
-                ),
-              ),
-            ),
-          ),
-        ),
-      )
-
-  first-odd-far : Far false (firstOdd x y z)
-  first-odd-far = far false _ _ _ (odd-up-off x) (odd-up-off y) (odd-up-off z)
-
-  other-odds-far : AllFar (wrongs false) (otherOdds x y z)
-  other-odds-far =
-      let ux = odd-up-off x in let uy = odd-up-off y in let uz = odd-up-off z in
-      let dx = odd-down-off x in let dy = odd-down-off y in let dz = odd-down-off z in (
-        far false _ _ _ dx uy uz,
-        (
-          far false _ _ _ ux dy uz,
-          (
-            far false _ _ _ dx dy uz,
-            (
-              far false _ _ _ ux uy dz,
-              (
-                far false _ _ _ dx uy dz,
-                (
-                  far false _ _ _ ux dy dz,
-                  (far false _ _ _ dx dy dz, tt),
-                ),
-              ),
-            ),
-          ),
-        ),
-      )
-
   -- ---- the nearest candidate
 
-  -- fewer coordinates are odd than even exactly when most are even
-  by-parity : (a b c : Bool) → leb (wrong true a + wrong true b + wrong true c) (wrong false a + wrong false b + wrong false c) ≡ mostOf a b c
-  by-parity true true true = refl
-  by-parity true true false = refl
-  by-parity true false true = refl
-  by-parity true false false = refl
-  by-parity false true true = refl
-  by-parity false true false = refl
-  by-parity false false true = refl
-  by-parity false false false = refl
+  -- a fact of the nearest candidate holds of the first of each class
+  by-class : (P : Point → Type 0) → P (firstEven x y z) → P (firstOdd x y z) → P (nearestCandidate x y z)
+  by-class P p q = go (mostlyEven x y z) refl
+    where
+      go : (b : Bool) → mostlyEven x y z ≡ b → P (nearestCandidate x y z)
+      go true e = subst P (sym (candidate-even x y z e)) p
+      go false e = subst P (sym (candidate-odd x y z e)) q
 
-  pub nearest-candidate-is : nearestCandidate x y z ≡ cond (mostlyEven x y z) (firstEven x y z) (firstOdd x y z)
-  unfolding nearestCandidate nearer
-  nearest-candidate-is =
-      rw (
-        first-stays (wrongs true) (firstEven x y z) (otherEvens x y z) first-even-far other-evens-far,
-        first-stays (wrongs false) (firstOdd x y z) (otherOdds x y z) first-odd-far other-odds-far,
-        first-even-far,
-        first-odd-far,
-        by-parity (even x) (even y) (even z),
-      )
+  nearest-on-lattice : onLattice (nearestCandidate x y z .0) (nearestCandidate x y z .1) (nearestCandidate x y z .2) ≡ true
+  unfolding onLattice
+  nearest-on-lattice =
+      by-class (λ q. onLattice (q .0) (q .1) (q .2) ≡ true)
+      (rw (even-down-even x, even-down-even y, even-down-even z))
+      (rw (odd-up-odd x, odd-up-odd y, odd-up-odd z))
 
-  pub candidate-even : mostlyEven x y z ≡ true → nearestCandidate x y z ≡ firstEven x y z
-  candidate-even e = rw (nearest-candidate-is, e)
+  nearest-moves : (natAbs (x -ℤ nearestCandidate x y z .0) ≤ 1) × (natAbs (y -ℤ nearestCandidate x y z .1) ≤ 1) × (natAbs (z -ℤ nearestCandidate x y z .2) ≤ 1)
+  nearest-moves =
+      by-class (λ q. (natAbs (x -ℤ q .0) ≤ 1) × (natAbs (y -ℤ q .1) ≤ 1) × (natAbs (z -ℤ q .2) ≤ 1))
+      (even-down-moves x, even-down-moves y, even-down-moves z)
+      (odd-up-moves x, odd-up-moves y, odd-up-moves z)
 
-  pub candidate-odd : mostlyEven x y z ≡ false → nearestCandidate x y z ≡ firstOdd x y z
-  candidate-odd e = rw (nearest-candidate-is, e)
+  -- on the lattice it is the point itself
+  nearest-stays : onLattice x y z ≡ true → nearestCandidate x y z ≡ (x, y, z)
+  unfolding onLattice
+  nearest-stays h = go (even x) (even y) (even z) refl refl refl h
+    where
+      go : (a b c : Bool) → even x ≡ a → even y ≡ b → even z ≡ c → Bool·beq a b && Bool·beq b c ≡ true → nearestCandidate x y z ≡ (x, y, z)
+      go true true true p q r e = candidate-even x y z (simp (p, q, r)) ∙ rw (even-stays x p, even-stays y q, even-stays z r)
+      go true true false p q r e = absurd (false≢true e)
+      go true false c p q r e = absurd (false≢true e)
+      go false true c p q r e = absurd (false≢true e)
+      go false false true p q r e = absurd (false≢true e)
+      go false false false p q r e = candidate-odd x y z (simp (p, q, r)) ∙ rw (odd-stays x p, odd-stays y q, odd-stays z r)
+
+  -- ---- the answer
+
+  -- A lattice point stays, at the ends of i32 too.
+  pub snap-stays : onLattice x y z ≡ true → snapped x y z ≡ placed (x, y, z)
+  unfolding snapped
+  snap-stays h = rw h
+
+  -- Refused with 9 exactly when the parities are mixed and a coordinate is an end of i32.
+  pub snap-refused : (r : Refusal) → (snapped x y z ≡ Refused r) ↔ ((onLattice x y z ≡ false) × (hasEnd x y z ≡ true) × (r ≡ OutOfRange))
+  unfolding snapped
+  snap-refused r = (λ e. go (onLattice x y z) (hasEnd x y z) refl refl e, λ h. rw (h .0, h .1, h .2))
+    where
+      go : (a b : Bool) → onLattice x y z ≡ a → hasEnd x y z ≡ b →
+          cond a (placed (x, y, z)) (cond b (Refused OutOfRange) (placed (nearestCandidate x y z))) ≡ Refused r → (a ≡ false) × (b ≡ true) × (r ≡ OutOfRange)
+      go true b p q e = absurd (at-not-refused e)
+      go false true p q e = (refl, refl, cc)
+      go false false p q e = absurd (at-not-refused e)
+
+  -- What is answered is the nearest candidate.
+  pub snap-is-nearest : (a b c : WideCells) → snapped x y z ≡ At a b c → nearestCandidate x y z ≡ (a .0, b .0, c .0)
+  unfolding snapped snappedPlace
+  snap-is-nearest a b c e = go (onLattice x y z) (hasEnd x y z) refl e
+    where
+      go : (s t : Bool) → onLattice x y z ≡ s →
+          cond s (placed (x, y, z)) (cond t (Refused OutOfRange) (placed (nearestCandidate x y z))) ≡ At a b c → nearestCandidate x y z ≡ (a .0, b .0, c .0)
+      go true t h e = nearest-stays h ∙ ap snappedPlace e
+      go false true h e = absurd (at-not-refused (sym e))
+      go false false h e = ap snappedPlace e
+
+  module _ (a b c : WideCells) (e : snapped x y z ≡ At a b c) where
+    -- The answer is on the lattice.
+    pub snap-on-lattice : onLattice (a .0) (b .0) (c .0) ≡ true
+    snap-on-lattice = subst (λ (q : Point). onLattice (q .0) (q .1) (q .2) ≡ true) (snap-is-nearest a b c e) nearest-on-lattice
+
+    -- No coordinate moves by more than one.
+    pub snap-moves : (natAbs (x -ℤ a .0) ≤ 1) × (natAbs (y -ℤ b .0) ≤ 1) × (natAbs (z -ℤ c .0) ≤ 1)
+    snap-moves =
+        subst (λ (q : Point). (natAbs (x -ℤ q .0) ≤ 1) × (natAbs (y -ℤ q .1) ≤ 1) × (natAbs (z -ℤ q .2) ≤ 1)) (snap-is-nearest a b c e) nearest-moves
+
+    -- None of the sixteen candidates is nearer.
+    pub snap-least : (q : Point) → List·Memᴰ q (candidates x y z) → squaredDistance (x, y, z) (a .0, b .0, c .0) ≤ squaredDistance (x, y, z) q
+    snap-least q m =
+        subst (λ (p : Point). squaredDistance (x, y, z) p ≤ squaredDistance (x, y, z) q) (snap-is-nearest a b c e) (least-candidate x y z q m)
+
+    -- No point of the lattice at all is nearer.
+    pub snap-nearest : (u v w : ℤ) → onLattice u v w ≡ true → squaredDistance (x, y, z) (a .0, b .0, c .0) ≤ squaredDistance (x, y, z) (u, v, w)
+    snap-nearest u v w h =
+        subst (λ (p : Point). squaredDistance (x, y, z) p ≤ squaredDistance (x, y, z) (u, v, w)) (snap-is-nearest a b c e) (least-point x y z u v w h)

@@ -36,5 +36,5 @@ voxelOf x y z size =
     cond (positiveTo thousand size) (cond (isPlace x y z) (placeSnapped x y z size) (Refused BadReading)) (Refused Setting)
 
 -- a whole number of cells, times the voxel size, rounded once
-unfoldable pub metresOf : ℕ → Float → Metres
+abbrev pub metresOf : ℕ → Float → Metres
 metresOf cells size = record { 0 = mul binary32 (ofInt binary32 (pos cells)) size }

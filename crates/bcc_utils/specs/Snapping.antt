@@ -1,7 +1,7 @@
 -- Document 01, "Snapping": three whole numbers of cells to the nearest point of the lattice, over the candidates in their order.
 use Prim.Native.Nat.{ℕ, suc, _+_, _-_, _*_, _%_, _^_}
 use mathlib.Core.Bool.{Bool, true, false, cond, _&&_, _||_, Bool·beq}
-use mathlib.Core.List.{List, [], _∷_}
+use mathlib.Core.List.{List, [], _∷_, _++_}
 use lib.Dec.{leb, ltb, eqb}
 use lib.IntN.{ℤ, pos, negsuc, sucℤ, predℤ, _-ℤ_, natAbs}
 use Rattle.refusals.specs.Refusals.{numberOf}
@@ -68,6 +68,10 @@ otherOdds x y z =
     ∷ (oddUp x, oddDown y, oddDown z)
     ∷ (oddDown x, oddDown y, oddDown z)
     ∷ []
+
+-- all sixteen
+abbrev pub candidates : ℤ → ℤ → ℤ → List Point
+candidates x y z = (firstEven x y z ∷ otherEvens x y z) ++ (firstOdd x y z ∷ otherOdds x y z)
 
 -- ---- the nearest of them
 

@@ -1,23 +1,17 @@
+-- `bcc_utils::has_end` meets its contract: each coordinate is tested for an end. Assumes nothing.
 use borrow.Author.Needs.{needs}
 use Rattle.bcc_utils.proofs.has_end.Statement.{statement}
 use Rattle.bcc_utils.proofs.has_end.Tie as tie
-use Rattle.bcc_utils.proofs.has_end.Reads as reads
-use Rattle.bcc_utils.proofs.has_end.Lts as lts
-use Rattle.bcc_utils.proofs.is_end.Reads as is-end-reads
 
--- src/lib.rt:71:5
 is-end-requires : tie.Need-is-end-requires
 is-end-requires c κs = search needs
 
--- src/lib.rt:71:17
 is-end-requires-2 : tie.Need-is-end-requires-2
 is-end-requires-2 c κs = search needs
 
--- src/lib.rt:71:29
 is-end-requires-3 : tie.Need-is-end-requires-3
 is-end-requires-3 c κs = search needs
 
--- src/lib.rt:68:1
 returns : tie.Need-returns
 returns c = rw (c .before .before .is-end .ensures, c .before .is-end2 .ensures, c .is-end3 .ensures)
 

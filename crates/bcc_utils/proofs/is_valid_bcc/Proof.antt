@@ -1,24 +1,18 @@
+-- `bcc_utils::is_valid_bcc` meets its contract: the three parities are compared as the definition compares them. Assumes nothing.
 use Rattle.bcc_utils.specs.Snapping.{onLattice}
 use borrow.Author.Needs.{needs}
 use Rattle.bcc_utils.proofs.is_valid_bcc.Statement.{statement}
 use Rattle.bcc_utils.proofs.is_valid_bcc.Tie as tie
-use Rattle.bcc_utils.proofs.is_valid_bcc.Reads as reads
-use Rattle.bcc_utils.proofs.is_valid_bcc.Lts as lts
-use Rattle.bcc_utils.proofs.is_even.Reads as is-even-reads
 
--- src/lib.rt:30:9
 is-even-requires : tie.Need-is-even-requires
 is-even-requires c κs = search needs
 
--- src/lib.rt:31:9
 is-even-requires-2 : tie.Need-is-even-requires-2
 is-even-requires-2 c κs = search needs
 
--- src/lib.rt:32:9
 is-even-requires-3 : tie.Need-is-even-requires-3
 is-even-requires-3 c κs = search needs
 
--- src/lib.rt:27:1
 returns : tie.Need-returns
 unfolding onLattice
 returns c = rw (c .before .before .is-even .ensures, c .before .is-even2 .ensures, c .is-even3 .ensures)

@@ -1,36 +1,33 @@
+-- `bcc_utils::physical_to_bcc_voxel` meets its contract: each branch is one of the definition's. Assumes nothing.
 use Rattle.bcc_utils.specs.Metres.{voxelOf}
 use borrow.Author.Needs.{needs}
 use Rattle.bcc_utils.proofs.physical_to_bcc_voxel.Statement.{statement}
 use Rattle.bcc_utils.proofs.physical_to_bcc_voxel.Tie as tie
-use Rattle.bcc_utils.proofs.physical_to_bcc_voxel.Reads as reads
-use Rattle.bcc_utils.proofs.physical_to_bcc_voxel.Lts as lts
-use Rattle.bcc_utils.proofs.is_place.Reads as is-place-reads
-use Rattle.bcc_utils.proofs.snap_place.Reads as snap-place-reads
-use Rattle.floats.proofs.positive_to.Reads as positive-to-reads
 
--- src/lib.rt:133:9
 positive-to-requires : tie.Need-positive-to-requires
 positive-to-requires c κs = search needs
 
--- src/lib.rt:135:16
 is-place-requires : tie.Need-is-place-requires
 is-place-requires c κs = search needs
 
--- src/lib.rt:138:9
 snap-place-requires : tie.Need-snap-place-requires
 snap-place-requires c κs = search needs
 
--- src/lib.rt:130:1
 returns : tie.Need-returns
 unfolding voxelOf
-returns c = rw (c .snap-place .ensures, ← c .before .before .before .before .positive-to .ensures, c .before .before .before .if1 .taken, ← c .before .before .is-place .ensures, c .before .if2 .taken)
+returns c =
+    rw (
+      c .snap-place .ensures,
+      ← c .before .before .before .before .positive-to .ensures,
+      c .before .before .before .if1 .taken,
+      ← c .before .before .is-place .ensures,
+      c .before .if2 .taken,
+    )
 
--- src/lib.rt:130:1
 returns-2 : tie.Need-returns-2
 unfolding voxelOf
 returns-2 c = rw (← c .before .before .before .positive-to .ensures, c .before .before .if1 .taken, ← c .before .is-place .ensures, c .if2 .left)
 
--- src/lib.rt:130:1
 returns-3 : tie.Need-returns-3
 unfolding voxelOf
 returns-3 c = rw (← c .before .positive-to .ensures, c .if1 .left)
