@@ -1,20 +1,17 @@
--- Samples, computed: a cell away from the border has 14 neighbours, the first by the first offset; the cell 0, 0, 0 has 4.
+-- Samples, computed: a cell away from the border has 14 neighbours, in the order of the offsets; the cell 0, 0, 0 has 4; the cell 65535, 65535, 65535 has 4.
 -- Assumes nothing.
 use mathlib.Core.Path.{_≡_, refl}
-use mathlib.Core.List.{[], _∷_}
-use lib.ListN.{length, getD}
+use mathlib.Core.List.{[], _∷_, map}
 use Rattle.ids.specs.Morton.{respaced, morton}
 use Rattle.ids.specs.Key.{keyOf}
 use Rattle.neighbors.specs.Neighbors.{offsets, inside, reachedFrom, shown, neighboursBy, neighbours}
 
-pub inner-count : length (neighbours (keyOf 0 10 10 10)) ≡ 14
+pub samples :
+    map neighbours (keyOf 7 10 10 10 ∷ keyOf 0 0 0 0 ∷ keyOf 65535 65535 65535 65535 ∷ [])
+    ≡ (keyOf 7 11 11 11 ∷ keyOf 7 11 11 9 ∷ keyOf 7 11 9 11 ∷ keyOf 7 11 9 9 ∷ keyOf 7 9 11 11 ∷ keyOf 7 9 11 9 ∷ keyOf 7 9 9 11 ∷ keyOf 7 9 9 9
+    ∷ keyOf 7 12 10 10 ∷ keyOf 7 8 10 10 ∷ keyOf 7 10 12 10 ∷ keyOf 7 10 8 10 ∷ keyOf 7 10 10 12 ∷ keyOf 7 10 10 8 ∷ [])
+    ∷ (keyOf 0 1 1 1 ∷ keyOf 0 2 0 0 ∷ keyOf 0 0 2 0 ∷ keyOf 0 0 0 2 ∷ [])
+    ∷ (keyOf 65535 65534 65534 65534 ∷ keyOf 65535 65533 65535 65535 ∷ keyOf 65535 65535 65533 65535 ∷ keyOf 65535 65535 65535 65533 ∷ [])
+    ∷ []
 unfolding respaced morton offsets inside reachedFrom shown neighboursBy
-inner-count = refl
-
-pub inner-first : getD (neighbours (keyOf 0 10 10 10)) 0 0 ≡ keyOf 0 11 11 11
-unfolding respaced morton offsets inside reachedFrom shown neighboursBy
-inner-first = refl
-
-pub corner : neighbours (keyOf 0 0 0 0) ≡ keyOf 0 1 1 1 ∷ keyOf 0 2 0 0 ∷ keyOf 0 0 2 0 ∷ keyOf 0 0 0 2 ∷ []
-unfolding respaced morton offsets inside reachedFrom shown neighboursBy
-corner = refl
+samples = refl
