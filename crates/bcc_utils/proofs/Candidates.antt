@@ -1,16 +1,18 @@
 -- The candidates of a snap. One moves each coordinate by one or not at all, by its parity alone: every even candidate is as
 -- far away as there are odd coordinates, and every odd one as there are even ones. So the first of the class that moves fewer
 -- is the nearest of them, and of all lattice points. Assumes nothing.
-use Prim.Native.Nat.{ℕ, zero, suc, _+_, _*_, _≤_, _<_}
+use Prim.Native.Nat.{ℕ, zero, suc, _+_, _*_, _≤_}
 use native.Mathlib.Nat.{le-refl, le-of-lt, le-trans, add-le-add, mul-pos, le-mul-of-pos-right}
 use native.Mathlib.Omega.{arith}
 use mathlib.Core.Path.{_≡_, refl, sym, ap, _∙_, subst}
-use mathlib.Core.Bool.{Bool, true, false, cond, not, _&&_, _||_, Bool·beq, false≢true}
-use mathlib.Core.List.{List, [], _∷_, List·Memᴰ, List·Memᴰ·not-nil, List·Memᴰ·cases-cons, List·Memᴰ·append-cases}
+use mathlib.Core.Bool.{Bool, true, false, cond, not, Bool·beq}
+use mathlib.Core.List.{List, [], _∷_, List·Memᴰ·not-nil, List·Memᴰ·cases-cons, List·Memᴰ·append-cases}
 use mathlib.Core.Logic.{⊎-elim}
-use lib.Dec.{leb, ltb, eqb, lit≤}
+use lib.Dec.{leb, ltb, lit≤}
 use lib.IntN.{ℤ, pos, negsuc, sucℤ, predℤ, negℤ, natAbs, _+ℤ_, _-ℤ_, +ℤ-invr, +ℤ-sucℤ, +ℤ-predℤ, negℤ-sucℤ, negℤ-predℤ, -ℤ-+ℤ-cancel, +ℤ-idl}
 use borrow.Author.Tests.{le-ltb, leb-true, leb-false}
+use Rattle.lists.specs.Lists.{_∈_, All}
+use Rattle.lists.proofs.Bools.{cases, and-first, and-second}
 use Rattle.bcc_utils.specs.Snapping.{Point, candidates, even, onLattice, evenDown, evenUp, oddUp, oddDown, firstEven, otherEvens, firstOdd, otherOdds, squareOf, squaredDistance, nearest, nearer, nearestCandidate}
 use Rattle.bcc_utils.specs.Steps.{mostOf, mostlyEven}
 
@@ -106,6 +108,25 @@ smaller-of : (m n : ℕ) (t : Bool) → leb m n ≡ t → (cond t m n ≤ m) × 
 smaller-of m n true e = (le-refl m, leb-true m n e)
 smaller-of m n false e = (le-of-lt (leb-false m n e), le-refl n)
 
+-- the coordinates of a lattice point have one parity
+beq-same : (a b : Bool) → Bool·beq a b ≡ true → a ≡ b
+beq-same true true e = refl
+beq-same true false e = sym e
+beq-same false true e = e
+beq-same false false e = refl
+
+pub same-parity : (a b c : ℤ) → onLattice a b c ≡ true → (even a ≡ even b) × (even a ≡ even c)
+unfolding onLattice
+same-parity a b c h =
+    let p : even a ≡ even b = beq-same _ _ (and-first _ _ h) in (p, p ∙ beq-same _ _ (and-second (Bool·beq (even a) (even b)) _ h))
+
+-- what holds of all holds of each
+member : (P : Point → Type 0) (qs : List Point) (q : Point) → All P qs → q ∈ qs → P q
+unfolding All
+member P [] q h m = absurd (List·Memᴰ·not-nil m)
+member P (p ∷ qs) q h m =
+    ⊎-elim (λ e. subst P (sym e) (h .0)) (λ n. member P qs q (h .1) n) (List·Memᴰ·cases-cons m)
+
 -- ---- how far the candidates are
 
 module _ (x y z : ℤ) where
@@ -122,11 +143,10 @@ module _ (x y z : ℤ) where
 
   -- the first of several that are equally far stays the best
   abbrev AllFar : ℕ → List Point → Type 0
-  AllFar d [] = Unit {0}
-  AllFar d (q ∷ qs) = (squaredDistance (x, y, z) q ≡ d) × AllFar d qs
+  AllFar d qs = All (λ q. squaredDistance (x, y, z) q ≡ d) qs
 
   first-stays : (d : ℕ) (best : Point) (qs : List Point) → squaredDistance (x, y, z) best ≡ d → AllFar d qs → nearest (x, y, z) best qs ≡ best
-  unfolding nearest
+  unfolding nearest All
   first-stays d best [] e h = refl
   first-stays d best (q ∷ qs) e h =
       ap (λ (t : Bool). nearest (x, y, z) (cond t q best) qs) (ap (λ (n : ℕ). ltb n (squaredDistance (x, y, z) best)) (h .0) ∙ ap (ltb d) e ∙ le-ltb d d (le-refl d))
@@ -136,6 +156,7 @@ module _ (x y z : ℤ) where
   first-even-far = far true _ _ _ (even-down-off x) (even-down-off y) (even-down-off z)
 
   other-evens-far : AllFar (wrongs true) (otherEvens x y z)
+  unfolding All
   other-evens-far =
       let dx = even-down-off x in let dy = even-down-off y in let dz = even-down-off z in
       let ux = even-up-off x in let uy = even-up-off y in let uz = even-up-off z in (
@@ -162,6 +183,7 @@ module _ (x y z : ℤ) where
   first-odd-far = far false _ _ _ (odd-up-off x) (odd-up-off y) (odd-up-off z)
 
   other-odds-far : AllFar (wrongs false) (otherOdds x y z)
+  unfolding All
   other-odds-far =
       let ux = odd-up-off x in let uy = odd-up-off y in let uz = odd-up-off z in
       let dx = odd-down-off x in let dy = odd-down-off y in let dz = odd-down-off z in (
@@ -217,38 +239,25 @@ module _ (x y z : ℤ) where
   -- ---- no candidate and no lattice point is nearer
 
   nearest-far : squaredDistance (x, y, z) (nearestCandidate x y z) ≡ cond (mostlyEven x y z) (wrongs true) (wrongs false)
-  nearest-far = go (mostlyEven x y z) refl
-    where
-      go : (b : Bool) → mostlyEven x y z ≡ b → squaredDistance (x, y, z) (nearestCandidate x y z) ≡ cond b (wrongs true) (wrongs false)
-      go true e = rw (candidate-even e) first-even-far
-      go false e = rw (candidate-odd e) first-odd-far
+  nearest-far =
+      cases (λ b. squaredDistance (x, y, z) (nearestCandidate x y z) ≡ cond b (wrongs true) (wrongs false)) (mostlyEven x y z)
+      (λ e. rw (candidate-even e) first-even-far)
+      (λ e. rw (candidate-odd e) first-odd-far)
 
   nearest-least : (parity : Bool) → squaredDistance (x, y, z) (nearestCandidate x y z) ≤ wrongs parity
   nearest-least true = rw nearest-far (smaller-of (wrongs true) (wrongs false) (mostlyEven x y z) (by-parity (even x) (even y) (even z)) .0)
   nearest-least false = rw nearest-far (smaller-of (wrongs true) (wrongs false) (mostlyEven x y z) (by-parity (even x) (even y) (even z)) .1)
 
-  member-far : (d : ℕ) (qs : List Point) (q : Point) → AllFar d qs → List·Memᴰ q qs → squaredDistance (x, y, z) q ≡ d
-  member-far d [] q h m = absurd (List·Memᴰ·not-nil m)
-  member-far d (p ∷ qs) q h m = ⊎-elim (λ e. ap (squaredDistance (x, y, z)) e ∙ h .0) (λ n. member-far d qs q (h .1) n) (List·Memᴰ·cases-cons m)
-
-  pub least-candidate : (q : Point) → List·Memᴰ q (candidates x y z) → squaredDistance (x, y, z) (nearestCandidate x y z) ≤ squaredDistance (x, y, z) q
+  pub least-candidate : (q : Point) → q ∈ candidates x y z → squaredDistance (x, y, z) (nearestCandidate x y z) ≤ squaredDistance (x, y, z) q
+  unfolding All
   least-candidate q m =
       ⊎-elim
-      (λ n. rw (member-far (wrongs true) (firstEven x y z ∷ otherEvens x y z) q (first-even-far, other-evens-far) n) (nearest-least true))
-      (λ n. rw (member-far (wrongs false) (firstOdd x y z ∷ otherOdds x y z) q (first-odd-far, other-odds-far) n) (nearest-least false))
+      (λ n. rw (member (Far true) (firstEven x y z ∷ otherEvens x y z) q (first-even-far, other-evens-far) n) (nearest-least true))
+      (λ n. rw (member (Far false) (firstOdd x y z ∷ otherOdds x y z) q (first-odd-far, other-odds-far) n) (nearest-least false))
       (List·Memᴰ·append-cases (firstEven x y z ∷ otherEvens x y z) m)
 
   pub least-point : (a b c : ℤ) → onLattice a b c ≡ true → squaredDistance (x, y, z) (nearestCandidate x y z) ≤ squaredDistance (x, y, z) (a, b, c)
-  unfolding onLattice squaredDistance
-  least-point a b c h = le-trans (nearest-least (even a)) (reached (agree (even a) (even b) (even c) h))
-    where
-      agree : (s t u : Bool) → Bool·beq s t && Bool·beq t u ≡ true → (s ≡ t) × (s ≡ u)
-      agree true true true e = (refl, refl)
-      agree true true false e = (refl, sym e)
-      agree true false u e = absurd (false≢true e)
-      agree false true u e = absurd (false≢true e)
-      agree false false true e = absurd (false≢true e)
-      agree false false false e = (refl, refl)
-
-      reached : (even a ≡ even b) × (even a ≡ even c) → wrongs (even a) ≤ squaredDistance (x, y, z) (a, b, c)
-      reached p = add-le-add (add-le-add (at-least x a) (rw (p .0) (at-least y b))) (rw (p .1) (at-least z c))
+  unfolding squaredDistance
+  least-point a b c h =
+      let p = same-parity a b c h in
+      le-trans (nearest-least (even a)) (add-le-add (add-le-add (at-least x a) (rw (p .0) (at-least y b))) (rw (p .1) (at-least z c)))

@@ -1,23 +1,19 @@
--- Two outcomes that both meet a public call's contract are equal: each is the definition's value. Assumes nothing.
-use Prim.Native.Nat.{ℕ}
+-- Every public contract settles its outcome: two that meet it are equal.
+-- Assumes nothing.
 use mathlib.Core.Path.{_≡_, sym, _∙_}
-use mathlib.Core.Bool.{Bool}
-use lib.IntN.{ℤ}
-use lib.Ieee.{Float}
-use Rattle.floats.specs.declared.Metres.{Metres}
-use Rattle.bcc_utils.specs.declared.WideCells.{WideCells}
-use Rattle.bcc_utils.specs.declared.Snapped.{Snapped}
-use Rattle.bcc_utils.specs.Snapping.{onLattice, snapped}
-use Rattle.bcc_utils.specs.Metres.{voxelOf, metresOf}
+use Rattle.bcc_utils.proofs.is_valid_bcc.Reads as is_valid_bcc
+use Rattle.bcc_utils.proofs.snap_to_nearest_bcc.Reads as snap_to_nearest_bcc
+use Rattle.bcc_utils.proofs.physical_to_bcc_voxel.Reads as physical_to_bcc_voxel
+use Rattle.bcc_utils.proofs.metres_of.Reads as metres_of
 
-pub is-valid-bcc-determined : (x y z : WideCells) (r s : Bool) → r ≡ onLattice (x .0) (y .0) (z .0) → s ≡ onLattice (x .0) (y .0) (z .0) → r ≡ s
-is-valid-bcc-determined x y z r s p q = p ∙ sym q
+pub is-valid-bcc-determined : (κs : _) (a : _) (r r' : _) (s s' : _) → is_valid_bcc.Post κs a r s → is_valid_bcc.Post κs a r' s' → r ≡ r'
+is-valid-bcc-determined κs a r r' s s' p q = p ∙ sym q
 
-pub snap-to-nearest-bcc-determined : (x y z : WideCells) (r s : Snapped) → r ≡ snapped (x .0) (y .0) (z .0) → s ≡ snapped (x .0) (y .0) (z .0) → r ≡ s
-snap-to-nearest-bcc-determined x y z r s p q = p ∙ sym q
+pub snap-to-nearest-bcc-determined : (κs : _) (a : _) (r r' : _) (s s' : _) → snap_to_nearest_bcc.Post κs a r s → snap_to_nearest_bcc.Post κs a r' s' → r ≡ r'
+snap-to-nearest-bcc-determined κs a r r' s s' p q = p ∙ sym q
 
-pub physical-to-bcc-voxel-determined : (x y z size : Metres) (r s : Snapped) → r ≡ voxelOf (x .0) (y .0) (z .0) (size .0) → s ≡ voxelOf (x .0) (y .0) (z .0) (size .0) → r ≡ s
-physical-to-bcc-voxel-determined x y z size r s p q = p ∙ sym q
+pub physical-to-bcc-voxel-determined : (κs : _) (a : _) (r r' : _) (s s' : _) → physical_to_bcc_voxel.Post κs a r s → physical_to_bcc_voxel.Post κs a r' s' → r ≡ r'
+physical-to-bcc-voxel-determined κs a r r' s s' p q = p ∙ sym q
 
-pub metres-of-determined : (cells : ℕ) (size : Metres) (r s : Metres) → r ≡ metresOf cells (size .0) → s ≡ metresOf cells (size .0) → r ≡ s
-metres-of-determined cells size r s p q = p ∙ sym q
+pub metres-of-determined : (κs : _) (a : _) (r r' : _) (s s' : _) → metres_of.Post κs a r s → metres_of.Post κs a r' s' → r ≡ r'
+metres-of-determined κs a r r' s s' p q = p ∙ sym q

@@ -3,7 +3,7 @@ use Prim.Native.Nat.{ℕ}
 use mathlib.Core.Path.{_≡_, refl}
 use mathlib.Core.List.{[], _∷_, map}
 use lib.IntN.{pos, negsuc}
-use lib.Ieee.{ofBits, div, lt, le, eq, round}
+use lib.Ieee.{ofBits, div, lt, le, eq}
 use Rattle.floats.specs.Floats.{f32, wholeOf}
 use Rattle.bcc_utils.specs.declared.Snapped.{Snapped}
 use Rattle.bcc_utils.specs.Snapping.{Point, even, onLattice, evenDown, evenUp, oddUp, oddDown, squareOf, squaredDistance, nearest, nearer, nearestCandidate, isEnd, snapped, snappedNumber, snappedPlace}

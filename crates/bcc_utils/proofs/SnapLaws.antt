@@ -1,40 +1,35 @@
 -- What snapping is known by: the answer is on the lattice, no coordinate moves by more than one, no candidate and no lattice
 -- point is nearer, a lattice point stays, and 9 is given exactly as document 01 says. Each follows from the nearest
 -- candidate's place, which is the point itself on the lattice. Assumes nothing.
-use Prim.Native.Nat.{ℕ, zero, suc, _+_, _*_, _%_, _≤_, _<_}
+use Prim.Native.Nat.{ℕ, zero, suc, _%_, _≤_}
 use native.Mathlib.Omega.{arith}
 use mathlib.Core.Path.{_≡_, refl, sym, ap, _∙_, subst}
 use mathlib.Core.Logic.{_↔_}
-use mathlib.Core.Bool.{Bool, true, false, cond, not, _&&_, _||_, Bool·beq, false≢true}
-use mathlib.Core.List.{List, [], _∷_, List·Memᴰ}
+use mathlib.Core.Bool.{Bool, true, false, cond, not, Bool·not-not}
 use lib.Dec.{eqb}
 use lib.IntN.{ℤ, pos, negsuc, sucℤ, predℤ, natAbs, _-ℤ_}
 use borrow.Author.Tests.{eqb-true, eqb-false, eq-eqb, ne-eqb}
+use Rattle.lists.specs.Lists.{_∈_}
+use Rattle.lists.proofs.Bools.{cases}
 use Rattle.refusals.specs.declared.Refusal.{Refusal}
 use Rattle.refusals.specs.declared.Refusal.the-variants.{OutOfRange}
 use Rattle.bcc_utils.specs.declared.WideCells.{WideCells}
-use Rattle.bcc_utils.specs.declared.Snapped.{Snapped}
 use Rattle.bcc_utils.specs.declared.Snapped.the-variants.{At, Refused}
 use Rattle.bcc_utils.specs.Snapping.{Point, even, onLattice, evenDown, oddUp, firstEven, firstOdd, candidates, squaredDistance, nearestCandidate, placed, hasEnd, snapped, snappedPlace}
-use Rattle.bcc_utils.specs.Steps.{mostOf, mostlyEven}
-use Rattle.bcc_utils.proofs.Candidates.{candidate-even, candidate-odd, even-down-moves, odd-up-moves, least-candidate, least-point}
+use Rattle.bcc_utils.specs.Steps.{mostlyEven}
+use Rattle.bcc_utils.proofs.Candidates.{same-parity, candidate-even, candidate-odd, even-down-moves, odd-up-moves, least-candidate, least-point}
 
 -- ---- parity
 
-not-not : (b : Bool) → b ≡ not (not b)
-not-not true = refl
-not-not false = refl
-
 -- the next number has the other parity
 other : (n : ℕ) → eqb (suc n % 2) 0 ≡ not (eqb (n % 2) 0)
-other n = go (eqb (n % 2) 0) refl
-  where
-    go : (b : Bool) → eqb (n % 2) 0 ≡ b → eqb (suc n % 2) 0 ≡ not b
-    go true e = ne-eqb (suc n % 2) 0 (λ q. omega (arith, eqb-true (n % 2) 0 e))
-    go false e = let h : n % 2 ≡ 0 → ⊥ = eqb-false (n % 2) 0 e in eq-eqb (suc n % 2) 0 (omega arith)
+other n =
+    cases (λ b. eqb (suc n % 2) 0 ≡ not b) (eqb (n % 2) 0)
+    (λ e. ne-eqb (suc n % 2) 0 (λ q. omega (arith, eqb-true (n % 2) 0 e)))
+    (λ e. let h : n % 2 ≡ 0 → ⊥ = eqb-false (n % 2) 0 e in eq-eqb (suc n % 2) 0 (omega arith))
 
 before : (n : ℕ) → eqb (n % 2) 0 ≡ not (eqb (suc n % 2) 0)
-before n = not-not _ ∙ ap not (sym (other n))
+before n = sym (Bool·not-not _) ∙ ap not (sym (other n))
 
 even-suc : (z : ℤ) → even (sucℤ z) ≡ not (even z)
 unfolding even
@@ -51,19 +46,11 @@ even-pred (negsuc n) = other (suc n)
 -- a number or its neighbour, by its parity
 pub even-down-even : (z : ℤ) → even (evenDown z) ≡ true
 unfolding evenDown
-even-down-even z = go (even z) refl
-  where
-    go : (b : Bool) → even z ≡ b → even (cond b z (predℤ z)) ≡ true
-    go true e = e
-    go false e = even-pred z ∙ ap not e
+even-down-even z = cases (λ b. even (cond b z (predℤ z)) ≡ true) (even z) (λ e. e) (λ e. even-pred z ∙ ap not e)
 
 pub odd-up-odd : (z : ℤ) → even (oddUp z) ≡ false
 unfolding oddUp
-odd-up-odd z = go (even z) refl
-  where
-    go : (b : Bool) → even z ≡ b → even (cond b (sucℤ z) z) ≡ false
-    go true e = even-suc z ∙ ap not e
-    go false e = e
+odd-up-odd z = cases (λ b. even (cond b (sucℤ z) z) ≡ false) (even z) (λ e. even-suc z ∙ ap not e) (λ e. e)
 
 even-stays : (z : ℤ) → even z ≡ true → evenDown z ≡ z
 unfolding evenDown
@@ -79,13 +66,12 @@ at-not-refused e = let z : _≡_ {A = ℕ} 0 1 = cc in omega arith
 module _ (x y z : ℤ) where
   -- ---- the nearest candidate
 
-  -- a fact of the nearest candidate holds of the first of each class
+  -- what holds of the first of each class holds of the nearest candidate
   by-class : (P : Point → Type 0) → P (firstEven x y z) → P (firstOdd x y z) → P (nearestCandidate x y z)
-  by-class P p q = go (mostlyEven x y z) refl
-    where
-      go : (b : Bool) → mostlyEven x y z ≡ b → P (nearestCandidate x y z)
-      go true e = subst P (sym (candidate-even x y z e)) p
-      go false e = subst P (sym (candidate-odd x y z e)) q
+  by-class P p q =
+      cases (λ b. P (nearestCandidate x y z)) (mostlyEven x y z)
+      (λ e. subst P (sym (candidate-even x y z e)) p)
+      (λ e. subst P (sym (candidate-odd x y z e)) q)
 
   nearest-on-lattice : onLattice (nearestCandidate x y z .0) (nearestCandidate x y z .1) (nearestCandidate x y z .2) ≡ true
   unfolding onLattice
@@ -102,16 +88,19 @@ module _ (x y z : ℤ) where
 
   -- on the lattice it is the point itself
   nearest-stays : onLattice x y z ≡ true → nearestCandidate x y z ≡ (x, y, z)
-  unfolding onLattice
-  nearest-stays h = go (even x) (even y) (even z) refl refl refl h
+  nearest-stays h = cases (λ b. nearestCandidate x y z ≡ (x, y, z)) (even x) evens odds
     where
-      go : (a b c : Bool) → even x ≡ a → even y ≡ b → even z ≡ c → Bool·beq a b && Bool·beq b c ≡ true → nearestCandidate x y z ≡ (x, y, z)
-      go true true true p q r e = candidate-even x y z (simp (p, q, r)) ∙ rw (even-stays x p, even-stays y q, even-stays z r)
-      go true true false p q r e = absurd (false≢true e)
-      go true false c p q r e = absurd (false≢true e)
-      go false true c p q r e = absurd (false≢true e)
-      go false false true p q r e = absurd (false≢true e)
-      go false false false p q r e = candidate-odd x y z (simp (p, q, r)) ∙ rw (odd-stays x p, odd-stays y q, odd-stays z r)
+      y-is : {b : Bool} → even x ≡ b → even y ≡ b
+      y-is p = sym (same-parity x y z h .0) ∙ p
+
+      z-is : {b : Bool} → even x ≡ b → even z ≡ b
+      z-is p = sym (same-parity x y z h .1) ∙ p
+
+      evens : even x ≡ true → nearestCandidate x y z ≡ (x, y, z)
+      evens p = candidate-even x y z (simp (p, y-is p)) ∙ rw (even-stays x p, even-stays y (y-is p), even-stays z (z-is p))
+
+      odds : even x ≡ false → nearestCandidate x y z ≡ (x, y, z)
+      odds p = candidate-odd x y z (simp (p, y-is p)) ∙ rw (odd-stays x p, odd-stays y (y-is p), odd-stays z (z-is p))
 
   -- ---- the answer
 
@@ -153,7 +142,7 @@ module _ (x y z : ℤ) where
         subst (λ (q : Point). (natAbs (x -ℤ q .0) ≤ 1) × (natAbs (y -ℤ q .1) ≤ 1) × (natAbs (z -ℤ q .2) ≤ 1)) (snap-is-nearest a b c e) nearest-moves
 
     -- None of the sixteen candidates is nearer.
-    pub snap-least : (q : Point) → List·Memᴰ q (candidates x y z) → squaredDistance (x, y, z) (a .0, b .0, c .0) ≤ squaredDistance (x, y, z) q
+    pub snap-least : (q : Point) → q ∈ candidates x y z → squaredDistance (x, y, z) (a .0, b .0, c .0) ≤ squaredDistance (x, y, z) q
     snap-least q m =
         subst (λ (p : Point). squaredDistance (x, y, z) p ≤ squaredDistance (x, y, z) q) (snap-is-nearest a b c e) (least-candidate x y z q m)
 

@@ -1,9 +1,9 @@
 -- Parity, an end, the even number below and the odd one above, read off the 32 bits of an i32: the lowest bit of two's
 -- complement is the number's parity, and clearing or setting it moves the number by one at most. Assumes nothing.
-use Prim.Native.Nat.{ℕ, zero, suc, _+_, _-_, _*_, _/_, _%_, _^_, _≤_, _<_}
+use Prim.Native.Nat.{ℕ, zero, suc, _+_, _-_, _*_, _/_, _%_, _^_, _<_}
 use native.Mathlib.Omega.{arith}
-use mathlib.Core.Path.{_≡_, refl, sym, ap, _∙_, subst}
-use mathlib.Core.Bool.{Bool, true, false, cond, _||_}
+use mathlib.Core.Path.{_≡_, refl, ap, _∙_}
+use mathlib.Core.Bool.{Bool, true, false, cond, _||_, or-false}
 use lib.Dec.{eqb}
 use lib.Bits.{bitAnd, bitOr, and-mask, and-high, or-add-and}
 use lib.IntN.{ℤ, pos, negsuc, sucℤ, predℤ, natAbs}
@@ -11,6 +11,7 @@ use mir.Syntax.{w32}
 use mir.Val.{SFits, toZ, ofZ}
 use mir.ValLaws.{toZ-ofZ}
 use borrow.Author.Tests.{eqb-true, eqb-false, eq-eqb, ne-eqb}
+use Rattle.lists.proofs.Bools.{both-ways}
 use Rattle.bcc_utils.specs.Snapping.{even, evenDown, oddUp, isEnd}
 
 -- ---- parity
@@ -91,17 +92,11 @@ odd-up-read z h = word-read _ _ (up-word z (even z) _ refl h (set-low (ofZ w32 z
 
 -- ---- the ends
 
-or-false : (b : Bool) → b || false ≡ b
-or-false true = refl
-or-false false = refl
-
 pub end-read : (z : ℤ) → SFits w32 z → eqb (ofZ w32 z) 0x7FFF_FFFF || eqb (ofZ w32 z) 0x8000_0000 ≡ isEnd z
 unfolding isEnd
 end-read (pos n) h = ap (λ (t : Bool). eqb n 0x7FFF_FFFF || t) (ne-eqb n 0x8000_0000 (λ e. omega (arith, h .sfits))) ∙ or-false _
 end-read (negsuc n) h =
     ap (λ (t : Bool). t || eqb (2 ^ 32 - suc n) 0x8000_0000) (ne-eqb (2 ^ 32 - suc n) 0x7FFF_FFFF (λ e. omega (arith, h .sfits)))
-    ∙ lowest-is n (h .sfits) (eqb (suc n) 0x8000_0000) refl
-  where
-    lowest-is : (n : ℕ) → n < 2 ^ 31 → (b : Bool) → eqb (suc n) 0x8000_0000 ≡ b → eqb (2 ^ 32 - suc n) 0x8000_0000 ≡ b
-    lowest-is n h true e = eq-eqb (2 ^ 32 - suc n) 0x8000_0000 (omega (arith, eqb-true (suc n) 0x8000_0000 e))
-    lowest-is n h false e = ne-eqb (2 ^ 32 - suc n) 0x8000_0000 (λ q. eqb-false (suc n) 0x8000_0000 e (omega arith))
+    ∙ both-ways (eqb (2 ^ 32 - suc n) 0x8000_0000) (eqb (suc n) 0x8000_0000)
+    (λ e. eq-eqb (suc n) 0x8000_0000 (omega (arith, eqb-true (2 ^ 32 - suc n) 0x8000_0000 e, h .sfits)))
+    (λ e. eq-eqb (2 ^ 32 - suc n) 0x8000_0000 (omega (arith, eqb-true (suc n) 0x8000_0000 e)))

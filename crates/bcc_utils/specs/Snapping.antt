@@ -1,6 +1,6 @@
 -- Document 01, "Snapping": three whole numbers of cells to the nearest point of the lattice, over the candidates in their order.
 use Prim.Native.Nat.{ℕ, suc, _+_, _-_, _*_, _%_, _^_}
-use mathlib.Core.Bool.{Bool, true, false, cond, _&&_, _||_, Bool·beq}
+use mathlib.Core.Bool.{Bool, cond, _&&_, _||_, Bool·beq}
 use mathlib.Core.List.{List, [], _∷_, _++_}
 use lib.Dec.{leb, ltb, eqb}
 use lib.IntN.{ℤ, pos, negsuc, sucℤ, predℤ, _-ℤ_, natAbs}
@@ -25,24 +25,27 @@ onLattice x y z = Bool·beq (even x) (even y) && Bool·beq (even y) (even z)
 
 -- ---- the candidates
 
--- the largest even number not above z, and the smallest not below it
+-- the largest even number not above z
 unfoldable pub evenDown : ℤ → ℤ
 evenDown z = cond (even z) z (predℤ z)
 
+-- the smallest even number not below z
 unfoldable pub evenUp : ℤ → ℤ
 evenUp z = cond (even z) z (sucℤ z)
 
--- the smallest odd number not below z, and the largest not above it
+-- the smallest odd number not below z
 unfoldable pub oddUp : ℤ → ℤ
 oddUp z = cond (even z) (sucℤ z) z
 
+-- the largest odd number not above z
 unfoldable pub oddDown : ℤ → ℤ
 oddDown z = cond (even z) (predℤ z) z
 
--- the first even candidate, and the others in order
+-- the first even candidate
 abbrev pub firstEven : ℤ → ℤ → ℤ → Point
 firstEven x y z = (evenDown x, evenDown y, evenDown z)
 
+-- the other even candidates in order
 abbrev pub otherEvens : ℤ → ℤ → ℤ → List Point
 otherEvens x y z =
     (evenUp x, evenDown y, evenDown z)
@@ -54,10 +57,11 @@ otherEvens x y z =
     ∷ (evenUp x, evenUp y, evenUp z)
     ∷ []
 
--- the first odd candidate, and the others in order
+-- the first odd candidate
 abbrev pub firstOdd : ℤ → ℤ → ℤ → Point
 firstOdd x y z = (oddUp x, oddUp y, oddUp z)
 
+-- the other odd candidates in order
 abbrev pub otherOdds : ℤ → ℤ → ℤ → List Point
 otherOdds x y z =
     (oddDown x, oddUp y, oddUp z)
@@ -69,7 +73,7 @@ otherOdds x y z =
     ∷ (oddDown x, oddDown y, oddDown z)
     ∷ []
 
--- all sixteen
+-- all sixteen candidates
 abbrev pub candidates : ℤ → ℤ → ℤ → List Point
 candidates x y z = (firstEven x y z ∷ otherEvens x y z) ++ (firstOdd x y z ∷ otherOdds x y z)
 
