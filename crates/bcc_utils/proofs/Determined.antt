@@ -1,4 +1,4 @@
--- Every public contract settles its outcome: two that meet it are equal.
+-- Every public contract settles its outcome: two that meet it are equal, in the answer and in every lent place.
 -- Assumes nothing.
 use mathlib.Core.Path.{_≡_, sym, _∙_}
 use Rattle.bcc_utils.proofs.is_valid_bcc.Reads as is_valid_bcc

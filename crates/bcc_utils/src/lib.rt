@@ -1,6 +1,7 @@
 // Snapping to the lattice, whose points have three even or three odd coordinates (src/layers/bcc_utils.rs).
 use floats::Metres;
 use floats::Nearest;
+use ids::Cells;
 use refusals::Refusal;
 ghost use mathlib.Core.Path.{_≡_};
 ghost use Rattle.bcc_utils.specs.Snapping.{even, onLattice, isEnd, hasEnd};
@@ -142,8 +143,9 @@ pub fn physical_to_bcc_voxel(x: Metres, y: Metres, z: Metres, voxel_size: Metres
 }
 
 // A number of cells as a length.
-pub fn metres_of(cells: u16, voxel_size: Metres) -> Metres
-    ensures { λ r. ⌜ r ≡ metresOf cells («voxel_size» .0) ⌝ }
+pub fn metres_of(cells: Cells, voxel_size: Metres) -> Metres
+    ensures { λ r. ⌜ r ≡ metresOf (cells .0) («voxel_size» .0) ⌝ }
 {
-    Metres((cells as f32) * voxel_size.0)
+    let n = cells.0;
+    Metres((n as f32) * voxel_size.0)
 }
