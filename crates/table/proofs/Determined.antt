@@ -1,0 +1,27 @@
+-- Every public contract settles its outcome: two that meet it are equal, in the answer and in every lent place.
+-- Assumes nothing.
+use mathlib.Core.Path.{_≡_, sym, _∙_}
+use Rattle.table.proofs.Settings.new.Reads as new
+use Rattle.table.proofs.settings_ok.Reads as settings_ok
+use Rattle.table.proofs.lengths_ok.Reads as lengths_ok
+use Rattle.table.proofs.check_table.Reads as check_table
+use Rattle.table.proofs.place_of.Reads as place_of
+use Rattle.table.proofs.find_row.Reads as find_row
+
+pub new-determined : (κs : _) (a : _) (r r' : _) (s s' : _) → new.Post κs a r s → new.Post κs a r' s' → r ≡ r'
+new-determined κs a r r' s s' p q = p ∙ sym q
+
+pub settings-ok-determined : (κs : _) (a : _) (r r' : _) (s s' : _) → settings_ok.Post κs a r s → settings_ok.Post κs a r' s' → r ≡ r'
+settings-ok-determined κs a r r' s s' p q = p ∙ sym q
+
+pub lengths-ok-determined : (κs : _) (a : _) (r r' : _) (s s' : _) → lengths_ok.Post κs a r s → lengths_ok.Post κs a r' s' → r ≡ r'
+lengths-ok-determined κs a r r' s s' p q = p ∙ sym q
+
+pub check-table-determined : (κs : _) (a : _) (r r' : _) (s s' : _) → check_table.Post κs a r s → check_table.Post κs a r' s' → r ≡ r'
+check-table-determined κs a r r' s s' p q = p ∙ sym q
+
+pub place-of-determined : (κs : _) (a : _) (r r' : _) (s s' : _) → place_of.Post κs a r s → place_of.Post κs a r' s' → r ≡ r'
+place-of-determined κs a r r' s s' p q = p ∙ sym q
+
+pub find-row-determined : (κs : _) (a : _) (r r' : _) (s s' : _) → find_row.Post κs a r s → find_row.Post κs a r' s' → r ≡ r'
+find-row-determined κs a r r' s s' p q = p ∙ sym q
