@@ -1,0 +1,3 @@
+pub mod Readings
+pub mod Fusing
+pub mod Batches
