@@ -3,3 +3,7 @@ pub mod Rays
 pub mod Storing
 pub mod Keeping
 pub mod Batching
+pub mod FuseLaws
+pub mod BatchLaws
+pub mod Samples
+pub mod Determined

@@ -252,14 +252,11 @@ fn fuse_near(
     let Found::At(i) = find_row(keys, n, key) else {
         return add_row(most, keys, distances, weights, count, key, m);
     };
-    let v = fused_voxel(
-        most,
-        Voxel {
-            distance: distances[i],
-            weight: weights[i],
-        },
-        m,
-    );
+    let old = Voxel {
+        distance: distances[i],
+        weight: weights[i],
+    };
+    let v = fused_voxel(most, old, m);
     if !within(1000000.0, v.distance) {
         return Fused::Refused(Refusal::TooLarge);
     }
@@ -285,14 +282,14 @@ fn fuse_sound(
     match admit(settings, key, reading) {
         Admitted::No(why) => Fused::Refused(why),
         Admitted::Far => Fused::Far,
-        Admitted::Near(m) => fuse_near(
+        Admitted::Near(near) => fuse_near(
             settings.max_weight,
             keys,
             distances,
             weights,
             count,
             key,
-            m,
+            near,
         ),
     }
 }

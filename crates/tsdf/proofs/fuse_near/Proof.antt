@@ -49,17 +49,17 @@ same-length-3 c = search needs
 returns : tie.Need-returns
 returns c = search needs
 
-mul-t21 : tie.Need-mul-t21
-mul-t21 c = omega (arith, inside (c .before))
+mul-t22 : tie.Need-mul-t22
+mul-t22 c = omega (arith, inside (c .before))
 
-slice-read-t23 : tie.Need-slice-read-t23
-slice-read-t23 c = inside (c .before .before) .0
+slice-read-t24 : tie.Need-slice-read-t24
+slice-read-t24 c = inside (c .before .before) .0
 
-mul-t24 : tie.Need-mul-t24
-mul-t24 c = omega (arith, inside (c .before .before))
+mul-t25 : tie.Need-mul-t25
+mul-t25 c = omega (arith, inside (c .before .before))
 
-slice-read-t26 : tie.Need-slice-read-t26
-slice-read-t26 c = inside (c .before .before .before) .1
+slice-read-t27 : tie.Need-slice-read-t27
+slice-read-t27 c = inside (c .before .before .before) .1
 
 fused-voxel-requires : tie.Need-fused-voxel-requires
 fused-voxel-requires c κs = search needs
@@ -112,10 +112,10 @@ fuse-near-spec =
     same-length-2
     same-length-3
     returns
-    mul-t21
-    slice-read-t23
-    mul-t24
-    slice-read-t26
+    mul-t22
+    slice-read-t24
+    mul-t25
+    slice-read-t27
     fused-voxel-requires
     within-requires
     same-length-4

@@ -15,8 +15,8 @@ enum-known-why c = search needs
 enum-told : tie.Need-enum-told
 enum-told c = search needs
 
-enum-known-m : tie.Need-enum-known-m
-enum-known-m c = search needs
+enum-known-near : tie.Need-enum-known-near
+enum-known-near c = search needs
 
 fuse-near-requires : tie.Need-fuse-near-requires
 fuse-near-requires c κs = let k = sound _ _ (c .before .before .before .before .before .before .before .before .before .before .before .pre) in (k .lengths, k .order)
@@ -40,7 +40,7 @@ same-length-3 c = search needs
 
 returns-3 : tie.Need-returns-3
 unfolding fuse fuseIf fusedIf
-returns-3 c = rw (c .before .before .before .before .before .before .before .before .before .before .before .before .before .before .before .before .before .before .pre, ← c .before .before .before .before .before .before .before .before .before .before .before .before .before .before .admit .ensures, c .before .before .before .before .before .before .before .before .before .before .before .before .m .given .1) (c .before .before .before .before .before .before .fuse-near .ensures)
+returns-3 c = rw (c .before .before .before .before .before .before .before .before .before .before .before .before .before .before .before .before .before .before .pre, ← c .before .before .before .before .before .before .before .before .before .before .before .before .before .before .admit .ensures, c .before .before .before .before .before .before .before .before .before .before .before .before .near .given .1) (c .before .before .before .before .before .before .fuse-near .ensures)
 
 pub fuse-sound-spec : {M : Type 1} → statement M
 fuse-sound-spec =
@@ -49,7 +49,7 @@ fuse-sound-spec =
     admit-requires
     enum-known-why
     enum-told
-    enum-known-m
+    enum-known-near
     fuse-near-requires
     returns
     returns-2
