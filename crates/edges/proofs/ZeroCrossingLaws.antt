@@ -1,0 +1,72 @@
+-- The zero-crossing edges meet demand 3.
+-- Assumes nothing.
+use Prim.Native.Nat.{ℕ, _-_, _*_}
+use native.Mathlib.Nat.{mul-comm, sub-self}
+use mathlib.Core.Path.{_≡_, refl, sym, ap, _∙_}
+use mathlib.Core.Logic.{_↔_}
+use mathlib.Core.Bool.{Bool, true, false, not, Bool·beq, _&&_, and-false}
+use mathlib.Core.List.{List}
+use lib.Dec.{eqb}
+use lib.Ieee.{Float, nan, inf, fin, Format, binary32, mul, ne, lt, unlike, up, down, round}
+use Rattle.floats.specs.Floats.{zero32}
+use Rattle.ids.specs.Key.{headOf, xOf, yOf, zOf}
+use Rattle.neighbors.specs.Neighbors.{neighbours, adjacent, oneStep}
+use Rattle.neighbors.proofs.Adjacency.{adjacent-sym, neighbour-adjacent, adjacent-neighbour, neighbours-distinct}
+use Rattle.table.specs.Keys.{ascending}
+use Rattle.table.specs.Table.{Row}
+use Rattle.edges.specs.Rows.{keysOf}
+use Rattle.edges.specs.Edges.{Edge}
+use Rattle.edges.specs.EdgeList.{Neighbourhood, Symmetric, IsEdgeList}
+use Rattle.edges.specs.ZeroCrossing.{crossing, crossesZero, zeroCrossingEdges}
+use Rattle.edges.proofs.EdgeLaws.{edges-are, edges-only}
+
+unlike-comm : (s t : Bool) → unlike s t ≡ unlike t s
+unlike-comm true true = refl
+unlike-comm true false = refl
+unlike-comm false true = refl
+unlike-comm false false = refl
+
+-- a product does not turn on the order of its factors
+pub mul-either : (f : Format) (x y : Float) → mul f x y ≡ mul f y x
+unfolding mul
+mul-either f nan nan = refl
+mul-either f nan (inf t) = refl
+mul-either f nan (fin t n d) = refl
+mul-either f (inf s) nan = refl
+mul-either f (inf s) (inf t) = rw (unlike-comm s t)
+mul-either f (inf s) (fin t n d) = rw (unlike-comm s t)
+mul-either f (fin s m e) nan = refl
+mul-either f (fin s m e) (inf t) = rw (unlike-comm s t)
+mul-either f (fin s m e) (fin t n d) = rw (unlike-comm s t, mul-comm (m * up e) (n * up d), mul-comm (down e) (down d))
+
+and-swap : (a b c : Bool) → (a && (b && c)) ≡ (b && (a && c))
+and-swap true b c = refl
+and-swap false true c = refl
+and-swap false false c = refl
+
+-- two rows cross whichever is named first
+pub crosses-either : Symmetric crossesZero
+unfolding crossing
+crosses-either r s = rw (mul-either binary32 (r .distance) (s .distance)) (and-swap (ne (r .weight) zero32) (ne (s .weight) zero32) _)
+
+-- no cell is adjacent to itself
+not-adjacent : (k : ℕ) → adjacent k k ≡ false
+unfolding adjacent oneStep
+not-adjacent k = rw (sub-self (xOf k), sub-self (yOf k), sub-self (zOf k)) (and-false (eqb (headOf k) (headOf k)))
+
+pub lattice : Neighbourhood neighbours adjacent
+lattice =
+    record {
+      once = λ k. neighbours-distinct k;
+      exactly = λ k l. (neighbour-adjacent k l, adjacent-neighbour k l);
+      both = adjacent-sym;
+      apart = not-adjacent;
+    }
+
+-- Given ascending rows, the edge list holds every pair of adjacent stored cells with nonzero weights whose f32 distance product is below zero,
+-- each pair once, smaller key first, in document 01's order, and no other.
+pub demand-3-edges : (rows : List Row) → ascending (keysOf rows) ≡ true → IsEdgeList neighbours adjacent crossesZero rows (zeroCrossingEdges rows)
+demand-3-edges rows up = edges-are neighbours adjacent crossesZero rows lattice crosses-either up
+
+pub demand-3-edges-only : (rows : List Row) → ascending (keysOf rows) ≡ true → (l : List Edge) → IsEdgeList neighbours adjacent crossesZero rows l → l ≡ zeroCrossingEdges rows
+demand-3-edges-only rows up l h = edges-only neighbours adjacent crossesZero rows lattice crosses-either up l h

@@ -1,0 +1,6 @@
+pub mod Rows
+pub mod Edges
+pub mod EdgeList
+pub mod ZeroCrossing
+pub mod Listing
+pub mod Steps

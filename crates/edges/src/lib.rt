@@ -1,0 +1,207 @@
+// The edges of the surface (src/layers/tsdf.rs, get_zero_crossing_edges).
+use lists::Listed;
+use refusals::Refusal;
+use table::Checked;
+use table::Found;
+use table::Settings;
+ghost use mathlib.Core.Path.{_≡_};
+ghost use Prim.Native.Nat.{_+_, _*_, _<_, _≤_};
+ghost use lib.ListN.{length, set};
+ghost use Rattle.lists.specs.Listing.{countOf, heldFor};
+ghost use Rattle.lists.specs.Places.{clearedFrom};
+ghost use Rattle.table.specs.Table.{table, rowsOf};
+ghost use Rattle.neighbors.specs.Neighbors.{neighbours};
+ghost use Rattle.edges.specs.Edges.{listed, edgesOf};
+ghost use Rattle.edges.specs.ZeroCrossing.{crossing, crossesZero, zeroCrossingEdges};
+ghost use Rattle.edges.specs.Listing.{
+  firsts,
+  seconds,
+  outputsOk,
+  checkedFor,
+  answerIf,
+  edgesAnswer,
+  firstsHeld,
+  secondsHeld,
+};
+ghost use Rattle.edges.specs.Steps.{Accepted, rowAt, Wrote};
+
+// The longest list that is filled.
+const LONGEST_LIST: usize = 1_048_576;
+
+// Both weights are nonzero and the product of the distances is below zero.
+fn crosses(distance: f32, weight: f32, other: f32, beside: f32) -> bool
+    ensures { λ r. ⌜ r ≡ crossing distance weight other beside ⌝ }
+{
+    (weight != 0.0) & ((beside != 0.0) & (distance * other < 0.0))
+}
+
+// Whether the row at a place and the cell `key` are listed.
+fn is_listed(
+    keys: &[u64],
+    distances: &[f32],
+    weights: &[f32],
+    count: usize,
+    row: usize,
+    key: u64,
+) -> bool
+    requires { ⌜ Accepted (now keys) (now distances) (now weights) count × (row < count) ⌝ }
+    ensures { λ r. ⌜ r ≡ listed neighbours crossesZero (rowsOf (now (keys .entry)) (now (distances .entry)) (now (weights .entry)) count) (rowAt (now (keys .entry)) (now (distances .entry)) (now (weights .entry)) row) key ⌝ }
+{
+    if key <= keys[row] {
+        return false;
+    }
+    let Found::At(place) = table::find_row(keys, count, key) else {
+        return false;
+    };
+    crosses(
+        distances[row],
+        weights[row],
+        distances[place],
+        weights[place],
+    )
+}
+
+// One edge at a place of both lists; nothing where they have no such place.
+fn put_edge(first: &mut [u64], second: &mut [u64], at: usize, a: u64, b: u64)
+    requires { ⌜ length (now second) ≡ length (now first) ⌝ }
+    ensures { λ _. ⌜ now (first .exit) ≡ set (now (first .entry)) at a ⌝ }
+    ensures { λ _. ⌜ now (second .exit) ≡ set (now (second .entry)) at b ⌝ }
+{
+    if at < first.len() {
+        first[at] = a;
+        second[at] = b;
+    }
+}
+
+// The edges that one row lists, from the place `at` on; those past the lists' end are only counted.
+fn list_row(
+    keys: &[u64],
+    distances: &[f32],
+    weights: &[f32],
+    count: usize,
+    row: usize,
+    at: usize,
+    first: &mut [u64],
+    second: &mut [u64],
+) -> usize
+    requires { ⌜ Accepted (now keys) (now distances) (now weights) count × (row < count) × (at ≤ 14 * row) × (length (now second) ≡ length (now first)) ⌝ }
+    ensures { λ r. ⌜ Wrote (edgesOf neighbours crossesZero (rowsOf (now (keys .entry)) (now (distances .entry)) (now (weights .entry)) count) (rowAt (now (keys .entry)) (now (distances .entry)) (now (weights .entry)) row)) at (now (first .entry)) (now (second .entry)) r (now (first .exit)) (now (second .exit)) ⌝ }
+    ensures { λ r. ⌜ r ≤ at + 14 ⌝ }
+{
+    let key = keys[row];
+    let near = neighbors::around(key);
+    let cells = near.keys;
+    let n = near.count;
+    let mut end = at;
+    let mut i = 0;
+    while i < n {
+        let k = cells[i];
+        if is_listed(keys, distances, weights, count, row, k) {
+            put_edge(first, second, end, key, k);
+            end += 1;
+        }
+        i += 1;
+    }
+    end
+}
+
+// All edges; those past the lists' end are only counted.
+fn list_edges(
+    keys: &[u64],
+    distances: &[f32],
+    weights: &[f32],
+    count: usize,
+    first: &mut [u64],
+    second: &mut [u64],
+) -> usize
+    requires { ⌜ Accepted (now keys) (now distances) (now weights) count × (length (now second) ≡ length (now first)) ⌝ }
+    ensures { λ r. ⌜ Wrote (zeroCrossingEdges (rowsOf (now (keys .entry)) (now (distances .entry)) (now (weights .entry)) count)) 0 (now (first .entry)) (now (second .entry)) r (now (first .exit)) (now (second .exit)) ⌝ }
+{
+    let mut end = 0;
+    let mut row = 0;
+    while row < count {
+        end = list_row(keys, distances, weights, count, row, end, first, second);
+        row += 1;
+    }
+    end
+}
+
+// Refusals 1, 2 and 3.
+fn check(
+    settings: Settings,
+    keys: &[u64],
+    distances: &[f32],
+    weights: &[f32],
+    count: usize,
+    first: usize,
+    second: usize,
+) -> Checked
+    ensures { λ r. ⌜ r ≡ checkedFor settings (table (now (keys .entry)) (now (distances .entry)) (now (weights .entry)) count) first second ⌝ }
+{
+    if !table::settings_ok(settings) {
+        return Checked::Refused(Refusal::Setting);
+    }
+    if !outputs_ok(first, second) {
+        return Checked::Refused(Refusal::Lengths);
+    }
+    table::check_table(settings, keys, distances, weights, count)
+}
+
+// Two lists of equal length within the limit.
+fn outputs_ok(first: usize, second: usize) -> bool
+    ensures { λ r. ⌜ r ≡ outputsOk first second ⌝ }
+{
+    (first == second) & (first <= LONGEST_LIST)
+}
+
+// The edges, where the tests passed; the places past them are left to be cleared.
+fn list_checked(
+    verdict: Checked,
+    keys: &[u64],
+    distances: &[f32],
+    weights: &[f32],
+    count: usize,
+    first: &mut [u64],
+    second: &mut [u64],
+) -> Listed
+    requires { ⌜ (verdict ≡ Checked.Passed → Accepted (now keys) (now distances) (now weights) count × (length (now second) ≡ length (now first))) ⌝ }
+    ensures { λ r. ⌜ r ≡ answerIf verdict (zeroCrossingEdges (rowsOf (now (keys .entry)) (now (distances .entry)) (now (weights .entry)) count)) (length (now (first .entry))) ⌝ }
+    ensures { λ r. ⌜ clearedFrom 0 (countOf r) (now (first .exit)) ≡ heldFor 0 r (length (now (first .entry))) (firsts (zeroCrossingEdges (rowsOf (now (keys .entry)) (now (distances .entry)) (now (weights .entry)) count))) ⌝ }
+    ensures { λ r. ⌜ clearedFrom 0 (countOf r) (now (second .exit)) ≡ heldFor 0 r (length (now (second .entry))) (seconds (zeroCrossingEdges (rowsOf (now (keys .entry)) (now (distances .entry)) (now (weights .entry)) count))) ⌝ }
+{
+    if let Checked::Refused(why) = verdict {
+        return Listed::Refused(why);
+    }
+    let n = list_edges(keys, distances, weights, count, first, second);
+    lists::room_for(n, first.len())
+}
+
+// The zero-crossing edges of a table, in two lists.
+pub fn get_zero_crossing_edges(
+    settings: Settings,
+    keys: &[u64],
+    distances: &[f32],
+    weights: &[f32],
+    count: usize,
+    first: &mut [u64],
+    second: &mut [u64],
+) -> Listed
+    ensures { λ r. ⌜ r ≡ edgesAnswer settings (table (now (keys .entry)) (now (distances .entry)) (now (weights .entry)) count) (length (now (first .entry))) (length (now (second .entry))) ⌝ }
+    ensures { λ _. ⌜ now (first .exit) ≡ firstsHeld settings (table (now (keys .entry)) (now (distances .entry)) (now (weights .entry)) count) (length (now (first .entry))) (length (now (second .entry))) ⌝ }
+    ensures { λ _. ⌜ now (second .exit) ≡ secondsHeld settings (table (now (keys .entry)) (now (distances .entry)) (now (weights .entry)) count) (length (now (first .entry))) (length (now (second .entry))) ⌝ }
+{
+    let verdict = check(
+        settings,
+        keys,
+        distances,
+        weights,
+        count,
+        first.len(),
+        second.len(),
+    );
+    let listed = list_checked(verdict, keys, distances, weights, count, first, second);
+    let n = lists::count_of(listed);
+    lists::clear_from_u64(first, n);
+    lists::clear_from_u64(second, n);
+    listed
+}
