@@ -1,4 +1,4 @@
--- The zero-crossing edges meet demand 3.
+-- The neighbours on the lattice and the zero-crossing test are symmetric, a product of floats being so; so the zero-crossing edges meet demand 3.
 -- Assumes nothing.
 use Prim.Native.Nat.{ℕ, _-_, _*_}
 use native.Mathlib.Nat.{mul-comm, sub-self}
@@ -15,7 +15,7 @@ use Rattle.neighbors.proofs.Adjacency.{adjacent-sym, neighbour-adjacent, adjace
 use Rattle.table.specs.Keys.{ascending}
 use Rattle.table.specs.Table.{Row}
 use Rattle.edges.specs.Rows.{keysOf}
-use Rattle.edges.specs.Edges.{Edge}
+use Rattle.edges.specs.Edges.{Edge, edges}
 use Rattle.edges.specs.EdgeList.{Neighbourhood, Symmetric, IsEdgeList}
 use Rattle.edges.specs.ZeroCrossing.{crossing, crossesZero, zeroCrossingEdges}
 use Rattle.edges.proofs.EdgeLaws.{edges-are, edges-only}
@@ -63,10 +63,20 @@ lattice =
       apart = not-adjacent;
     }
 
--- Given ascending rows, the edge list holds every pair of adjacent stored cells with nonzero weights whose f32 distance product is below zero,
--- each pair once, smaller key first, in document 01's order, and no other.
-pub demand-3-edges : (rows : List Row) → ascending (keysOf rows) ≡ true → IsEdgeList neighbours adjacent crossesZero rows (zeroCrossingEdges rows)
-demand-3-edges rows up = edges-are neighbours adjacent crossesZero rows lattice crosses-either up
+-- Of ascending rows, for any test of two rows that is symmetric, the list holds every pair of adjacent stored cells that cross, and no other, each pair
+-- once, smaller key first, in document 01's order; and no other list does.
+module _ (crosses : Row → Row → Bool) (both : Symmetric crosses) (rows : List Row) (up : ascending (keysOf rows) ≡ true) where
+  pub demand-3-over : IsEdgeList neighbours adjacent crosses rows (edges neighbours crosses rows)
+  demand-3-over = edges-are neighbours adjacent crosses rows lattice both up
 
-pub demand-3-edges-only : (rows : List Row) → ascending (keysOf rows) ≡ true → (l : List Edge) → IsEdgeList neighbours adjacent crossesZero rows l → l ≡ zeroCrossingEdges rows
-demand-3-edges-only rows up l h = edges-only neighbours adjacent crossesZero rows lattice crosses-either up l h
+  pub demand-3-over-only : (l : List Edge) → IsEdgeList neighbours adjacent crosses rows l → l ≡ edges neighbours crosses rows
+  demand-3-over-only l h = edges-only neighbours adjacent crosses rows lattice both up l h
+
+-- Of ascending rows, the edge list holds every pair of adjacent stored cells with nonzero weights whose f32 distance product is below zero, each pair
+-- once, smaller key first, in document 01's order, and no other; and no other list does.
+module _ (rows : List Row) (up : ascending (keysOf rows) ≡ true) where
+  pub demand-3-edges : IsEdgeList neighbours adjacent crossesZero rows (zeroCrossingEdges rows)
+  demand-3-edges = demand-3-over crossesZero crosses-either rows up
+
+  pub demand-3-edges-only : (l : List Edge) → IsEdgeList neighbours adjacent crossesZero rows l → l ≡ zeroCrossingEdges rows
+  demand-3-edges-only l h = demand-3-over-only crossesZero crosses-either rows up l h

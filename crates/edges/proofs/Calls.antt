@@ -1,0 +1,118 @@
+-- What a caller of `get_zero_crossing_edges` has, by its answer: the tests let an accepted table pass, whose keys ascend, and none of them answers 6.
+-- Assumes nothing.
+use Prim.Native.Nat.{ℕ, _<_, _≤_}
+use native.Mathlib.Omega.{arith}
+use mathlib.Core.Path.{_≡_, refl, sym, ap, _∙_}
+use mathlib.Core.Logic.{_↔_}
+use mathlib.Core.Bool.{Bool, true, false, cond}
+use mathlib.Core.List.{List}
+use lib.Dec.{leb}
+use lib.ListN.{length, replicate}
+use borrow.Author.Tests.{leb-true, leb-false, lt-leb}
+use Rattle.lists.specs.Padding.{padded}
+use Rattle.lists.specs.Listing.{roomFor, heldFor}
+use Rattle.lists.specs.declared.Listed.{Listed}
+use Rattle.lists.specs.declared.Listed.the-variants as listed
+use Rattle.lists.proofs.Bools.{cases}
+use Rattle.neighbors.specs.Neighbors.{neighbours, adjacent}
+use Rattle.refusals.specs.declared.Refusal.{Refusal}
+use Rattle.refusals.specs.declared.Refusal.the-variants.{Setting, Lengths, BadRow, NoPlace}
+use Rattle.table.specs.Table.{Table, rows, settingsOk, lengthsOk, tableOk, need, tableCheck}
+use Rattle.table.specs.declared.Settings.{Settings}
+use Rattle.table.specs.declared.Checked.{Checked}
+use Rattle.table.specs.declared.Checked.the-variants.{Passed, Refused}
+use Rattle.edges.specs.Edges.{Edge}
+use Rattle.edges.specs.EdgeList.{IsEdgeList}
+use Rattle.edges.specs.ZeroCrossing.{crossesZero, zeroCrossingEdges}
+use Rattle.edges.specs.Listing.{firsts, seconds, outputsOk, checkedFor, answerIf, edgesAnswer, firstsHeld, secondsHeld}
+use Rattle.edges.proofs.AnswerLaws.{accepted}
+use Rattle.edges.proofs.ListingLaws.{rows-rise}
+use Rattle.edges.proofs.ZeroCrossingLaws.{demand-3-edges}
+
+-- ---- the room, for any verdict and any list
+
+-- n entries are refused exactly when they are more than the room
+room-refuses : (n room : ℕ) → (roomFor n room ≡ listed.Refused NoPlace) ↔ (room < n)
+room-refuses n room = (
+  cases (λ (t : Bool). cond t (listed.Count n) (listed.Refused NoPlace) ≡ listed.Refused NoPlace → room < n) (leb n room)
+      (λ q e. let z : _≡_ {A = ℕ} 0 1 = cc in let un : ⊥ = omega arith in absurd un)
+      (λ q e. leb-false n room q),
+  λ h. rw (lt-leb n room h),
+)
+
+room-counts : (n room c : ℕ) → roomFor n room ≡ listed.Count c → (c ≡ n) × (n ≤ room)
+room-counts n room c =
+    cases (λ (t : Bool). cond t (listed.Count n) (listed.Refused NoPlace) ≡ listed.Count c → (c ≡ n) × (n ≤ room)) (leb n room)
+    (λ q e. let same : c ≡ n = cc in (same, leb-true n room q))
+    (λ q e. let z : _≡_ {A = ℕ} 0 1 = cc in let un : ⊥ = omega arith in absurd un)
+
+not-passed : (why : Refusal) → Refused why ≡ Passed → ⊥
+not-passed why e = let z : _≡_ {A = ℕ} 0 1 = cc in omega arith
+
+-- Where no test answers 6: refused with 6 exactly when the tests pass and the list is longer than the room.
+pub room-clause : (v : Checked) → (v ≡ Refused NoPlace → ⊥) → (es : List Edge) (room : ℕ) → (answerIf v es room ≡ listed.Refused NoPlace) ↔ ((v ≡ Passed) × (room < length es))
+unfolding answerIf
+room-clause Passed h es room = (λ e. (refl, room-refuses (length es) room .0 e), λ p. room-refuses (length es) room .1 (p .1))
+room-clause (Refused why) h es room = (λ e. absurd (h (cc)), λ p. absurd (not-passed why (p .0)))
+
+-- a count is answered only where the tests pass, and is that of the list, which has room
+pub counted-only : (v : Checked) (es : List Edge) (room c : ℕ) → answerIf v es room ≡ listed.Count c → (v ≡ Passed) × (c ≡ length es) × (length es ≤ room)
+unfolding answerIf
+counted-only Passed es room c e = let h = room-counts (length es) room c e in (refl, h .0, h .1)
+counted-only (Refused why) es room c e = let z : _≡_ {A = ℕ} 0 1 = cc in let un : ⊥ = omega arith in absurd un
+
+-- ---- the tests
+
+other-refusal : (b : Bool) (why : Refusal) (rest : Checked) → (why ≡ NoPlace → ⊥) → (rest ≡ Refused NoPlace → ⊥) → need b why rest ≡ Refused NoPlace → ⊥
+unfolding need
+other-refusal true why rest h g e = g e
+other-refusal false why rest h g e = h (cc)
+
+not-setting : Setting ≡ NoPlace → ⊥
+not-setting e = let z : _≡_ {A = ℕ} 0 1 = cc in omega arith
+
+not-lengths : Lengths ≡ NoPlace → ⊥
+not-lengths e = let z : _≡_ {A = ℕ} 0 1 = cc in omega arith
+
+not-row : BadRow ≡ NoPlace → ⊥
+not-row e = let z : _≡_ {A = ℕ} 0 1 = cc in omega arith
+
+module _ (s : Settings) (t : Table) (a b : ℕ) where
+  -- no test answers 6
+  tests-spare-room : checkedFor s t a b ≡ Refused NoPlace → ⊥
+  unfolding checkedFor tableCheck
+  tests-spare-room =
+      other-refusal (settingsOk s) Setting _ not-setting
+      (other-refusal (outputsOk a b) Lengths _ not-lengths
+      (other-refusal (settingsOk s) Setting _ not-setting
+      (other-refusal (lengthsOk (length (t .keys)) (length (t .distances)) (length (t .weights)) (t .count)) Lengths _ not-lengths
+      (other-refusal (tableOk (s .«max_weight») t) BadRow Passed not-row (λ e. not-passed NoPlace (sym e))))))
+
+  -- ---- the call
+
+  abbrev es : List Edge
+  es = zeroCrossingEdges (rows t)
+
+  -- The list of an accepted table is the edge list of demand 3.
+  pub accepted-edges : checkedFor s t a b ≡ Passed → IsEdgeList neighbours adjacent crossesZero (rows t) es
+  accepted-edges e =
+      demand-3-edges (rows t)
+      (rows-rise (t .keys) (t .distances) (t .weights) (t .count) (accepted s (t .keys) (t .distances) (t .weights) (t .count) a b e .0))
+
+  -- Refused with 6 exactly when no earlier test refuses and the list would be longer than lent.
+  pub refused-for-room : (edgesAnswer s t a b ≡ listed.Refused NoPlace) ↔ ((checkedFor s t a b ≡ Passed) × (a < length es))
+  unfolding edgesAnswer
+  refused-for-room = room-clause (checkedFor s t a b) tests-spare-room es a
+
+  -- Answered with a count, the two lists hold the edge list and then zeros, and the count is its length.
+  pub answered-with-edges : (n : ℕ) → edgesAnswer s t a b ≡ listed.Count n →
+      IsEdgeList neighbours adjacent crossesZero (rows t) es × (n ≡ length es) × (firstsHeld s t a b ≡ padded 0 a (firsts es)) × (secondsHeld s t a b ≡ padded 0 b (seconds es))
+  unfolding edgesAnswer heldFor
+  answered-with-edges n e =
+      let h = counted-only (checkedFor s t a b) es a n e in
+      (accepted-edges (h .0), h .1, rw e, rw e)
+
+  -- Refused, both lists are zeros throughout.
+  pub refused-with-zeros : (why : Refusal) → edgesAnswer s t a b ≡ listed.Refused why → (firstsHeld s t a b ≡ replicate a 0) × (secondsHeld s t a b ≡ replicate b 0)
+  unfolding heldFor
+  refused-with-zeros why e = (rw e, rw e)
