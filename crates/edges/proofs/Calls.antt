@@ -2,7 +2,7 @@
 -- Assumes nothing.
 use Prim.Native.Nat.{ℕ, _<_, _≤_}
 use native.Mathlib.Omega.{arith}
-use mathlib.Core.Path.{_≡_, refl, sym, ap, _∙_}
+use mathlib.Core.Path.{_≡_, refl, sym}
 use mathlib.Core.Logic.{_↔_}
 use mathlib.Core.Bool.{Bool, true, false, cond}
 use mathlib.Core.List.{List}
@@ -11,7 +11,6 @@ use lib.ListN.{length, replicate}
 use borrow.Author.Tests.{leb-true, leb-false, lt-leb}
 use Rattle.lists.specs.Padding.{padded}
 use Rattle.lists.specs.Listing.{roomFor, heldFor}
-use Rattle.lists.specs.declared.Listed.{Listed}
 use Rattle.lists.specs.declared.Listed.the-variants as listed
 use Rattle.lists.proofs.Bools.{cases}
 use Rattle.neighbors.specs.Neighbors.{neighbours, adjacent}

@@ -1,17 +1,18 @@
 -- Demand 3 of the edge list: it holds every pair of stored cells that are adjacent and cross, each once, the smaller key first, in document 01's
 -- order, and no other; and it is the only list that does.
 -- Assumes nothing.
-use Prim.Native.Nat.{ℕ, _<_, min, max}
-use native.Mathlib.Nat.{le-of-lt, min-eq-left, min-eq-right, max-eq-left, max-eq-right}
+use Prim.Native.Nat.{ℕ, _<_, _≤_}
+use native.Mathlib.Nat.{le-of-lt, eq-or-lt-of-le, min-eq-left, min-eq-right, max-eq-left, max-eq-right}
 use native.Mathlib.Omega.{arith}
 use mathlib.Core.Path.{_≡_, refl, sym, ap, ap₂, _∙_, subst}
-use mathlib.Core.Logic.{_⊎_, inl, inr, ⊎-elim}
-use mathlib.Core.Bool.{Bool, true, false, _&&_, false≢true}
-use mathlib.Core.List.{List, [], _∷_, map, Memᴰ·cast}
+use mathlib.Core.Logic.{_⊎_, inl, inr}
+use mathlib.Core.Bool.{Bool, true, false, false≢true}
+use mathlib.Core.List.{List, Memᴰ·cast}
 use mathlib.Core.Option.{Option, none, some}
 use lib.Dec.{ltb}
 use borrow.Author.Tests.{ltb-true, lt-ltb}
-use Rattle.lists.specs.Lists.{_∈_, Ordered, Distinct, Ahead, kept, joined}
+use Rattle.floats.proofs.Values.{le-or-lt}
+use Rattle.lists.specs.Lists.{_∈_, Ordered, Distinct, Ahead, kept}
 use Rattle.lists.proofs.ListLaws.{kept-in, in-kept, map-in, in-map, joined-in, in-joined, ordered-weaken, kept-ordered, map-ordered, joined-ordered, one-order, ahead-ordered, ahead-asym}
 use Rattle.lists.proofs.Bools.{and-first, and-second}
 use Rattle.table.specs.Keys.{ascending}
@@ -19,7 +20,7 @@ use Rattle.table.specs.Table.{Row}
 use Rattle.edges.specs.Rows.{keysOf, stored}
 use Rattle.edges.specs.Edges.{Edge, edge, crossesWith, listed, edgesTo, edgesOf, edges}
 use Rattle.edges.specs.EdgeList.{pairOf, SamePair, Neighbourhood, Symmetric, Before, Crossing, IsEdgeList}
-use Rattle.edges.proofs.RowLaws.{compared, ascending-rows, stored-in, in-stored}
+use Rattle.edges.proofs.RowLaws.{ascending-rows, stored-in, in-stored}
 
 -- a pair whose first key is the smaller, and one whose second is
 pub pair-up : {a b : ℕ} → a < b → pairOf a b ≡ edge a b
@@ -118,12 +119,15 @@ module _ (near : ℕ → List ℕ) (adjacent : ℕ → ℕ → Bool) (crosses : 
       record { stored = c .beside; beside = c .stored; adjacency = nb .both (s .key) (r .key) ∙ c .adjacency; crossing = both s r ∙ c .crossing }
 
   holds : (r s : Row) → Crossing adjacent crosses rows r s → pairOf (r .key) (s .key) ∈ edges near crosses rows
-  holds r s c = go (compared (r .key) (s .key))
+  holds r s c = go (le-or-lt (r .key) (s .key))
     where
-      go : (r .key < s .key) ⊎ ((s .key < r .key) ⊎ (r .key ≡ s .key)) → pairOf (r .key) (s .key) ∈ edges near crosses rows
-      go (inl l) = Memᴰ·cast (pair-up l) (in-edges near adjacent crosses rows nb rising r s c l)
-      go (inr (inl l)) = Memᴰ·cast (pair-down l) (in-edges near adjacent crosses rows nb rising s r (swapped r s c) l)
-      go (inr (inr e)) = absurd (false≢true (sym (nb .apart (r .key)) ∙ subst (λ (k : ℕ). adjacent (r .key) k ≡ true) (sym e) (c .adjacency)))
+      upward : (r .key ≡ s .key) ⊎ (r .key < s .key) → pairOf (r .key) (s .key) ∈ edges near crosses rows
+      upward (inl e) = absurd (false≢true (sym (nb .apart (r .key)) ∙ subst (λ (k : ℕ). adjacent (r .key) k ≡ true) (sym e) (c .adjacency)))
+      upward (inr l) = Memᴰ·cast (pair-up l) (in-edges near adjacent crosses rows nb rising r s c l)
+
+      go : (r .key ≤ s .key) ⊎ (s .key < r .key) → pairOf (r .key) (s .key) ∈ edges near crosses rows
+      go (inl l) = upward (eq-or-lt-of-le l)
+      go (inr l) = Memᴰ·cast (pair-down l) (in-edges near adjacent crosses rows nb rising s r (swapped r s c) l)
 
   smaller-first : (e : Edge) → e ∈ edges near crosses rows → e .first < e .second
   smaller-first e m = let h = edges-in near adjacent crosses rows nb m in rw (h .4) (h .3)

@@ -3,12 +3,12 @@
 use Prim.Native.Nat.{ℕ, _<_}
 use native.Mathlib.Omega.{arith}
 use mathlib.Core.Path.{_≡_, refl, sym, ap, _∙_}
-use mathlib.Core.Logic.{_⊎_, inl, inr, ⊎-elim}
-use mathlib.Core.Bool.{Bool, true, false, cond, _&&_}
-use mathlib.Core.List.{List, [], _∷_, map, List·Memᴰ·head, List·Memᴰ·tail, List·Memᴰ·not-nil, List·Memᴰ·cases-cons}
-use mathlib.Core.Option.{Option, none, some}
+use mathlib.Core.Logic.{⊎-elim}
+use mathlib.Core.Bool.{Bool, true, false, cond}
+use mathlib.Core.List.{List, [], _∷_, List·Memᴰ·head, List·Memᴰ·tail, List·Memᴰ·not-nil, List·Memᴰ·cases-cons}
+use mathlib.Core.Option.{Option, some}
 use lib.Dec.{eqb, ltb}
-use borrow.Author.Tests.{ltb-true, ltb-false, lt-ltb, eqb-true, eq-eqb, ne-eqb}
+use borrow.Author.Tests.{ltb-true, eqb-true, eq-eqb, ne-eqb}
 use Rattle.lists.specs.Lists.{_∈_, Ordered}
 use Rattle.lists.proofs.ListLaws.{unmap-ordered}
 use Rattle.lists.proofs.Bools.{and-first, and-second}
@@ -16,15 +16,7 @@ use Rattle.table.specs.Keys.{risesFrom, ascending}
 use Rattle.table.specs.Table.{Row}
 use Rattle.edges.specs.Rows.{keysOf, stored}
 
--- one of two numbers is the smaller, or they are the same
-pub compared : (a b : ℕ) → (a < b) ⊎ ((b < a) ⊎ (a ≡ b))
-compared a b = go (ltb a b) (ltb b a) refl refl
-  where
-    go : (p q : Bool) → ltb a b ≡ p → ltb b a ≡ q → (a < b) ⊎ ((b < a) ⊎ (a ≡ b))
-    go true q e f = inl (ltb-true a b e)
-    go false true e f = inr (inl (ltb-true b a f))
-    go false false e f = inr (inr (let x = ltb-false a b e in let y = ltb-false b a f in omega arith))
-
+-- keys that rise from k are above it, and ordered
 rises : (k : ℕ) (ls : List ℕ) → risesFrom k ls ≡ true → ((l : ℕ) → l ∈ ls → k < l) × Ordered _<_ ls
 unfolding Ordered risesFrom
 rises k [] e = (λ l m. absurd (List·Memᴰ·not-nil m), tt)

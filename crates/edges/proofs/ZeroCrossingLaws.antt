@@ -2,12 +2,11 @@
 -- Assumes nothing.
 use Prim.Native.Nat.{ℕ, _-_, _*_}
 use native.Mathlib.Nat.{mul-comm, sub-self}
-use mathlib.Core.Path.{_≡_, refl, sym, ap, _∙_}
-use mathlib.Core.Logic.{_↔_}
-use mathlib.Core.Bool.{Bool, true, false, not, Bool·beq, _&&_, and-false}
+use mathlib.Core.Path.{_≡_, refl}
+use mathlib.Core.Bool.{Bool, true, false, not, _&&_, and-false}
 use mathlib.Core.List.{List}
 use lib.Dec.{eqb}
-use lib.Ieee.{Float, nan, inf, fin, Format, binary32, mul, ne, lt, unlike, up, down, round}
+use lib.Ieee.{Float, nan, inf, fin, Format, binary32, mul, ne, unlike, up, down}
 use Rattle.floats.specs.Floats.{zero32}
 use Rattle.ids.specs.Key.{headOf, xOf, yOf, zOf}
 use Rattle.neighbors.specs.Neighbors.{neighbours, adjacent, oneStep}

@@ -1,4 +1,4 @@
--- `edges::list_checked` meets its contract.
+-- `edges::list_checked` meets its contract: what the tests refuse leaves nothing to keep, and what was listed from the front stands there where it has room.
 -- Assumes nothing.
 use mathlib.Core.Path.{refl}
 use Rattle.table.specs.Table.{rowsOf}

@@ -1,7 +1,6 @@
 -- `edges::list_edges` meets its contract: what is left of the rows says what all of them say.
 -- Assumes nothing.
-use Prim.Native.Nat.{_+_, _*_, _≤_, _-_}
-use mathlib.Core.Path.{refl}
+use Prim.Native.Nat.{_*_, _≤_, _-_}
 use native.Mathlib.Omega.{arith}
 use lib.ListN.{length, length-take}
 use Rattle.table.specs.Table.{rowsOf, beside}

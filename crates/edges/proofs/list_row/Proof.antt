@@ -1,7 +1,7 @@
 -- `edges::list_row` meets its contract: what is left of the neighbours says what all of them say.
 -- Assumes nothing.
 use Prim.Native.Nat.{ℕ, _+_, _≤_, _<_, _-_}
-use mathlib.Core.Path.{_≡_, refl, sym, ap, _∙_}
+use mathlib.Core.Path.{_≡_, ap, _∙_}
 use mathlib.Core.Logic.{⊎-elim}
 use mathlib.Core.List.{List}
 use native.Mathlib.Omega.{arith}
@@ -12,18 +12,13 @@ use Rattle.neighbors.specs.Neighbors.{neighbours}
 use Rattle.neighbors.specs.declared.Near.{Near}
 use Rattle.neighbors.proofs.NeighborLaws.{at-most-14}
 use Rattle.lists.proofs.PaddingLaws.{padded-at}
-use Rattle.edges.specs.Edges.{Edge, edge, listed, edgesTo}
+use Rattle.edges.specs.Edges.{Edge, listed, edgesTo}
 use Rattle.edges.specs.ZeroCrossing.{crossesZero}
 use Rattle.edges.specs.Steps.{rowAt}
 use Rattle.edges.proofs.RoundLaws.{Writing, begun, done, turn-listed, turn-unlisted, none-left}
 use borrow.Author.Needs.{needs}
 use Rattle.edges.proofs.list_row.Statement.{statement}
 use Rattle.edges.proofs.list_row.Tie as tie
-use Rattle.edges.proofs.list_row.Reads as reads
-use Rattle.edges.proofs.list_row.Lts as lts
-use Rattle.edges.proofs.is_listed.Reads as is-listed-reads
-use Rattle.edges.proofs.put_edge.Reads as put-edge-reads
-use Rattle.neighbors.proofs.around.Reads as around-reads
 
 -- the edges of the row to its neighbours from a place on
 abbrev left : List ℕ → List Float → List Float → ℕ → ℕ → ℕ → List Edge
