@@ -2,7 +2,7 @@
 // bit pattern. A unit is the smallest f32 above zero, 2 ^ -149.
 ghost use mathlib.Core.Path.{_≡_};
 ghost use mathlib.Core.Bool.{true};
-ghost use Prim.Native.Nat.{_*_, _^_, _<_};
+ghost use Prim.Native.Nat.{_*_, _^_, _<_, _≤_};
 ghost use lib.Ieee.{binary32, le, ofBits, toBits};
 ghost use Rattle.floats.specs.Floats.{zero32};
 ghost use Rattle.root.specs.Root.{rootOf, rootAnswer};
@@ -21,10 +21,11 @@ struct Lead {
     j: u32,
 }
 
-// A number of units times 2 ^ 149 as m * 4 ^ k, m having 47 or 48 digits.
+// A number of units times 2 ^ 149 as m * 4 ^ k, m having 47 or 48 digits, and a hint: the 24 leading ones.
 struct Scaled {
     m: u64,
     k: u32,
+    lead: u64,
 }
 
 // A number of units below 2 ^ 23 is doubled until it has 24 digits.
@@ -68,11 +69,13 @@ fn scaled_of(b: u32) -> Scaled
         Scaled {
             m: n * 0x80_0000,
             k: (j - 23) / 2,
+            lead: n,
         }
     } else {
         Scaled {
             m: n * 0x100_0000,
             k: (j - 24) / 2,
+            lead: n,
         }
     }
 }
@@ -94,50 +97,56 @@ fn root_by_steps(m: u64) -> u64
     if m - r * r <= r { r } else { r + 1 }
 }
 
-// A first guess at 1 / √x from the bit pattern. Nothing is promised of it.
-fn inverse_guess(x: f64) -> f64 {
-    if x != x {
-        return 1.0;
-    }
-    let b = f64::to_bits(x);
-    if b < 0x8000_0000_0000_0000 {
-        f64::from_bits(0x5fe6_eb50_c7b5_37a9 - b / 2)
-    } else {
-        1.0
-    }
-}
-
-// One step of Newton's method towards 1 / √(2 * h).
-fn mended(h: f64, y: f64) -> f64 {
-    y * (1.5 - h * y * y)
-}
-
-// A guess at the whole number nearest to the root of m, nearly always right. It is only promised to be small.
-fn root_guess(m: u64) -> u64
-    requires { ⌜ m < 2 ^ 48 ⌝ }
-    ensures { λ r. ⌜ r < 2 ^ 26 ⌝ }
+// The digits of a * b above the low 32.
+fn high(a: u64, b: u64) -> u64
+    requires { ⌜ (a < 2 ^ 32) × (b ≤ 2 ^ 32) ⌝ }
+    ensures { λ r. ⌜ r ≤ a ⌝ }
 {
-    let x = m as f64;
-    let h = x * 0.5;
-    let y = mended(h, mended(h, mended(h, inverse_guess(x))));
-    let g = x * y + 0.5;
-    if g > -1.0 {
-        if g < 18446744073709551616.0 {
-            return std::num::truncating_f64_to_u64(g) % 0x400_0000;
-        }
-    }
-    0
+    a * b / 0x1_0000_0000
 }
 
-// The whole number nearest to the root of m: the guess, if it passes the test.
-fn near_root(m: u64) -> u64
+// About 2 ^ 31 / √(1 + z / 2 ^ 23), a little less, for the low 23 digits z of `lead`, by a polynomial of degree 5. It is only
+// promised to be small.
+fn inverse_guess(lead: u64) -> u64
+    ensures { λ r. ⌜ r < 2 ^ 32 ⌝ }
+{
+    let z = lead % 0x80_0000;
+    let square = z * z / 0x4000;
+    let first = 0x7fff_3c28 - 0x3fe2_b852 * z / 0x80_0000;
+    let second = 0x2e87_b43c - 0x20ae_c85f * z / 0x80_0000;
+    let third = 0x1091_6dcd - 0x0405_0b21 * z / 0x80_0000;
+    first + high(second + high(third, square), square)
+}
+
+// A guess at the whole number nearest to the root of m, or one less: m / √m to half the digits, and one step of Newton's
+// method, rounded. `lead` is the 24 leading digits of m. It is only promised to be small.
+fn root_guess(m: u64, lead: u64) -> u64
+    requires { ⌜ m < 2 ^ 48 ⌝ }
+    ensures { λ r. ⌜ r < 2 ^ 27 ⌝ }
+{
+    // times 1 / √2 where m has 48 digits
+    let scale = 0x1_0000_0000 - m / 0x8000_0000_0000 * 0x4afb_0ccd;
+    let inverse = high(inverse_guess(lead), scale);
+    let s = high(m / 0x1_0000, inverse) / 0x40;
+    let left = std::num::wrapping_sub_u64(m, s * s) % 0x80_0000_0000;
+    s + (left * (inverse / 0x100) + 0x4000_0000_0000) / 0x8000_0000_0000
+}
+
+// The whole number nearest to the root of m: the guess or the next number, if one passes the test.
+fn near_root(m: u64, lead: u64) -> u64
     requires { ⌜ (0 < m) × (m < 2 ^ 48) ⌝ }
     ensures { λ r. ⌜ Near m r ⌝ }
 {
-    let q = root_guess(m);
+    let q = root_guess(m, lead);
     if q * q < m + q {
         if m <= q * q + q {
             return q;
+        }
+    }
+    let n = q + 1;
+    if n * n < m + n {
+        if m <= n * n + n {
+            return n;
         }
     }
     root_by_steps(m)
@@ -149,7 +158,7 @@ fn root_bits(b: u32) -> u32
     ensures { λ r. ⌜ r ≡ toBits binary32 (rootOf (ofBits binary32 b)) ⌝ }
 {
     let s = scaled_of(b);
-    let q = near_root(s.m) as u32;
+    let q = near_root(s.m, s.lead) as u32;
     s.k * 0x80_0000 + q
 }
 
