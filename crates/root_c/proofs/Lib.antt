@@ -1,1 +1,2 @@
+-- What is proved of the function for C.
 pub mod Determined

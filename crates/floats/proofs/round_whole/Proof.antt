@@ -1,4 +1,4 @@
--- `floats::round_whole` meets its contract. Assumes nothing.
+-- `floats::round_whole` meets its contract: from 2 ^ 32 on no i32 is near, and below it the size is rounded and the sign put back. Assumes nothing.
 use mathlib.Core.Path.{_≡_, sym, ap, _∙_}
 use mathlib.Core.Bool.{Bool, true, false}
 use Prim.Native.Nat.{ℕ}
