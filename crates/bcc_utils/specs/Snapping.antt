@@ -125,11 +125,11 @@ snapped x y z =
     (cond (hasEnd x y z) (Refused OutOfRange) (placed (nearestCandidate x y z)))
 
 -- document 01's number of the answer, 0 for no refusal
-unfoldable pub snappedNumber : Snapped → ℕ
+abbrev pub snappedNumber : Snapped → ℕ
 snappedNumber (At x y z) = 0
 snappedNumber (Refused r) = numberOf r
 
 -- the answer's place, at the origin where it is refused
-unfoldable pub snappedPlace : Snapped → Point
+abbrev pub snappedPlace : Snapped → Point
 snappedPlace (At x y z) = (x .0, y .0, z .0)
 snappedPlace (Refused r) = (pos 0, pos 0, pos 0)

@@ -58,10 +58,10 @@ decodedOf key =
     cond (onLattice key) (decoded.At (record { 0 = xOf key }) (record { 0 = yOf key }) (record { 0 = zOf key })) (decoded.Refused OffLattice)
 
 -- document 01's number of each answer; 0 where it is no refusal
-unfoldable pub madeNumber : Made → ℕ
+abbrev pub madeNumber : Made → ℕ
 madeNumber (made.Key key) = 0
 madeNumber (made.Refused why) = numberOf why
 
-unfoldable pub decodedNumber : Decoded → ℕ
+abbrev pub decodedNumber : Decoded → ℕ
 decodedNumber (decoded.At x y z) = 0
 decodedNumber (decoded.Refused why) = numberOf why
