@@ -1,7 +1,7 @@
 -- Normals: `compute_normal` at a cell, over all stored neighbours in their order, whatever their weights.
 use Prim.Native.Nat.{ℕ, _+_}
 use mathlib.Core.Bool.{cond}
-use mathlib.Core.List.{List, [], _∷_}
+use mathlib.Core.List.{List, [], _∷_, map}
 use lib.Dec.{eqb}
 use lib.IntN.{pos}
 use lib.Ieee.{Float, binary32, add, sub, mul, div, lt, ofInt}
@@ -88,3 +88,17 @@ normalBy look size key Absent = noNormal
 -- the normal at a cell
 abbrev pub normalAt : Lookup → Float → ℕ → Normal
 normalAt look size key = normalBy look size key (look key)
+
+-- the normals of edges, each at the edge's first cell
+abbrev pub normalsOf : Lookup → Float → List ℕ → List Normal
+normalsOf look size firsts = map (λ (k : ℕ). normalAt look size k) firsts
+
+-- their parts
+abbrev pub partsX : List Normal → List Float
+partsX ns = map (λ (n : Normal). n .x) ns
+
+abbrev pub partsY : List Normal → List Float
+partsY ns = map (λ (n : Normal). n .y) ns
+
+abbrev pub partsZ : List Normal → List Float
+partsZ ns = map (λ (n : Normal). n .z) ns

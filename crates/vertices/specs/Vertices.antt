@@ -1,6 +1,7 @@
 -- Vertices: vertex i comes from edge i.
 use Prim.Native.Nat.{ℕ}
 use mathlib.Core.Bool.{cond}
+use mathlib.Core.List.{List, [], _∷_, map}
 use lib.Ieee.{Float, binary32, add, sub, mul, div, neg, lt}
 use Rattle.floats.specs.Floats.{f32, zero32, one32, sizeOf, clampOf}
 use Rattle.floats.specs.declared.Metres.{Metres}
@@ -42,3 +43,20 @@ vertexOf size k1 d1 k2 d2 =
 unfoldable pub vertexAt : Lookup → Float → ℕ → ℕ → Vertex
 unfolding vertexOf orZero
 vertexAt look size k1 k2 = vertexOf size k1 (orZero (look k1)) k2 (orZero (look k2))
+
+-- the vertices of edges whose two cells stand side by side in two lists
+unfoldable pub verticesOf : Lookup → Float → List ℕ → List ℕ → List Vertex
+unfolding vertexAt
+verticesOf look size [] ls = []
+verticesOf look size (k ∷ ks) [] = []
+verticesOf look size (k ∷ ks) (l ∷ ls) = vertexAt look size k l ∷ verticesOf look size ks ls
+
+-- their coordinates
+abbrev pub xsOf : List Vertex → List Float
+xsOf vs = map (λ (v : Vertex). v .x .0) vs
+
+abbrev pub ysOf : List Vertex → List Float
+ysOf vs = map (λ (v : Vertex). v .y .0) vs
+
+abbrev pub zsOf : List Vertex → List Float
+zsOf vs = map (λ (v : Vertex). v .z .0) vs
