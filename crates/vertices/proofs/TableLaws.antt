@@ -1,27 +1,27 @@
 -- On an accepted table the search by halves finds the rows, so each edge of its own list has the vertex of its two rows.
 -- Assumes nothing.
-use Prim.Native.Nat.{ℕ, _<_}
+use Prim.Native.Nat.{ℕ, _<_, min, max}
 use native.Mathlib.Omega.{arith}
-use mathlib.Core.Path.{_≡_, refl, sym, ap, fun-ext, _∙_}
-use mathlib.Core.Logic.{_⊎_, ⊎-elim}
+use mathlib.Core.Path.{_≡_, refl, ap, fun-ext, _∙_}
+use mathlib.Core.Logic.{⊎-elim}
 use mathlib.Core.Bool.{true}
 use mathlib.Core.List.{List, [], _∷_, map}
 use borrow.Author.Tests.{lt-ltb}
 use lib.Ieee.{Float}
 use lib.ListN.{length, take, length-map}
 use Rattle.lists.specs.Lists.{_∈_}
+use Rattle.floats.proofs.Values.{le-or-lt}
 use Rattle.table.specs.Keys.{ascending, findBy}
 use Rattle.table.specs.Table.{Row, rowsOf}
 use Rattle.table.specs.declared.Found.{Found}
 use Rattle.table.specs.declared.Found.the-variants as found
 use Rattle.edges.specs.Rows.{keysOf, stored}
 use Rattle.edges.specs.Edges.{Edge, edge}
-use Rattle.edges.specs.EdgeList.{pairOf}
 use Rattle.edges.specs.ZeroCrossing.{zeroCrossingEdges}
 use Rattle.edges.specs.Listing.{firsts, seconds}
 use Rattle.edges.specs.Steps.{Accepted}
 use Rattle.edges.proofs.EdgeLaws.{pair-up, pair-down}
-use Rattle.edges.proofs.RowLaws.{compared, ascending-rows, in-stored}
+use Rattle.edges.proofs.RowLaws.{ascending-rows, in-stored}
 use Rattle.edges.proofs.ListingLaws.{place-below, none-stored, one-stored}
 use Rattle.edges.proofs.ZeroCrossingLaws.{demand-3-edges}
 use Rattle.vertices.specs.declared.Vertex.{Vertex}
@@ -83,15 +83,8 @@ module _ (size : Float) (rows : List Row) (up : ascending (keysOf rows) ≡ true
       let r = w .0 in
       let s = w .1 in
       let x = w .2 in
+      let l : min (r .key) (s .key) < max (r .key) (s .key) = rw (w .3) at (demand-3-edges rows up .smaller e m) in
       ⊎-elim
+      (λ h. both-found s r (x .beside) (x .stored) e (w .3 ∙ pair-down (omega arith)))
       (λ h. both-found r s (x .stored) (x .beside) e (w .3 ∙ pair-up h))
-      (⊎-elim
-      (λ h. both-found s r (x .beside) (x .stored) e (w .3 ∙ pair-down h))
-      (λ h. absurd (same-cell e m r s (w .3) h)))
-      (compared (r .key) (s .key))
-    where
-      same-cell : (e : Edge) → e ∈ zeroCrossingEdges rows → (r s : Row) → e ≡ pairOf (r .key) (s .key) → r .key ≡ s .key → ⊥
-      same-cell e m r s q h =
-          let l = demand-3-edges rows up .smaller e m in
-          let a : e .first ≡ e .second = rw q (omega arith) in
-          omega arith
+      (le-or-lt (s .key) (r .key))
