@@ -1,0 +1,123 @@
+-- `vertices::list_normals` meets its contract: what is left of the edges says what all of them say.
+-- Assumes nothing.
+use Prim.Native.Nat.{_≤_, _<_, _+_, _-_, min}
+use mathlib.Core.Path.{_≡_, refl, sym, ap, _∙_}
+use mathlib.Core.List.{List}
+use native.Mathlib.Omega.{arith}
+use lib.ListN.{length}
+use lib.Seq.{sets}
+use lib.Ieee.{Float}
+use Rattle.vertices.specs.declared.Normal.{Normal}
+use Rattle.vertices.specs.Stored.{distanceBy}
+use Rattle.vertices.specs.Normals.{normalAt, partsX, partsY, partsZ}
+use Rattle.vertices.proofs.Columns.{column-more, column-done, normalsFrom, normal-next, normals-end}
+use borrow.Author.Needs.{needs}
+use Rattle.vertices.proofs.list_normals.Statement.{statement}
+use Rattle.vertices.proofs.list_normals.Tie as tie
+
+abbrev Inv-loop : tie.InvT-loop
+Inv-loop keys distances count voxel-size first edges nx₀ ny₀ nz₀ n last₀ normal₀ i₀ nx ny nz last normal i =
+    let look = distanceBy keys distances count in
+    let from = normalsFrom look (voxel-size .0) edges first in
+    (n ≡ min edges (length first)) × (normal ≡ normalAt look (voxel-size .0) last) × (length nx ≡ length nx₀) × (length ny ≡ length ny₀) × (length nz ≡ length nz₀) × (sets nx₀ 0 (partsX (from 0)) ≡ sets nx i (partsX (from i))) × (sets ny₀ 0 (partsY (from 0)) ≡ sets ny i (partsY (from i))) × (sets nz₀ 0 (partsZ (from 0)) ≡ sets nz i (partsZ (from i)))
+
+abbrev μ-loop : tie.MeasureT-loop
+μ-loop keys distances count voxel-size first edges nx₀ ny₀ nz₀ n last₀ normal₀ i₀ nx ny nz last normal i = n - i
+
+least-requires : tie.Need-least-requires Inv-loop μ-loop
+least-requires c κs = search needs
+
+compute-normal-requires : tie.Need-compute-normal-requires Inv-loop μ-loop
+compute-normal-requires c κs = search needs
+
+loop-holds : tie.Need-loop-holds Inv-loop μ-loop
+loop-holds c = (c .before .least .ensures, c .compute-normal .ensures, refl, refl, refl, refl, refl, refl)
+
+mul-key : tie.Need-mul-key Inv-loop μ-loop
+mul-key c = omega (arith, c .before .loop .inv .0)
+
+shared-slice-read-key : tie.Need-shared-slice-read-key Inv-loop μ-loop
+shared-slice-read-key c = omega (arith, c .before .before .loop .inv .0)
+
+next-normal-requires : tie.Need-next-normal-requires Inv-loop μ-loop
+next-normal-requires c κs = c .before .before .loop .inv .1
+
+put-requires : tie.Need-put-requires Inv-loop μ-loop
+put-requires c κs = search needs
+
+put-requires-2 : tie.Need-put-requires-2 Inv-loop μ-loop
+put-requires-2 c κs = search needs
+
+put-requires-3 : tie.Need-put-requires-3 Inv-loop μ-loop
+put-requires-3 c κs = search needs
+
+add-i : tie.Need-add-i Inv-loop μ-loop
+add-i c = omega (arith, c .before .before .before .before .before .before .before .before .before .before .before .before .before .before .before .loop .inv .0)
+
+loop-less : tie.Need-loop-less Inv-loop μ-loop
+loop-less c = omega arith
+
+loop-again : tie.Need-loop-again Inv-loop μ-loop
+loop-again c =
+    let l = c .before .before .before .before .before .before .before .before .before .before .before .before .before .before .before in
+    let v = l .loop .inv in
+    let i = l .loop .i in
+    let a = l .before .before .before .before .before .before .before .before .before .args in
+    let h : i < min (a .edges) (length (a .first .now)) = omega (arith, v .0, c .before .before .before .before .before .before .before .before .before .before .before .before .before .before .loop-test .taken) in
+    let t = c .before .before .before .before .before .before .before .before .before .before .before .before .next-normal .ensures in
+    let next = normal-next (distanceBy (a .keys .now) (a .distances .now) (a .count)) (a .voxel-size .0) (a .edges) (a .first .now) i h in
+    let nx = c .before .before .before .before .before .before .before .before .before .before .put .ensures in
+    let ny = c .before .before .before .before .before .before .put2 .ensures in
+    let nz = c .before .before .put3 .ensures in (
+      v .0,
+      t,
+      omega (arith, c .before .before .before .before .before .before .before .before .before .before .put .kept .0, v .2),
+      omega (arith, c .before .before .before .before .before .before .put2 .kept .0, v .3),
+      omega (arith, c .before .before .put3 .kept .0, v .4),
+      v .5 ∙ column-more (λ (u : Normal). u .x) _ i _ _ _ _ next (nx ∙ rw t),
+      v .6 ∙ column-more (λ (u : Normal). u .y) _ i _ _ _ _ next (ny ∙ rw t),
+      v .7 ∙ column-more (λ (u : Normal). u .z) _ i _ _ _ _ next (nz ∙ rw t),
+    )
+
+same-length : tie.Need-same-length Inv-loop μ-loop
+same-length c = search needs
+
+same-length-2 : tie.Need-same-length-2 Inv-loop μ-loop
+same-length-2 c = search needs
+
+same-length-3 : tie.Need-same-length-3 Inv-loop μ-loop
+same-length-3 c = search needs
+
+returns : tie.Need-returns Inv-loop μ-loop
+returns c =
+    let l = c .before in
+    let v = l .loop .inv in
+    let a = l .before .before .before .before .before .before .before .before .before .args in
+    let h : min (a .edges) (length (a .first .now)) ≤ l .loop .i = omega (arith, v .0) in
+    let end = normals-end (distanceBy (a .keys .now) (a .distances .now) (a .count)) (a .voxel-size .0) (a .edges) (a .first .now) (l .loop .i) h in (
+      column-done (λ (u : Normal). u .x) _ (l .loop .i) _ _ (v .5) end,
+      (column-done (λ (u : Normal). u .y) _ (l .loop .i) _ _ (v .6) end, column-done (λ (u : Normal). u .z) _ (l .loop .i) _ _ (v .7) end),
+    )
+
+pub list-normals-spec : {M : Type 1} → statement M
+list-normals-spec =
+    tie.close
+    (tie.spec
+    Inv-loop
+    μ-loop
+    least-requires
+    compute-normal-requires
+    loop-holds
+    mul-key
+    shared-slice-read-key
+    next-normal-requires
+    put-requires
+    put-requires-2
+    put-requires-3
+    add-i
+    loop-less
+    loop-again
+    same-length
+    same-length-2
+    same-length-3
+    returns)
