@@ -1,0 +1,8 @@
+pub mod GroupLaws
+pub mod PartLaws
+pub mod CountingLaws
+pub mod NumberLaws
+pub mod PlacingLaws
+pub mod Neighbourhoods
+pub mod Handed
+pub mod Determined

@@ -1,0 +1,4 @@
+pub mod Groups
+pub mod CellEdges
+pub mod Near
+pub mod Steps

@@ -1,0 +1,58 @@
+-- A cell's group worked out from its own neighbourhood, on any edge list. On the edge list of a table it is the group (`near-is-group` of proofs/NearLaws.antt).
+use Prim.Native.Nat.{ℕ, suc, min, max}
+use mathlib.Core.Bool.{cond}
+use mathlib.Core.List.{List, [], _∷_}
+use lib.Dec.{eqb}
+use lib.ListN.{length, drop}
+use Rattle.lists.specs.Padding.{padded}
+use Rattle.neighbors.specs.Neighbors.{neighbours}
+use Rattle.table.specs.Keys.{halved}
+use Rattle.table.specs.declared.Found.{Found}
+use Rattle.table.specs.declared.Found.the-variants.{At, Absent}
+use Rattle.edges.specs.Edges.{Edge}
+use Rattle.edges.specs.Listing.{firsts}
+use Rattle.groups.specs.CellEdges.{paired, edgesIn, pairsOk}
+use Rattle.groups.specs.declared.Group.{Group}
+
+-- the number of the edge between a and b, among edges from number n on, as long as they start at a
+unfoldable pub scanned : ℕ → ℕ → ℕ → List Edge → Found
+scanned n a b [] = Absent
+scanned n a b (e ∷ es) = cond (eqb (e .first) a) (cond (eqb (e .second) b) (At n) (scanned (suc n) a b es)) Absent
+
+-- the number of the edge between a and b: by halves to the place of a, and on from there
+unfoldable pub numberBy : ℕ → ℕ → List Edge → Found
+unfolding scanned
+numberBy a b es = let p = halved a (firsts es) in scanned p a b (drop p es)
+
+-- the number of the edge between two cells, the smaller key first
+abbrev pub pairNumber : List Edge → ℕ → ℕ → Found
+pairNumber es cell other = numberBy (min cell other) (max cell other) es
+
+-- x put into an ascending list
+unfoldable pub placedIn : ℕ → List ℕ → List ℕ
+placedIn x [] = x ∷ []
+placedIn x (y ∷ ys) = min x y ∷ placedIn (max x y) ys
+
+unfoldable pub withNumber : Found → List ℕ → List ℕ
+unfolding placedIn
+withNumber (At i) numbers = placedIn i numbers
+withNumber Absent numbers = numbers
+
+-- the numbers of the edges between a cell and others
+unfoldable pub gathered : List Edge → ℕ → List ℕ → List ℕ
+unfolding withNumber numberBy
+gathered es cell [] = []
+gathered es cell (other ∷ others) = withNumber (pairNumber es cell other) (gathered es cell others)
+
+-- those between a cell and its neighbours
+abbrev pub nearGroup : List Edge → ℕ → List ℕ
+nearGroup es cell = gathered es cell (neighbours cell)
+
+-- numbers in a room of 14, and how many there are
+abbrev pub held : List ℕ → Group
+held numbers = record { numbers = padded 0 14 numbers; count = length numbers }
+
+-- the group of a cell from two lists of edges; empty where 2 would refuse them
+unfoldable pub groupIn : List ℕ → List ℕ → ℕ → ℕ → List ℕ
+unfolding gathered paired
+groupIn first second count cell = cond (pairsOk (length first) (length second) count) (nearGroup (edgesIn first second count) cell) []
