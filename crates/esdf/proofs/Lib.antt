@@ -1,0 +1,7 @@
+-- Laws on the march's code.
+pub mod Walking
+pub mod Columns
+pub mod Holding
+pub mod Stepping
+pub mod Marching
+pub mod Computing

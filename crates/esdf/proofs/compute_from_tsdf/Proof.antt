@@ -1,0 +1,66 @@
+-- `esdf::compute_from_tsdf` meets its contract: the tests say what the march may build on, and what it finished, tidied, is what it leaves.
+-- Assumes nothing.
+use mathlib.Core.Path.{_∙_, ap}
+use Rattle.lists.proofs.Bools.{and-eq}
+use Rattle.esdf.proofs.Computing.{may-march, march-left}
+use borrow.Author.Needs.{needs}
+use Rattle.esdf.proofs.compute_from_tsdf.Statement.{statement}
+use Rattle.esdf.proofs.compute_from_tsdf.Tie as tie
+
+set-ok-requires : tie.Need-set-ok-requires
+set-ok-requires c κs = search needs
+
+set-ok-requires-2 : tie.Need-set-ok-requires-2
+set-ok-requires-2 c κs = search needs
+
+check-requires : tie.Need-check-requires
+check-requires c κs = search needs
+
+clear-requires : tie.Need-clear-requires
+clear-requires c κs = search needs
+
+march-if-requires : tie.Need-march-if-requires
+march-if-requires c κs =
+    let a = c .before .before .before .before .before .before .before .before .before .before .before .before .before .before .before .before .before .before .before .before .before .before .before .before .before .before .before .args in
+    let e = c .before .before .before .before .before .before .before .before .before .before .before .before .clear .ensures in
+    may-march (a .settings) (a .keys .now) (a .distances .now) (a .weights .now) (a .count) (a .threshold) (a .marched-keys .now) (a .waiting-keys .now) (a .marched-distances .now) (a .waiting-estimates .now) _ _ _ _ (and-eq (c .before .before .before .before .before .before .before .before .before .before .before .before .before .before .before .before .before .before .before .set-ok .ensures) (c .before .before .before .before .before .before .before .before .before .before .before .before .before .before .before .before .before .before .set-ok2 .ensures)) (c .before .before .before .before .before .before .before .before .before .before .before .before .before .before .before .before .before .check .ensures) (e .0) (e .1 .0) (e .1 .1 .0) (e .1 .1 .1)
+
+tidy-requires : tie.Need-tidy-requires
+tidy-requires c κs = search needs
+
+same-length : tie.Need-same-length
+same-length c = search needs
+
+same-length-2 : tie.Need-same-length-2
+same-length-2 c = search needs
+
+same-length-3 : tie.Need-same-length-3
+same-length-3 c = search needs
+
+same-length-4 : tie.Need-same-length-4
+same-length-4 c = search needs
+
+returns : tie.Need-returns
+returns c =
+    let a = c .before .before .before .before .before .before .before .before .before .before .before .before .before .before .before .before .before .before .before .before .before .before .before .before .before .before .before .before .before .before .before .before .before .before .before .before .before .before .before .before .before .before .before .before .before .before .before .before .before .args in
+    let l = c .before .before .before .before .before .before .before .before .before .before .before .before .before .before .before .before .before .before .before .before .before .before .before .before .before .before .before .before .before .before .before .before .before .before .clear .last in
+    let k = c .before .before .before .before .before .before .before .before .before .before .before .before .before .before .before .before .before .before .before .before .before .before .before .before .before .before .before .before .before .before .before .before .before .before .clear .kept in
+    let m = c .before .before .before .before .before .before .before .before .before .before .before .before .before .before .before .before .before .before .before .before .before .march-if .kept in
+    let t = c .before .before .before .before .before .before .before .before .tidy .ensures in
+    march-left (a .settings) (a .keys .now) (a .distances .now) (a .weights .now) (a .count) (a .threshold) (a .marched-keys .now) (a .waiting-keys .now) (a .marched-distances .now) (a .waiting-estimates .now) (l .0) (l .1 .1 .1 .0) (and-eq (c .before .before .before .before .before .before .before .before .before .before .before .before .before .before .before .before .before .before .before .before .before .before .before .before .before .before .before .before .before .before .before .before .before .before .before .before .before .before .before .before .before .set-ok .ensures) (c .before .before .before .before .before .before .before .before .before .before .before .before .before .before .before .before .before .before .before .before .before .before .before .before .before .before .before .before .before .before .before .before .before .before .before .before .before .before .before .before .set-ok2 .ensures)) (c .before .before .before .before .before .before .before .before .before .before .before .before .before .before .before .before .before .before .before .before .before .before .before .before .before .before .before .before .before .before .before .before .before .before .before .before .before .before .before .check .ensures) (k .0) (k .1 .1 .1 .0) _ _ _ _ (m .1 .1 .1 .1 .1 .1 .1 .1 .0 ∙ k .0) (m .1 .1 .1 .1 .1 .1 .1 .1 .1 .0 ∙ k .1 .0) (m .1 .1 .1 .1 .1 .1 .1 .1 .1 .1 .0 ∙ k .1 .1 .0) (m .1 .1 .1 .1 .1 .1 .1 .1 .1 .1 .1 .0 ∙ k .1 .1 .1 .0) _ (c .before .before .before .before .before .before .before .before .before .before .before .before .before .before .before .before .before .before .before .before .before .march-if .ensures) _ _ _ _ (t .0) (t .1 .0) (t .1 .1 .0) (t .1 .1 .1)
+
+pub compute-from-tsdf-spec : {M : Type 1} → statement M
+compute-from-tsdf-spec =
+    tie.close
+    (tie.spec
+    set-ok-requires
+    set-ok-requires-2
+    check-requires
+    clear-requires
+    march-if-requires
+    tidy-requires
+    same-length
+    same-length-2
+    same-length-3
+    same-length-4
+    returns)

@@ -1,0 +1,10 @@
+-- Laws on the march.
+pub mod KeysOnce
+pub mod Sound
+pub mod Wider
+pub mod Rows
+pub mod Bounded
+pub mod Lattice
+pub mod Least
+pub mod Facts
+pub mod Samples

@@ -1,0 +1,2 @@
+pub mod March
+pub mod Lattice
