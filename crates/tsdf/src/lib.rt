@@ -379,11 +379,14 @@ fn batch_sound(
 {
     let mut i = 0;
     while i < cells.len() {
+        let key = cells[i];
+        let distance = sdfs[i];
+        let confidence = confidences[i];
         let reading = Reading::Direct {
-            distance: Metres(sdfs[i]),
-            confidence: confidences[i],
+            distance: Metres(distance),
+            confidence,
         };
-        let answer = fuse_sound(settings, keys, distances, weights, count, cells[i], reading);
+        let answer = fuse_sound(settings, keys, distances, weights, count, key, reading);
         match answer {
             Fused::Refused(why) => {
                 return Batched::Refused(why, i);

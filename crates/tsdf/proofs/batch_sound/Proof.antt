@@ -1,6 +1,6 @@
 -- `tsdf::batch_sound` meets its contract: what is left of the batch ends as the whole does.
 -- Assumes nothing.
-use Prim.Native.Nat.{_≤_, _-_}
+use Prim.Native.Nat.{_≤_, _<_, _-_}
 use mathlib.Core.Path.{_≡_, refl, sym, _∙_}
 use native.Mathlib.Omega.{arith}
 use borrow.Author.Needs.{needs}
@@ -28,23 +28,23 @@ abbrev μ-loop : tie.MeasureT-loop
 loop-holds : tie.Need-loop-holds Inv-loop μ-loop
 loop-holds c = (search needs, c .before .before .before .before .before .before .pre .0, refl, refl, refl, refl)
 
-mul-t13 : tie.Need-mul-t13 Inv-loop μ-loop
-mul-t13 c = omega arith
+mul-key : tie.Need-mul-key Inv-loop μ-loop
+mul-key c = omega arith
 
-shared-slice-read-t16 : tie.Need-shared-slice-read-t16 Inv-loop μ-loop
-shared-slice-read-t16 c = search needs
+shared-slice-read-key : tie.Need-shared-slice-read-key Inv-loop μ-loop
+shared-slice-read-key c = omega arith
 
-mul-t18 : tie.Need-mul-t18 Inv-loop μ-loop
-mul-t18 c = omega arith
+mul-distance : tie.Need-mul-distance Inv-loop μ-loop
+mul-distance c = omega arith
 
-shared-slice-read-t20 : tie.Need-shared-slice-read-t20 Inv-loop μ-loop
-shared-slice-read-t20 c = search needs
+shared-slice-read-distance : tie.Need-shared-slice-read-distance Inv-loop μ-loop
+shared-slice-read-distance c = omega arith
 
-mul-fuse-sound : tie.Need-mul-fuse-sound Inv-loop μ-loop
-mul-fuse-sound c = search needs
+mul-confidence : tie.Need-mul-confidence Inv-loop μ-loop
+mul-confidence c = omega arith
 
-shared-slice-read-fuse-sound : tie.Need-shared-slice-read-fuse-sound Inv-loop μ-loop
-shared-slice-read-fuse-sound c = search needs
+shared-slice-read-confidence : tie.Need-shared-slice-read-confidence Inv-loop μ-loop
+shared-slice-read-confidence c = omega arith
 
 fuse-sound-requires : tie.Need-fuse-sound-requires Inv-loop μ-loop
 fuse-sound-requires c κs = c .before .before .before .before .before .before .before .before .loop .inv .1
@@ -67,7 +67,7 @@ returns c =
     let l = f .before .before .before .before .before .before .before .before .before in
     let s = f .before .before .before .before .before .before .before .before .before .before .before .before .before .before .before .before in
     let a = s .args in
-    let h = f .before .before .before .before .before .before .before .before .loop-test .taken in
+    let h : l .loop .i < length (a .cells .now) = omega (arith, f .before .before .before .before .before .before .before .before .loop-test .taken) in
     sym (l .loop .inv .2 ∙ stops (a .settings) (table (l .loop .keys) (l .loop .distances) (l .loop .weights) (l .loop .count)) (a .cells .now) (a .sdfs .now) (a .confidences .now) (l .loop .i) (s .pre .1 .0) (s .pre .1 .1) h _ _ (f .fuse-sound .ensures) _ (c .before .answer .given .1))
 
 enum-told : tie.Need-enum-told Inv-loop μ-loop
@@ -85,7 +85,7 @@ loop-again c =
     let l = f .before .before .before .before .before .before .before .before .before in
     let s = f .before .before .before .before .before .before .before .before .before .before .before .before .before .before .before .before in
     let a = s .args in
-    let h = f .before .before .before .before .before .before .before .before .loop-test .taken in (
+    let h : l .loop .i < length (a .cells .now) = omega (arith, f .before .before .before .before .before .before .before .before .loop-test .taken) in (
       omega arith,
       passes-again (a .settings) (table (l .loop .keys) (l .loop .distances) (l .loop .weights) (l .loop .count)) (a .cells .now) (a .sdfs .now) (a .confidences .now) (l .loop .i) (s .pre .1 .0) (s .pre .1 .1) h _ _ (f .fuse-sound .ensures) (l .loop .inv .1),
       l .loop .inv .2 ∙ goes-on-far (a .settings) (table (l .loop .keys) (l .loop .distances) (l .loop .weights) (l .loop .count)) (a .cells .now) (a .sdfs .now) (a .confidences .now) (l .loop .i) (s .pre .1 .0) (s .pre .1 .1) h _ _ (f .fuse-sound .ensures) (c .enum-told .given .1),
@@ -109,7 +109,7 @@ loop-again-2 c =
     let l = f .before .before .before .before .before .before .before .before .before in
     let s = f .before .before .before .before .before .before .before .before .before .before .before .before .before .before .before .before in
     let a = s .args in
-    let h = f .before .before .before .before .before .before .before .before .loop-test .taken in (
+    let h : l .loop .i < length (a .cells .now) = omega (arith, f .before .before .before .before .before .before .before .before .loop-test .taken) in (
       omega arith,
       passes-again (a .settings) (table (l .loop .keys) (l .loop .distances) (l .loop .weights) (l .loop .count)) (a .cells .now) (a .sdfs .now) (a .confidences .now) (l .loop .i) (s .pre .1 .0) (s .pre .1 .1) h _ _ (f .fuse-sound .ensures) (l .loop .inv .1),
       l .loop .inv .2 ∙ goes-on (a .settings) (table (l .loop .keys) (l .loop .distances) (l .loop .weights) (l .loop .count)) (a .cells .now) (a .sdfs .now) (a .confidences .now) (l .loop .i) (s .pre .1 .0) (s .pre .1 .1) h _ _ (f .fuse-sound .ensures) (c .enum-told2 .given .1),
@@ -140,12 +140,12 @@ batch-sound-spec =
     Inv-loop
     μ-loop
     loop-holds
-    mul-t13
-    shared-slice-read-t16
-    mul-t18
-    shared-slice-read-t20
-    mul-fuse-sound
-    shared-slice-read-fuse-sound
+    mul-key
+    shared-slice-read-key
+    mul-distance
+    shared-slice-read-distance
+    mul-confidence
+    shared-slice-read-confidence
     fuse-sound-requires
     enum-known-answer
     same-length

@@ -1,0 +1,4 @@
+pub mod Lookups
+pub mod Surface
+pub mod Statistics
+pub mod Steps
