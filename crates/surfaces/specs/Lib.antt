@@ -1,0 +1,5 @@
+pub mod Corners
+pub mod Areas
+pub mod Boxes
+pub mod Stats
+pub mod Steps
