@@ -1,3 +1,5 @@
 pub mod Sets
 pub mod AreaLaws
 pub mod BoxLaws
+pub mod Samples
+pub mod Determined
