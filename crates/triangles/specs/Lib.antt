@@ -1,0 +1,5 @@
+pub mod Threes
+pub mod Triangles
+pub mod TriangleList
+pub mod Building
+pub mod Steps
