@@ -1,0 +1,28 @@
+// Runs beside the Rust: the plain reading of document 01, the Rust with ordered tables, and the C face, over the same cases.
+pub mod calls;
+pub mod case;
+pub mod face;
+pub mod make;
+pub mod plain;
+pub mod rng;
+pub mod shrink;
+pub mod table;
+
+#[cfg(rust)]
+pub mod beside;
+
+// The Rust with its maps and sets ordered. Its text is not this repository's, so its warnings are not ours to mend.
+#[cfg(rust)]
+#[allow(warnings)]
+#[rustfmt::skip]
+pub mod ordered {
+    include!(concat!(env!("OUT_DIR"), "/ordered.rs"));
+}
+
+// The Rust with its own hash tables.
+#[cfg(rust)]
+#[allow(warnings)]
+#[rustfmt::skip]
+pub mod hashed {
+    include!(concat!(env!("OUT_DIR"), "/hashed.rs"));
+}

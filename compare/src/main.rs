@@ -1,0 +1,111 @@
+// compare [SEED [CASES [CALL..]]]: every call over CASES random cases: the plain reading of document 01 beside the Rust with ordered tables,
+// and beside the C face, bit for bit. Prints a table, and for a difference the smallest input found that shows it; exits 1 on one.
+use compare::calls::PLAIN;
+use compare::case::Case;
+use compare::face::{FACE, LANDED};
+use compare::rng::Rng;
+use compare::shrink::{show, shrink};
+use compare::table::{judge, Compared, Judged, COMPARED};
+use std::collections::BTreeMap;
+use std::process::ExitCode;
+
+// The sides that are held to the plain reading.
+#[derive(Clone, Copy, PartialEq)]
+enum Beside {
+    Rust,
+    Face,
+}
+
+fn judged(c: &Compared, case: &Case, by: Beside) -> Option<Judged> {
+    let plain = (c.ask)(&PLAIN, case);
+    let other = match by {
+        Beside::Rust => c.rust.and_then(|rust| rust(case))?,
+        Beside::Face => (c.ask)(&FACE, case),
+    };
+    Some(judge(&plain, &other, by == Beside::Rust))
+}
+
+#[derive(Default)]
+struct Tally {
+    asked: usize,
+    stated: usize,
+    differences: usize,
+    first: Option<Case>,
+}
+
+impl Tally {
+    fn add(&mut self, c: &Compared, case: &Case, by: Beside) {
+        match judged(c, case, by) {
+            None => return,
+            Some(Judged::Same) => {}
+            Some(Judged::Stated) => self.stated += 1,
+            Some(Judged::Differs(_)) => {
+                self.differences += 1;
+                self.first.get_or_insert_with(|| case.clone());
+            }
+        }
+        self.asked += 1;
+    }
+
+    // The smallest input found that shows a difference, and what differs.
+    fn explain(&self, c: &Compared, by: Beside) {
+        let Some(case) = &self.first else { return };
+        let differs = |case: &Case| matches!(judged(c, case, by), Some(Judged::Differs(_)));
+        let small = shrink(case.clone(), &differs);
+        let Some(Judged::Differs(what)) = judged(c, &small, by) else { unreachable!() };
+        let side = if by == Beside::Rust { "the Rust" } else { "the C face" };
+        println!("  {}, {side}: {what}\n{}", c.name, show(&small));
+    }
+
+    fn shown(&self) -> String {
+        if self.asked == 0 {
+            format!("{:>10} {:>7} {:>7}", "-", "-", "-")
+        } else {
+            format!("{:>10} {:>7} {:>7}", self.asked, self.stated, self.differences)
+        }
+    }
+}
+
+fn run(c: &Compared, seed: u64, cases: usize, answers: &mut BTreeMap<u32, usize>) -> (Tally, Tally) {
+    let mut r = Rng::new(seed, c.name);
+    let landed = LANDED.contains(&c.name);
+    let (mut rust, mut face) = (Tally::default(), Tally::default());
+    for _ in 0..cases {
+        let case = (c.make)(&mut r);
+        if c.rust.is_some() {
+            rust.add(c, &case, Beside::Rust);
+        }
+        if landed {
+            face.add(c, &case, Beside::Face);
+        }
+        *answers.entry((c.ask)(&PLAIN, &case).answer.unwrap_or(0)).or_default() += 1;
+    }
+    (rust, face)
+}
+
+fn compare(seed: u64, cases: usize, only: &[String]) -> ExitCode {
+    println!("seed {seed}; the plain reading of document 01 beside the Rust with ordered tables, and beside the C face");
+    println!("{:28}{:>9} | {:>10} {:>7} {:>7} | {:>10} {:>7} {:>7} | answers", "call", "cases", "the Rust", "stated", "differ", "the face", "", "differ");
+    let mut differences = 0;
+    for c in COMPARED.iter().filter(|c| only.is_empty() || only.iter().any(|n| n == c.name || c.name[4..] == *n)) {
+        let mut answers = BTreeMap::new();
+        let (rust, face) = run(c, seed, cases, &mut answers);
+        let told: Vec<String> = answers.iter().map(|(a, n)| format!("{a}:{n}")).collect();
+        println!("{:28}{:>9} | {} | {} | {}", c.name, cases, rust.shown(), face.shown(), told.join(" "));
+        rust.explain(c, Beside::Rust);
+        face.explain(c, Beside::Face);
+        differences += rust.differences + face.differences;
+    }
+    println!("differences: {differences}");
+    ExitCode::from((differences > 0) as u8)
+}
+
+fn main() -> ExitCode {
+    let arguments: Vec<String> = std::env::args().skip(1).collect();
+    if !cfg!(rust) {
+        println!("The Rust isn't at ../shared/docs/src beside this repository: nothing is compared.");
+        return ExitCode::SUCCESS;
+    }
+    let number = |i: usize, default: u64| arguments.get(i).map_or(default, |s| s.parse().expect("a number"));
+    compare(number(0, 1), number(1, 100_000) as usize, arguments.get(2..).unwrap_or(&[]))
+}
