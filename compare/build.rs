@@ -74,137 +74,164 @@ fn face(out: &Path) {
 
 // The Rust
 
-struct Text {
+// A source file without its comments, as its items: each with its attributes, in order.
+struct Source {
     file: &'static str,
-    text: String,
+    items: Vec<String>,
 }
 
-impl Text {
-    fn read(folder: &Path, file: &'static str) -> Text {
-        Text { file, text: fs::read_to_string(folder.join(file)).unwrap() }
+// The first line that is no attribute.
+fn header(item: &str) -> &str {
+    item.lines().find(|l| !l.starts_with("#[")).unwrap_or("")
+}
+
+impl Source {
+    // The layout of rustfmt is relied on: an item ends with a line that begins with a closing bracket or ends with a semicolon.
+    fn read(folder: &Path, file: &'static str) -> Source {
+        let text = fs::read_to_string(folder.join(file)).unwrap();
+        let (mut items, mut item) = (Vec::new(), String::new());
+        for line in text.lines().filter(|l| !l.trim_start().starts_with("//") && !l.trim().is_empty()) {
+            item += line;
+            item.push('\n');
+            if line.starts_with('}') || line.starts_with(']') || (!line.starts_with(' ') && line.ends_with(';')) {
+                items.push(std::mem::take(&mut item));
+            }
+        }
+        assert!(item.is_empty(), "{file}: an item does not end");
+        Source { file, items }
     }
 
-    // Replaces `old`, which must stand exactly `times` times.
-    fn edit(mut self, times: usize, old: &str, new: &str) -> Text {
-        let found = self.text.matches(old).count();
-        assert!(found == times, "{}: expected {times} of this, found {found}:\n{old}", self.file);
-        self.text = self.text.replace(old, new);
+    // Keeps the items whose header begins so, each of which must be there once.
+    fn keep(mut self, headers: &[&str]) -> Source {
+        for h in headers {
+            let found = self.items.iter().filter(|i| header(i).starts_with(h)).count();
+            assert!(found == 1, "{}: expected one item `{h}`, found {found}", self.file);
+        }
+        self.items.retain(|i| headers.iter().any(|h| header(i).starts_with(h)));
         self
     }
 
-    // Where `mark`, which must stand exactly once, begins.
-    fn at(&self, mark: &str) -> usize {
-        let found = self.text.matches(mark).count();
-        assert!(found == 1, "{}: expected 1 of this, found {found}:\n{mark}", self.file);
-        self.text.find(mark).unwrap()
-    }
-
-    // Keeps the text from one mark up to the next.
-    fn keep(mut self, from: &str, to: &str) -> Text {
-        let (a, b) = (self.at(from), self.at(to));
-        assert!(a < b, "{}: the marks stand the wrong way round", self.file);
-        self.text = self.text[a..b].to_string();
+    // Drops the items whose header begins so, of which there must be this many.
+    fn drop(mut self, times: usize, begins: &str) -> Source {
+        let before = self.items.len();
+        self.items.retain(|i| !header(i).starts_with(begins));
+        assert!(before - self.items.len() == times, "{}: expected {times} of `{begins}`, found {}", self.file, before - self.items.len());
         self
     }
 
-    // Drops the text from one mark up to the next.
-    fn cut(mut self, from: &str, to: &str) -> Text {
-        let (a, b) = (self.at(from), self.at(to));
-        assert!(a < b, "{}: the marks stand the wrong way round", self.file);
-        self.text.replace_range(a..b, "");
+    // Drops a method.
+    fn drop_method(mut self, name: &str) -> Source {
+        let start = format!("    pub fn {name}(");
+        let found = self.items.iter().filter(|i| i.contains(&start)).count();
+        assert!(found == 1, "{}: expected one method {name}, found {found}", self.file);
+        let item = self.items.iter_mut().find(|i| i.contains(&start)).unwrap();
+        let a = item.find(&start).unwrap();
+        let b = a + item[a..].find("\n    }\n").unwrap() + "\n    }\n".len();
+        item.replace_range(a..b, "");
         self
     }
 
-    // Drops everything from a mark on.
-    fn cut_from(mut self, from: &str) -> Text {
-        let a = self.at(from);
-        self.text.truncate(a);
+    // Drops attribute lines that begin so, of which there must be this many.
+    fn drop_attribute(mut self, times: usize, begins: &str) -> Source {
+        let mut found = 0;
+        for item in &mut self.items {
+            let kept: Vec<&str> = item.lines().filter(|l| !l.starts_with(begins)).collect();
+            found += item.lines().count() - kept.len();
+            *item = kept.join("\n") + "\n";
+        }
+        assert!(found == times, "{}: expected {times} of `{begins}`, found {found}", self.file);
         self
     }
 
-    // Hash tables to ordered ones, wherever they are named.
-    fn ordered(mut self, ordered: bool, maps: usize, sets: usize) -> Text {
+    // Makes everything public: structs and their fields, functions and methods.
+    fn open(mut self) -> Source {
+        for item in &mut self.items {
+            let head = header(item).to_string();
+            let fields = head.starts_with("struct ") || head.starts_with("pub struct ");
+            let methods = head.starts_with("impl ") && !head.contains(" for ");
+            let opened: Vec<String> = item
+                .lines()
+                .map(|l| {
+                    let private = l.starts_with("struct ") || l.starts_with("fn ");
+                    let field = fields && l.starts_with("    ") && l.ends_with(',') && !l.trim_start().starts_with("pub ");
+                    let method = methods && l.starts_with("    fn ");
+                    match (private, field || method) {
+                        (true, _) => format!("pub {l}"),
+                        (_, true) => format!("    pub {}", l.trim_start()),
+                        _ => l.to_string(),
+                    }
+                })
+                .collect();
+            *item = opened.join("\n") + "\n";
+        }
+        self
+    }
+
+    // Hash tables to ordered ones, wherever they are named: this many maps and sets.
+    fn tables(mut self, ordered: bool, maps: usize, sets: usize) -> Source {
         for (old, new, times) in [("HashMap", "BTreeMap", maps), ("HashSet", "BTreeSet", sets)] {
-            let found = self.text.matches(old).count();
+            let found: usize = self.items.iter().map(|i| i.matches(old).count()).sum();
             assert!(found == times, "{}: expected {times} of {old}, found {found}", self.file);
             if ordered {
-                self.text = self.text.replace(old, new);
+                self.items.iter_mut().for_each(|i| *i = i.replace(old, new));
             }
         }
         self
     }
 
-    fn module(self, name: &str) -> String {
-        // `//!` may stand only at a module's start, where this puts it
-        format!("pub mod {name} {{\n{}\n}}\n", self.text)
+    // Puts a statement after each statement that begins so, of which there must be this many.
+    fn after(mut self, times: usize, begins: &str, put: &str) -> Source {
+        let mut found = 0;
+        for item in &mut self.items {
+            let mut at = 0;
+            while let Some(a) = item[at..].find(begins) {
+                let end = at + a + item[at + a..].find(";\n").unwrap() + 2;
+                item.insert_str(end, put);
+                at = end + put.len();
+                found += 1;
+            }
+        }
+        assert!(found == times, "{}: expected {times} of `{begins}`, found {found}", self.file);
+        self
+    }
+
+    fn module(self, name: &str, uses: &str) -> String {
+        format!("pub mod {name} {{\n{uses}\n{}\n}}\n", self.items.concat())
     }
 }
 
 fn library(folder: &Path, name: &str, ordered: bool) -> String {
-    let lattice = Text::read(folder, "lattice.rs");
-
+    let lattice = Source::read(folder, "lattice.rs");
     // Index64 alone, without its text form and serde
-    let ids = Text::read(folder, "ids.rs")
-        .keep("/// 64-bit database key using Morton (Z-order) encoding", "/// 64-bit local routing coordinate (signed 20-bit BCC)")
-        .cut("    /// Encode to Bech32m string", "    /// Create Index64 from a raw value after validating the header and payload.")
-        .edit(1, "#[cfg_attr(feature = \"serde\", derive(Serialize, Deserialize))]\n", "")
-        .edit(1, "pub struct Index64 {\n    value: u64,", "pub struct Index64 {\n    pub value: u64,");
-    let ids = Text {
-        file: ids.file,
-        text: format!("use crate::error::{{Error, Result}};\nuse crate::morton;\nuse std::fmt;\npub type FrameId = u8;\n{}", ids.text),
-    };
-
-    let neighbors = Text::read(folder, "neighbors.rs")
-        .keep("/// Get 14 neighbors of an Index64 coordinate", "/// Get 14 neighbors of a Galactic128 coordinate");
-    let neighbors = Text {
-        file: neighbors.file,
-        text: format!("use crate::ids::Index64;\nuse crate::lattice::BCC_NEIGHBORS_14;\n{}", neighbors.text),
-    };
-
-    let bcc_utils = Text::read(folder, "layers/bcc_utils.rs");
-
-    let tsdf = Text::read(folder, "layers/tsdf.rs")
-        .edit(1, "use super::{Layer, LayerType, Measurement, MeasurementType};\n", "")
-        .edit(1, "use crate::error::{Error, Result};", "use crate::error::Result;")
-        .edit(1, "\nstruct TSDFVoxel {", "\npub struct TSDFVoxel {")
-        .edit(1, "    /// Signed distance value (truncated)\n    distance: f32,", "    pub distance: f32,")
-        .edit(1, "    /// Cumulative weight for averaging\n    weight: f32,", "    pub weight: f32,")
-        .edit(1, "\n    voxels: ", "\n    pub voxels: ")
-        .edit(1, "    fn update_from_depth(&mut self", "    pub fn update_from_depth(&mut self")
-        .cut_from("impl Layer for TSDFLayer {")
-        .ordered(ordered, 4, 0);
-
-    // The march's takings, and the size of its tables after each store and each waiting cell, are told to `counted`
-    let esdf = Text::read(folder, "layers/esdf.rs")
-        .edit(1, "use super::{Layer, LayerType};\n", "")
-        .edit(1, "use ordered_float::OrderedFloat;", "use crate::ordered_float::OrderedFloat;")
-        .edit(1, "\nstruct ESDFVoxel {", "\npub struct ESDFVoxel {")
-        .edit(1, "    /// Signed distance value (no truncation)\n    distance: f32,", "    pub distance: f32,")
-        .edit(1, "    /// Whether this voxel has been processed\n    fixed: bool,", "    pub fixed: bool,")
-        .edit(1, "\n    voxels: ", "\n    pub voxels: ")
-        .cut_from("impl Layer for ESDFLayer {")
-        .ordered(ordered, 3, 3);
-    let esdf = if ordered {
-        esdf.edit(1, "            pending.remove(&current_idx);\n", "            pending.remove(&current_idx);\n            crate::counted::taking();\n")
-            .edit(1, "                    distance: dist,\n                    fixed: true,\n                },\n            );\n", "                    distance: dist,\n                    fixed: true,\n                },\n            );\n            crate::counted::stored(self.voxels.len());\n")
-            .edit(1, "                    distance: clamped_distance,\n                    fixed: true,\n                },\n            );\n", "                    distance: clamped_distance,\n                    fixed: true,\n                },\n            );\n            crate::counted::stored(self.voxels.len());\n")
-            .edit(1, "open.push(Reverse((OrderedFloat(dist.abs()), neighbor_idx)));", "open.push(Reverse((OrderedFloat(dist.abs()), neighbor_idx)));\n                    crate::counted::waiting(open.len());")
-            .edit(1, "open.push(Reverse((OrderedFloat(estimated_dist), neighbor_idx)));", "open.push(Reverse((OrderedFloat(estimated_dist), neighbor_idx)));\n                        crate::counted::waiting(open.len());")
-    } else {
-        esdf
-    };
-
-    let mesh = Text::read(folder, "layers/mesh.rs").ordered(ordered, 7, 3);
-
-    let supplied = Text { file: "supplied.rs", text: fs::read_to_string("src/supplied.rs").unwrap() };
-    let mut text = supplied.text;
-    for (module, of) in [("lattice", lattice), ("ids", ids), ("neighbors", neighbors)] {
-        text += &of.module(module);
+    let ids = Source::read(folder, "ids.rs")
+        .keep(&["pub struct Index64 {", "impl Index64 {", "impl fmt::Display for Index64 {", "pub type FrameId"])
+        .drop_method("to_bech32m")
+        .drop_method("from_bech32m")
+        .drop_attribute(1, "#[cfg_attr(feature = \"serde\"")
+        .open();
+    let neighbors = Source::read(folder, "neighbors.rs").keep(&["pub fn neighbors_index64("]);
+    let bcc_utils = Source::read(folder, "layers/bcc_utils.rs").open();
+    // without the trait `Layer`
+    let tsdf = Source::read(folder, "layers/tsdf.rs").drop(1, "impl Layer for ").drop(1, "mod neighbors_ext").drop(1, "use super::").drop(1, "use crate::error").tables(ordered, 4, 0).open();
+    let mut esdf = Source::read(folder, "layers/esdf.rs").drop(1, "impl Layer for ").drop(1, "use super::").drop(1, "use ordered_float::").tables(ordered, 3, 3).open();
+    if ordered {
+        // a march tells its takings, and how many rows and waiting cells it has after each store and each push
+        esdf = esdf
+            .after(1, "pending.remove(", "crate::counted::taking();\n")
+            .after(2, "self.voxels.insert(", "crate::counted::stored(self.voxels.len());\n")
+            .after(2, "open.push(", "crate::counted::waiting(open.len());\n");
     }
+    let mesh = Source::read(folder, "layers/mesh.rs").tables(ordered, 7, 3).open();
+
+    let mut text = fs::read_to_string("src/supplied.rs").unwrap();
+    text += &lattice.module("lattice", "");
+    text += &ids.module("ids", "use crate::error::{Error, Result};\nuse crate::morton;\nuse std::fmt;");
+    text += &neighbors.module("neighbors", "use crate::ids::Index64;\nuse crate::lattice::BCC_NEIGHBORS_14;");
     text += "pub mod layers {\n";
-    for (module, of) in [("bcc_utils", bcc_utils), ("tsdf", tsdf), ("esdf", esdf), ("mesh", mesh)] {
-        text += &of.module(module);
-    }
+    text += &bcc_utils.module("bcc_utils", "");
+    text += &tsdf.module("tsdf", "use crate::error::Result;");
+    text += &esdf.module("esdf", "use crate::ordered_float::OrderedFloat;");
+    text += &mesh.module("mesh", "");
     text += "pub use esdf::ESDFLayer;\npub use tsdf::TSDFLayer;\n}\npub use ids::Index64;\n";
     // the library's root is a module here
     text.replace("crate::", &format!("crate::{name}::"))

@@ -1,11 +1,8 @@
 // The calls of the C face: their shape, how a case is handed to one, and what is read from it afterwards.
 // The plain reading and the C face have the same shape, so that one way of asking serves both.
 use crate::case::{rubbish, Bits, Case, Outcome};
-use crate::plain::fuse::TableMut;
-use crate::plain::marched::Marched;
-use crate::plain::mesh::{Lists, Places, Triangles};
-use crate::plain::table::{Settings, Table};
-use crate::plain::{self};
+use crate::plain;
+use crate::shape::{Lists, Marched, Places, Settings, Table, TableMut, Triangles};
 
 // One side: a function for each declaration of the header, slices in the place of pointers and lengths.
 pub struct Side {
@@ -39,35 +36,43 @@ pub struct Side {
     pub mesh_stats: fn(Places, &mut u32) -> u32,
 }
 
-pub const PLAIN: Side = Side {
-    index64_new: plain::keys::index64_new,
-    decode_coords: plain::keys::decode_coords,
-    neighbors_index64: plain::keys::neighbors_index64,
-    root: plain::root::root,
-    snap_to_nearest_bcc: plain::snap::snap_to_nearest_bcc,
-    physical_to_bcc_voxel: plain::snap::physical_to_bcc_voxel,
-    is_valid_bcc: plain::snap::is_valid_bcc,
-    update_from_depth: plain::fuse::update_from_depth,
-    update_from_depth_ray: plain::fuse::update_from_depth_ray,
-    batch_update: plain::fuse::batch_update,
-    tsdf_get_distance: plain::table::tsdf_get_distance,
-    tsdf_get_weight: plain::table::tsdf_get_weight,
-    is_surface_voxel: plain::table::is_surface_voxel,
-    tsdf_stats: plain::table::tsdf_stats,
-    get_surface_voxels: plain::table::get_surface_voxels,
-    get_zero_crossing_edges: plain::table::get_zero_crossing_edges,
-    compute_from_tsdf: plain::march::compute_from_tsdf,
-    esdf_get_distance: plain::marched::esdf_get_distance,
-    is_free_space: plain::marched::is_free_space,
-    get_gradient: plain::marched::get_gradient,
-    get_voxels_within_distance: plain::marched::get_voxels_within_distance,
-    esdf_stats: plain::marched::esdf_stats,
-    extract_mesh_from_tsdf: plain::mesh::extract_mesh_from_tsdf,
-    cell_edges: plain::mesh::cell_edges,
-    surface_area: plain::mesh::surface_area,
-    bounding_box: plain::mesh::bounding_box,
-    mesh_stats: plain::mesh::mesh_stats,
-};
+// A reading of document 01 as a side.
+#[macro_export]
+macro_rules! reading {
+    ($name:ident, $of:ident) => {
+        pub const $name: crate::calls::Side = crate::calls::Side {
+            index64_new: $of::keys::index64_new,
+            decode_coords: $of::keys::decode_coords,
+            neighbors_index64: $of::keys::neighbors_index64,
+            root: $of::root::root,
+            snap_to_nearest_bcc: $of::snap::snap_to_nearest_bcc,
+            physical_to_bcc_voxel: $of::snap::physical_to_bcc_voxel,
+            is_valid_bcc: $of::snap::is_valid_bcc,
+            update_from_depth: $of::fuse::update_from_depth,
+            update_from_depth_ray: $of::fuse::update_from_depth_ray,
+            batch_update: $of::fuse::batch_update,
+            tsdf_get_distance: $of::table::tsdf_get_distance,
+            tsdf_get_weight: $of::table::tsdf_get_weight,
+            is_surface_voxel: $of::table::is_surface_voxel,
+            tsdf_stats: $of::table::tsdf_stats,
+            get_surface_voxels: $of::table::get_surface_voxels,
+            get_zero_crossing_edges: $of::table::get_zero_crossing_edges,
+            compute_from_tsdf: $of::march::compute_from_tsdf,
+            esdf_get_distance: $of::marched::esdf_get_distance,
+            is_free_space: $of::marched::is_free_space,
+            get_gradient: $of::marched::get_gradient,
+            get_voxels_within_distance: $of::marched::get_voxels_within_distance,
+            esdf_stats: $of::marched::esdf_stats,
+            extract_mesh_from_tsdf: $of::mesh::extract_mesh_from_tsdf,
+            cell_edges: $of::mesh::cell_edges,
+            surface_area: $of::mesh::surface_area,
+            bounding_box: $of::mesh::bounding_box,
+            mesh_stats: $of::mesh::mesh_stats,
+        };
+    };
+}
+
+reading!(PLAIN, plain);
 
 fn dirty<T: Bits>() -> T {
     T::rubbish(0)

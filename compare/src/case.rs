@@ -1,7 +1,5 @@
 // One case: everything that a call may be handed. Each call reads the parts that it has.
-use crate::plain::mesh::{Places, Triangles};
-use crate::plain::marched::Marched;
-use crate::plain::table::{Settings, Table};
+use crate::shape::{Marched, Places, Settings, Table, Triangles};
 
 #[derive(Clone, Default)]
 pub struct Case {

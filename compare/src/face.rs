@@ -1,10 +1,7 @@
 // The C face, include/akfelzun.h: its declarations, and functions of the plain reading's shape over them. An empty list is
 // handed over as a null pointer, which the header allows.
 use crate::calls::Side;
-use crate::plain::fuse::TableMut;
-use crate::plain::marched::Marched;
-use crate::plain::mesh::{Lists, Places, Triangles};
-use crate::plain::table::{Settings, Table};
+use crate::shape::{Lists, Marched, Places, Settings, Table, TableMut, Triangles};
 use std::ptr::{null, null_mut};
 
 include!(concat!(env!("OUT_DIR"), "/landed.rs"));

@@ -1,21 +1,8 @@
 // Fusing.
 use super::keys::{coords_of, on_lattice};
-use super::table::{distance_ok, lengths_ok, rows_ok, settings_ok, Settings, Table};
+use super::table::{distance_ok, lengths_ok, rows_ok, settings_ok};
 use super::*;
-
-// A table that may take a row.
-pub struct TableMut<'a> {
-    pub keys: &'a mut [u64],
-    pub distances: &'a mut [f32],
-    pub weights: &'a mut [f32],
-    pub count: &'a mut usize,
-}
-
-impl TableMut<'_> {
-    fn seen(&self) -> Table<'_> {
-        Table { keys: self.keys, distances: self.distances, weights: self.weights, count: *self.count }
-    }
-}
+use crate::shape::{Settings, Table, TableMut};
 
 #[derive(Clone, Copy)]
 pub enum Reading {

@@ -1,7 +1,8 @@
 // Marching.
 use super::keys::neighbours;
-use super::table::{near_surface, sound_rows, Row, Settings, Table};
+use super::table::{near_surface, sound_rows, Row};
 use super::*;
+use crate::shape::{Settings, Table};
 
 // The f32 root of 3.
 const DIAGONAL: u32 = 0x3fdd_b3d7;

@@ -2,13 +2,7 @@
 use super::keys::{coords_of, neighbours, on_lattice};
 use super::table::{distance_ok, keys_ok, larger, smaller};
 use super::*;
-
-#[derive(Clone, Copy)]
-pub struct Marched<'a> {
-    pub keys: &'a [u64],
-    pub distances: &'a [f32],
-    pub count: usize,
-}
+use crate::shape::Marched;
 
 // 2 and 3, `lists` being the test of all other lent lists.
 fn sound_rows(m: Marched, lists: bool) -> Done<Vec<(u64, f32)>> {

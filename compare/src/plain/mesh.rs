@@ -1,7 +1,8 @@
 // Mesh, normals, groups, area, box.
 use super::keys::{coords_of, neighbours, on_lattice};
-use super::table::{edges, find, larger, smaller, sound_rows, Row, Settings, Table};
+use super::table::{edges, find, larger, smaller, sound_rows, Row};
 use super::*;
+use crate::shape::{Lists, Places, Settings, Table, Triangles};
 
 // 1e-6
 const TINY: u32 = 0x3586_37bd;
@@ -82,15 +83,6 @@ pub fn mesh(s: Settings, rows: &[Row]) -> Mesh {
     Mesh { edges, vertices, groups, triangles }
 }
 
-// The twelve lists of a mesh, lent.
-pub struct Lists<'a> {
-    pub edges: [&'a mut [u64]; 2],
-    pub places: [&'a mut [f32]; 3],
-    pub normals: [&'a mut [f32]; 3],
-    pub groups: &'a mut [u32],
-    pub triangles: [&'a mut [u32]; 3],
-}
-
 fn extract(s: Settings, t: Table, l: &Lists) -> Done<Mesh> {
     let edge_lens = [l.edges[0].len(), l.edges[1].len()];
     let vertex_lens: Vec<usize> = l.places.iter().chain(&l.normals).map(|v| v.len()).collect();
@@ -145,18 +137,6 @@ pub fn cell_edges(groups: &[u32], first: &[u64], second: &[u64], edges: usize, c
 }
 
 // Area and box
-
-#[derive(Clone, Copy)]
-pub struct Places<'a> {
-    pub lists: [&'a [f32]; 3],
-    pub count: usize,
-}
-
-#[derive(Clone, Copy)]
-pub struct Triangles<'a> {
-    pub lists: [&'a [u32]; 3],
-    pub count: usize,
-}
 
 fn places_ok(p: Places) -> bool {
     one_set(&p.lists.map(|l| l.len()), LISTS_LIMIT) && p.count <= p.lists[0].len()

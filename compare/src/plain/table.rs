@@ -1,22 +1,7 @@
 // The table, its rules, and the questions and statistics about it.
 use super::keys::{neighbours, on_lattice};
 use super::*;
-
-#[derive(Clone, Copy)]
-pub struct Settings {
-    pub truncation: f32,
-    pub max_weight: f32,
-    pub voxel_size: f32,
-    pub max_distance: f32,
-}
-
-#[derive(Clone, Copy)]
-pub struct Table<'a> {
-    pub keys: &'a [u64],
-    pub distances: &'a [f32],
-    pub weights: &'a [f32],
-    pub count: usize,
-}
+use crate::shape::{Settings, Table};
 
 #[derive(Clone, Copy)]
 pub struct Row {
