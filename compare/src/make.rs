@@ -579,7 +579,7 @@ pub fn for_march(r: &mut Rng) -> Case {
         // a few rows give most of the ways to tie
         c.count = 1 + r.below(12);
     }
-    let (rows, waiting) = march::rooms(c.settings(), &rows_of(c.table()), c.reals[0], 300, 700);
+    let (rows, waiting, _) = march::rooms(c.settings(), &rows_of(c.table()), c.reals[0], 300, 700);
     let (a, b) = (room(r, rows), room(r, waiting));
     // one of the two is enough in most cases
     c.rooms = match r.below(4) {
@@ -589,6 +589,10 @@ pub fn for_march(r: &mut Rng) -> Case {
         _ => vec![rows, rows, waiting + 2, waiting + 2],
     };
     damaged(r, &mut c, &[spoil_table, spoil_rooms, |r, c| c.reals[0] = odd_float(r)]);
+    // lists at their limit only for a march that ends soon
+    if c.rooms.iter().any(|&n| n > 1_000) && accepted(&c) && !march::rooms(c.settings(), &rows_of(c.table()), c.reals[0], 300, 700).2 {
+        c.rooms = vec![300, 300, 700, 700];
+    }
     c
 }
 

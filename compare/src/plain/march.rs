@@ -112,11 +112,11 @@ pub fn rows(s: Settings, rows: &[Row], threshold: f32, rows_room: usize, waiting
     }
 }
 
-// And the rooms that it takes, at most these.
-pub fn rooms(s: Settings, rows: &[Row], threshold: f32, rows_room: usize, waiting_room: usize) -> (usize, usize) {
+// And the rooms that it takes, at most these; whether they suffice.
+pub fn rooms(s: Settings, rows: &[Row], threshold: f32, rows_room: usize, waiting_room: usize) -> (usize, usize, bool) {
     let mut m = March { rows: Vec::new(), waiting: Vec::new(), takings: 0, most_waiting: 0, rows_room, waiting_room };
-    let _ = run(s, rows, threshold, &mut m);
-    (m.rows.len(), m.most_waiting)
+    let ends = run(s, rows, threshold, &mut m).is_ok();
+    (m.rows.len(), m.most_waiting, ends)
 }
 
 #[allow(clippy::too_many_arguments)]
