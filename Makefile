@@ -1,20 +1,34 @@
 # make test   everything that .ci/run does: the quick runs, then every proof, must-fail edit and program
 # make demo   the main job on a small example
 # make bench  figures of speed, measured on this machine
-.PHONY: test demo quick bench bench-root
+# make compare   every call beside the Rust and the plain reading, 100,000 cases each (seed=N cases=N)
+# make misread   misreadings of document 01 on purpose: the comparison must see each
+.PHONY: test demo quick compare misread bench bench-root bench-last
 
 test:
 	@.ci/run
 
-# the runs that take seconds: the root against the processor's
+# the runs that take seconds: the root against the processor's, each call beside the Rust
 quick:
 	@bench/root/run quick
+	@compare/run short
 
 demo:
 	@rt check
 	@bench/root/run quick
 
-bench: bench-root
+seed = 1
+cases = 100000
+compare:
+	@compare/run $(seed) $(cases)
+
+misread:
+	@compare/run misread
+
+bench: bench-root bench-last
 
 bench-root:
 	@bench/root/run
+
+bench-last:
+	@bench/last/run

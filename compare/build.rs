@@ -27,6 +27,54 @@ fn main() {
         fs::write(out.join("hashed.rs"), library(&folder, "hashed", false)).unwrap();
     }
     face(&out);
+    misread(&out);
+}
+
+// Misreadings: the plain reading once more for each edit of misread/, with that edit made (only when AKF_MISREAD asks).
+
+fn misread(out: &Path) {
+    println!("cargo:rerun-if-env-changed=AKF_MISREAD");
+    println!("cargo:rustc-check-cfg=cfg(misread)");
+    if env::var_os("AKF_MISREAD").is_none() {
+        return;
+    }
+    println!("cargo:rustc-cfg=misread");
+    println!("cargo:rerun-if-changed=misread");
+    println!("cargo:rerun-if-changed=src/plain");
+    let mut edits: Vec<PathBuf> = fs::read_dir("misread").unwrap().map(|e| e.unwrap().path()).collect();
+    edits.sort();
+    let (mut text, mut list) = (String::new(), String::from("pub const MISREAD: &[(&str, &str, crate::calls::Side)] = &[\n"));
+    for path in edits {
+        let edit = fs::read_to_string(&path).unwrap();
+        let part = |begins: &str| edit.lines().find_map(|l| l.strip_prefix(begins)).unwrap_or_else(|| panic!("{} lacks {begins}", path.display()));
+        let (why, file, old, new) = (part("# "), part("file: "), part("old: "), part("new: "));
+        let name = path.file_stem().unwrap().to_str().unwrap();
+        text += &format!("#[allow(warnings)]\npub mod {name} {{\n");
+        let plain = fs::read_to_string("src/plain/mod.rs").unwrap();
+        let (mods, rest): (Vec<&str>, Vec<&str>) = plain.lines().partition(|l| l.starts_with("pub mod "));
+        let mut edited = 0;
+        let mut taken = |file_name: &str, source: &str| {
+            if file_name == file {
+                assert!(source.matches(old).count() == 1, "{}: its old text must stand once in {file}", path.display());
+                edited += 1;
+                source.replace(old, new)
+            } else {
+                source.to_string()
+            }
+        };
+        text += &taken("mod.rs", &rest.join("\n"));
+        for m in mods {
+            let module = m.trim_start_matches("pub mod ").trim_end_matches(';');
+            let file_name = format!("{module}.rs");
+            let source = fs::read_to_string(format!("src/plain/{file_name}")).unwrap();
+            text += &format!("\npub mod {module} {{\n{}\n}}\n", taken(&file_name, &source));
+        }
+        assert!(edited == 1, "{}: no file {file}", path.display());
+        text += "}\n";
+        text += &format!("crate::reading!({}, {name});\n", name.to_uppercase());
+        list += &format!("    (\"{name}\", {why:?}, {}),\n", name.to_uppercase());
+    }
+    fs::write(out.join("misread.rs"), text + &list + "];\n").unwrap();
 }
 
 // The C face

@@ -27,3 +27,10 @@ pub mod ordered {
 pub mod hashed {
     include!(concat!(env!("OUT_DIR"), "/hashed.rs"));
 }
+
+// The plain reading with one sentence of document 01 misread, over and over.
+#[cfg(misread)]
+#[rustfmt::skip]
+pub mod misread {
+    include!(concat!(env!("OUT_DIR"), "/misread.rs"));
+}

@@ -100,11 +100,62 @@ fn compare(seed: u64, cases: usize, only: &[String]) -> ExitCode {
     ExitCode::from((differences > 0) as u8)
 }
 
+// How many of the cases show that a side misreads: to the Rust, and to the plain reading of document 01.
+#[cfg(misread)]
+fn misread(seed: u64, cases: usize) -> ExitCode {
+    use compare::misread::MISREAD;
+    use std::panic::{catch_unwind, set_hook, AssertUnwindSafe};
+    // one that fails outright shows itself too
+    set_hook(Box::new(|_| {}));
+    println!("seed {seed}; each misreading of document 01, and how many of {cases} cases of a call show it");
+    println!("{:28}{:28}{:>10}{:>10}  what is misread", "misreading", "call", "the Rust", "plain");
+    let mut unseen = 0;
+    for (name, why, side) in MISREAD {
+        let mut seen = false;
+        for c in COMPARED {
+            let mut r = Rng::new(seed, c.name);
+            let (mut rust, mut plain) = (0, 0);
+            for _ in 0..cases {
+                let case = (c.make)(&mut r);
+                let Ok(wrong) = catch_unwind(AssertUnwindSafe(|| (c.ask)(side, &case))) else {
+                    plain += 1;
+                    continue;
+                };
+                let right = (c.ask)(&PLAIN, &case);
+                if matches!(judge(&right, &wrong, false), Judged::Differs(_)) {
+                    plain += 1;
+                    let beside = c.rust.and_then(|rust| rust(&case));
+                    rust += beside.is_some_and(|b| matches!(judge(&wrong, &b, true), Judged::Differs(_))) as usize;
+                }
+            }
+            if plain > 0 {
+                println!("{name:28}{:28}{rust:>10}{plain:>10}  {}", c.name, if seen { "" } else { why });
+                seen = true;
+            }
+        }
+        if !seen {
+            println!("{name:28}{:28}{:>10}{:>10}  {why}: NOT SEEN", "", 0, 0);
+            unseen += 1;
+        }
+    }
+    println!("misreadings: {}, not seen: {unseen}", MISREAD.len());
+    ExitCode::from((unseen > 0) as u8)
+}
+
+#[cfg(not(misread))]
+fn misread(_: u64, _: usize) -> ExitCode {
+    println!("built without the misreadings: use compare/run misread");
+    ExitCode::FAILURE
+}
+
 fn main() -> ExitCode {
     let arguments: Vec<String> = std::env::args().skip(1).collect();
     if !cfg!(rust) {
         println!("The Rust isn't at ../shared/docs/src beside this repository: nothing is compared.");
         return ExitCode::SUCCESS;
+    }
+    if arguments.first().is_some_and(|a| a == "misread") {
+        return misread(1, arguments.get(1).map_or(3_000, |n| n.parse().expect("a number")));
     }
     let number = |i: usize, default: u64| arguments.get(i).map_or(default, |s| s.parse().expect("a number"));
     compare(number(0, 1), number(1, 100_000) as usize, arguments.get(2..).unwrap_or(&[]))

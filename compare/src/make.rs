@@ -777,6 +777,12 @@ pub fn for_groups(r: &mut Rng) -> Case {
         c.edges[1].push(r.next());
         c.groups.push(r.next() as u32);
     }
+    if r.one_in(8) && !c.edges[1].is_empty() && c.edge_count > 0 {
+        // the last groups, and a list that ends in or before one
+        c.key = c.edges[1][c.edge_count - 1];
+        let n = (2 * c.edge_count).saturating_sub(r.below(8));
+        c.groups.truncate(n);
+    }
     damaged(r, &mut c, &[spoil_groups]);
     c
 }
