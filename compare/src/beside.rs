@@ -11,7 +11,7 @@ use crate::ordered::layers::bcc_utils;
 use crate::ordered::counted;
 use crate::ordered::neighbors::neighbors_index64 as rust_neighbors;
 use crate::plain::keys::{head_of, on_lattice};
-use crate::plain::table::distance_ok;
+use crate::plain::table::{distance_ok, Row};
 use crate::plain::{one_set, ABSENT, DONE, FAR, LISTS_LIMIT, ROWS_LIMIT};
 use std::panic::{catch_unwind, AssertUnwindSafe};
 
@@ -95,12 +95,20 @@ pub fn is_valid_bcc(c: &Case) -> Option<Outcome> {
 
 // Tables
 
-fn layer(c: &Case) -> TSDFLayer {
+pub fn layer(c: &Case) -> TSDFLayer {
     let mut l = TSDFLayer::with_params(c.settings[0], c.settings[1], c.settings[2]);
     for i in 0..c.count {
         l.voxels.insert(index(c.keys[i]), TSDFVoxel { distance: c.distances[i], weight: c.weights[i] });
     }
     l
+}
+
+pub fn rows_of(l: &TSDFLayer) -> Vec<Row> {
+    l.voxels.iter().map(|(k, v)| Row { key: k.raw(), distance: v.distance, weight: v.weight }).collect()
+}
+
+pub fn restore(l: &mut TSDFLayer, rows: &[Row]) {
+    l.voxels = rows.iter().map(|r| (index(r.key), TSDFVoxel { distance: r.distance, weight: r.weight })).collect();
 }
 
 fn confidence_ok(x: f32) -> bool {
@@ -122,7 +130,7 @@ fn lists_of(c: &Case, l: &TSDFLayer, answer: Option<u32>) -> Outcome {
 
 // One update of the Rust's, and document 01's answer to it: FAR where a new key was not stored, 6 or 7 where the row that it stored
 // has no place or is too large (then the row is taken back). None where a stored row came out as it was: FAR and DONE look alike.
-fn updated(l: &mut TSDFLayer, room: usize, key: u64, update: impl FnOnce(&mut TSDFLayer, Index64)) -> Option<u32> {
+pub fn updated(l: &mut TSDFLayer, room: usize, key: u64, update: impl FnOnce(&mut TSDFLayer, Index64)) -> Option<u32> {
     let k = index(key);
     let before = l.voxels.get(&k).copied();
     update(l, k);

@@ -11,6 +11,8 @@ pub mod table;
 
 #[cfg(rust)]
 pub mod beside;
+#[cfg(rust)]
+pub mod vectors;
 
 // The Rust with its maps and sets ordered. Its text is not this repository's, so its warnings are not ours to mend.
 #[cfg(rust)]

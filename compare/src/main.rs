@@ -157,6 +157,12 @@ fn main() -> ExitCode {
     if arguments.first().is_some_and(|a| a == "misread") {
         return misread(1, arguments.get(1).map_or(3_000, |n| n.parse().expect("a number")));
     }
+    #[cfg(rust)]
+    if arguments.first().is_some_and(|a| a == "vectors") {
+        let folder = arguments.get(1).map_or("compare/vectors", |s| s);
+        compare::vectors::write(std::path::Path::new(folder), 1).expect("a folder to write to");
+        return ExitCode::SUCCESS;
+    }
     let number = |i: usize, default: u64| arguments.get(i).map_or(default, |s| s.parse().expect("a number"));
     compare(number(0, 1), number(1, 100_000) as usize, arguments.get(2..).unwrap_or(&[]))
 }

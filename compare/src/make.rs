@@ -458,16 +458,21 @@ fn reading(r: &mut Rng, c: &Case) -> f32 {
     }
 }
 
+// A direct reading.
+pub fn direct(r: &mut Rng, c: &mut Case) {
+    c.reals[0] = reading(r, c);
+    c.reals[1] = confidence(r);
+}
+
 pub fn for_fuse(r: &mut Rng) -> Case {
     let mut c = table(r);
-    c.reals[0] = reading(r, &c);
-    c.reals[1] = confidence(r);
+    direct(r, &mut c);
     damaged(r, &mut c, &[spoil_table, spoil_argument, spoil_table]);
     c
 }
 
-pub fn for_ray(r: &mut Rng) -> Case {
-    let mut c = table(r);
+// A ray to the asked key.
+pub fn ray(r: &mut Rng, c: &mut Case) {
     let size = c.settings[2];
     let place = coords_of(c.key).map(|v| v as f32 * size);
     let mut square = 0.0f32;
@@ -479,11 +484,16 @@ pub fn for_ray(r: &mut Rng) -> Case {
         };
         square += (place[i] - c.reals[i]) * (place[i] - c.reals[i]);
     }
-    c.reals[3] = if r.one_in(8) { small_float(r) } else { square.sqrt() + reading(r, &c) };
+    c.reals[3] = if r.one_in(8) { small_float(r) } else { square.sqrt() + reading(r, c) };
     if !c.reals[3].is_finite() {
         c.reals[3] = 3e38;
     }
     c.reals[4] = confidence(r);
+}
+
+pub fn for_ray(r: &mut Rng) -> Case {
+    let mut c = table(r);
+    ray(r, &mut c);
     damaged(r, &mut c, &[spoil_table, spoil_argument, spoil_table]);
     c
 }
