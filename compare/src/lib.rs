@@ -12,6 +12,8 @@ pub mod table;
 #[cfg(rust)]
 pub mod beside;
 #[cfg(rust)]
+pub mod partings;
+#[cfg(rust)]
 pub mod vectors;
 
 // The Rust with its maps and sets ordered. Its text is not this repository's, so its warnings are not ours to mend.

@@ -85,13 +85,14 @@ fn run(c: &Compared, seed: u64, cases: usize, answers: &mut BTreeMap<u32, usize>
 
 fn compare(seed: u64, cases: usize, only: &[String]) -> ExitCode {
     println!("seed {seed}; the plain reading of document 01 beside the Rust with ordered tables, and beside the C face");
-    println!("{:28}{:>9} | {:>10} {:>7} {:>7} | {:>10} {:>7} {:>7} | answers", "call", "cases", "the Rust", "stated", "differ", "the face", "", "differ");
+    println!("{:31}{:>8} | {:>10} {:>7} {:>7} | {:>10} {:>7} {:>7} | answers", "call", "cases", "the Rust", "stated", "differ", "the face", "", "differ");
     let mut differences = 0;
     for c in COMPARED.iter().filter(|c| only.is_empty() || only.iter().any(|n| n == c.name || c.name[4..] == *n)) {
         let mut answers = BTreeMap::new();
+        let cases = cases * c.times;
         let (rust, face) = run(c, seed, cases, &mut answers);
         let told: Vec<String> = answers.iter().map(|(a, n)| format!("{a}:{n}")).collect();
-        println!("{:28}{:>9} | {} | {} | {}", c.name, cases, rust.shown(), face.shown(), told.join(" "));
+        println!("{:31}{:>8} | {} | {} | {}", c.name, cases, rust.shown(), face.shown(), told.join(" "));
         rust.explain(c, Beside::Rust);
         face.explain(c, Beside::Face);
         differences += rust.differences + face.differences;
@@ -108,7 +109,7 @@ fn misread(seed: u64, cases: usize) -> ExitCode {
     // one that fails outright shows itself too
     set_hook(Box::new(|_| {}));
     println!("seed {seed}; each misreading of document 01, and how many of {cases} cases of a call show it");
-    println!("{:28}{:28}{:>10}{:>10}  what is misread", "misreading", "call", "the Rust", "plain");
+    println!("{:28}{:31}{:>10}{:>10}  what is misread", "misreading", "call", "the Rust", "plain");
     let mut unseen = 0;
     for (name, why, side) in MISREAD {
         let mut seen = false;
@@ -129,12 +130,12 @@ fn misread(seed: u64, cases: usize) -> ExitCode {
                 }
             }
             if plain > 0 {
-                println!("{name:28}{:28}{rust:>10}{plain:>10}  {}", c.name, if seen { "" } else { why });
+                println!("{name:28}{:31}{rust:>10}{plain:>10}  {}", c.name, if seen { "" } else { why });
                 seen = true;
             }
         }
         if !seen {
-            println!("{name:28}{:28}{:>10}{:>10}  {why}: NOT SEEN", "", 0, 0);
+            println!("{name:28}{:31}{:>10}{:>10}  {why}: NOT SEEN", "", 0, 0);
             unseen += 1;
         }
     }
@@ -156,6 +157,11 @@ fn main() -> ExitCode {
     }
     if arguments.first().is_some_and(|a| a == "misread") {
         return misread(1, arguments.get(1).map_or(3_000, |n| n.parse().expect("a number")));
+    }
+    #[cfg(rust)]
+    if arguments.first().is_some_and(|a| a == "partings") {
+        compare::partings::print();
+        return ExitCode::SUCCESS;
     }
     #[cfg(rust)]
     if arguments.first().is_some_and(|a| a == "vectors") {

@@ -161,6 +161,11 @@ pub fn shrink(mut c: Case, shows: &dyn Fn(&Case) -> bool) -> Case {
                 }
             }
         }
+        if !c.keys.is_empty() && !c.keys.contains(&c.key) {
+            let mut s = c.clone();
+            s.key = c.keys[0];
+            better |= try_it(&mut c, s);
+        }
         for axis in 0..3 {
             let least = c.keys.iter().chain([&c.key]).chain(&c.batch_keys).map(|&k| coords_of(k)[axis]).min().unwrap();
             for by in [least & !1, least / 2 & !1] {
@@ -205,9 +210,7 @@ fn list<T: Copy>(text: &mut String, name: &str, l: &[T], show: impl Fn(T) -> Str
 
 pub fn show(c: &Case) -> String {
     let mut t = String::new();
-    if c.settings != [0.0; 4] {
-        list(&mut t, "settings", &c.settings, float);
-    }
+    list(&mut t, "settings", &c.settings, float);
     list(&mut t, "keys", &c.keys, key);
     list(&mut t, "distances", &c.distances, float);
     list(&mut t, "weights", &c.weights, float);

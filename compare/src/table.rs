@@ -11,6 +11,8 @@ type Rust = Option<fn(&Case) -> Option<Outcome>>;
 
 pub struct Compared {
     pub name: &'static str,
+    // this many times the cases asked for
+    pub times: usize,
     pub make: fn(&mut Rng) -> Case,
     pub ask: fn(&Side, &Case) -> Outcome,
     pub rust: Rust,
@@ -20,6 +22,7 @@ macro_rules! beside {
     ($name:ident, $make:ident) => {
         Compared {
             name: concat!("akf_", stringify!($name)),
+            times: 1,
             make: make::$make,
             ask: calls::$name,
             #[cfg(rust)]
@@ -31,8 +34,8 @@ macro_rules! beside {
 }
 
 macro_rules! alone {
-    ($name:ident, $make:ident) => {
-        Compared { name: concat!("akf_", stringify!($name)), make: make::$make, ask: calls::$name, rust: None }
+    ($times:expr, $name:ident, $make:ident) => {
+        Compared { name: concat!("akf_", stringify!($name)), times: $times, make: make::$make, ask: calls::$name, rust: None }
     };
 }
 
@@ -41,7 +44,7 @@ pub const COMPARED: &[Compared] = &[
     beside!(decode_coords, for_key),
     beside!(neighbors_index64, for_neighbors),
     // the Rust calls its library: the plain reading is the hardware's root
-    alone!(root, for_root),
+    alone!(20, root, for_root),
     beside!(snap_to_nearest_bcc, for_snap),
     beside!(physical_to_bcc_voxel, for_physical),
     beside!(is_valid_bcc, for_snap),
@@ -62,7 +65,7 @@ pub const COMPARED: &[Compared] = &[
     beside!(esdf_stats, for_marched_stats),
     beside!(extract_mesh_from_tsdf, for_mesh),
     // the Rust has no list of groups
-    alone!(cell_edges, for_groups),
+    alone!(1, cell_edges, for_groups),
     beside!(surface_area, for_shape),
     beside!(bounding_box, for_shape),
     beside!(mesh_stats, for_normals),
