@@ -5,6 +5,7 @@ pub mod face;
 pub mod make;
 pub mod plain;
 pub mod rng;
+pub mod samples;
 pub mod shape;
 pub mod shrink;
 pub mod table;

@@ -4,6 +4,7 @@ use compare::calls::PLAIN;
 use compare::case::Case;
 use compare::face::{FACE, LANDED};
 use compare::rng::Rng;
+use compare::samples::SAMPLES;
 use compare::shrink::{show, shrink};
 use compare::table::{judge, Compared, Judged, COMPARED};
 use std::collections::BTreeMap;
@@ -83,10 +84,27 @@ fn run(c: &Compared, seed: u64, cases: usize, answers: &mut BTreeMap<u32, usize>
     (rust, face)
 }
 
+// Document 01's samples: how many do not hold.
+fn samples() -> usize {
+    let (mut face, mut failed) = (0, 0);
+    for sample in SAMPLES {
+        let landed = sample.calls.iter().all(|c| LANDED.contains(c));
+        face += landed as usize;
+        for (side, name) in [(&PLAIN, "the plain reading"), (&FACE, "the C face")] {
+            if (name == "the plain reading" || landed) && !(sample.holds)(side) {
+                println!("  {name}: not so: {}", sample.what);
+                failed += 1;
+            }
+        }
+    }
+    println!("document 01's samples: {} by the plain reading, {face} by the C face, {failed} differ", SAMPLES.len());
+    failed
+}
+
 fn compare(seed: u64, cases: usize, only: &[String]) -> ExitCode {
+    let mut differences = samples();
     println!("seed {seed}; the plain reading of document 01 beside the Rust with ordered tables, and beside the C face");
     println!("{:31}{:>8} | {:>10} {:>7} {:>7} | {:>10} {:>7} {:>7} | answers", "call", "cases", "the Rust", "stated", "differ", "the face", "", "differ");
-    let mut differences = 0;
     for c in COMPARED.iter().filter(|c| only.is_empty() || only.iter().any(|n| n == c.name || c.name[4..] == *n)) {
         let mut answers = BTreeMap::new();
         let cases = cases * c.times;

@@ -1,0 +1,180 @@
+// Document 01's "Samples at the edges", held against a side. Truncation 1, maximum weight 100, size 1, confidence and weight 1
+// unless said.
+use crate::calls::{self, Side};
+use crate::case::{Case, Outcome};
+use crate::plain::keys::{key_of, neighbours};
+use crate::plain::{ABSENT, DONE, FAR};
+
+pub struct Sample {
+    pub what: &'static str,
+    // the calls that it needs
+    pub calls: &'static [&'static str],
+    pub holds: fn(&Side) -> bool,
+}
+
+const ROOT_OF_3: u64 = 0x3fdd_b3d7;
+
+fn empty() -> Case {
+    Case { settings: [1.0, 100.0, 1.0, 2.0], ..Case::default() }
+}
+
+fn at(x: u16, y: u16, z: u16) -> u64 {
+    key_of(0, x, y, z)
+}
+
+fn rows(rows: &[(u64, f32)]) -> Case {
+    let mut rows = rows.to_vec();
+    rows.sort_unstable_by_key(|r| r.0);
+    let (keys, distances): (Vec<u64>, Vec<f32>) = rows.into_iter().unzip();
+    Case { weights: vec![1.0; keys.len()], count: keys.len(), keys, distances, ..empty() }
+}
+
+// Readings of one cell, (10,10,10), into a table with this many places: the answer to the last, and the first row.
+fn fused(side: &Side, settings: [f32; 4], places: usize, readings: &[(f32, f32)]) -> (u32, u64, f32, f32) {
+    let mut c = Case { settings, keys: vec![0; places], distances: vec![0.0; places], weights: vec![0.0; places], ..empty() };
+    let mut answer = 0;
+    for &(distance, confidence) in readings {
+        c.key = at(10, 10, 10);
+        c.reals[0] = distance;
+        c.reals[1] = confidence;
+        let o = calls::update_from_depth(side, &c);
+        answer = o.answer.unwrap();
+        c.count = o.numbers[0].1 as usize;
+        c.keys = o.lists[0].1.clone();
+        c.distances = o.lists[1].1.iter().map(|&b| f32::from_bits(b as u32)).collect();
+        c.weights = o.lists[2].1.iter().map(|&b| f32::from_bits(b as u32)).collect();
+    }
+    (answer, c.count as u64, c.distances[0], c.weights[0])
+}
+
+fn edges(side: &Side, c: &Case) -> u64 {
+    let o = calls::get_zero_crossing_edges(side, &Case { rooms: vec![64; 2], ..c.clone() });
+    assert!(o.answer == Some(DONE));
+    o.numbers[0].1
+}
+
+fn meshed(side: &Side, c: &Case, triangles: usize) -> Outcome {
+    let mut rooms = vec![64; 9];
+    rooms.extend([triangles; 3]);
+    calls::extract_mesh_from_tsdf(side, &Case { rooms, ..c.clone() })
+}
+
+fn snap(side: &Side, at: [i32; 3]) -> [i32; 3] {
+    let o = calls::snap_to_nearest_bcc(side, &Case { coords: at, ..Case::default() });
+    [0, 1, 2].map(|i: usize| o.numbers[i].1 as u32 as i32)
+}
+
+// A march of one row 0, threshold 0.5: rows, takings, and how many rows read each of these.
+fn marched(side: &Side, key: u64, maximum: f32, read: [u64; 2]) -> (u64, u64, usize, usize) {
+    let mut c = rows(&[(key, 0.0)]);
+    c.settings[3] = maximum;
+    c.reals[0] = 0.5;
+    c.rooms = vec![64; 4];
+    let o = calls::compute_from_tsdf(side, &c);
+    let count = |bits: u64| o.lists[1].1.iter().filter(|&&b| b == bits).count();
+    (o.numbers[0].1, o.numbers[1].1, count(read[0]), count(read[1]))
+}
+
+fn surrounded() -> Case {
+    let centre = at(10, 10, 10);
+    let mut all = vec![(centre, -0.5)];
+    all.extend(neighbours(centre).into_iter().map(|k| (k, 0.5)));
+    rows(&all)
+}
+
+pub const SAMPLES: &[Sample] = &[
+    Sample {
+        what: "0.5 then -0.25: distance 0.125, weight 2",
+        calls: &["akf_update_from_depth"],
+        holds: |s| fused(s, [1.0, 100.0, 1.0, 2.0], 2, &[(0.5, 1.0), (-0.25, 1.0)]) == (DONE, 1, 0.125, 2.0),
+    },
+    Sample {
+        what: "maximum weight 1, 0.5 twice: distance 1.0, weight 1",
+        calls: &["akf_update_from_depth"],
+        holds: |s| fused(s, [1.0, 1.0, 1.0, 2.0], 2, &[(0.5, 1.0), (0.5, 1.0)]) == (DONE, 1, 1.0, 1.0),
+    },
+    Sample {
+        what: "reading 1.0 is stored; the next float above is Far, even with a full table",
+        calls: &["akf_update_from_depth"],
+        holds: |s| {
+            let above = f32::from_bits(0x3f80_0001);
+            let full = Case { key: at(12, 12, 12), reals: [above, 1.0, 0.0, 0.0, 0.0], ..rows(&[(at(10, 10, 10), 0.5)]) };
+            fused(s, [1.0, 100.0, 1.0, 2.0], 1, &[(1.0, 1.0)]) == (DONE, 1, 1.0, 1.0)
+                && fused(s, [1.0, 100.0, 1.0, 2.0], 1, &[(above, 1.0)]) == (FAR, 0, 0.0, 0.0)
+                && calls::update_from_depth(s, &full).answer == Some(FAR)
+        },
+    },
+    Sample {
+        what: "confidence 0, reading 0.25, new key: row (0.25, 0); no edge meanwhile",
+        calls: &["akf_update_from_depth", "akf_get_zero_crossing_edges"],
+        holds: |s| {
+            let mut c = rows(&[(at(10, 10, 10), 0.25), (at(11, 11, 11), -0.25)]);
+            c.weights[0] = 0.0;
+            fused(s, [1.0, 100.0, 1.0, 2.0], 2, &[(0.25, 0.0)]) == (DONE, 1, 0.25, 0.0) && edges(s, &c) == 0
+        },
+    },
+    Sample {
+        what: "snap (5,6,7) gives (5,7,7); (4,5,6) gives (4,4,6); (-3,0,0) gives (-4,0,0)",
+        calls: &["akf_snap_to_nearest_bcc"],
+        holds: |s| snap(s, [5, 6, 7]) == [5, 7, 7] && snap(s, [4, 5, 6]) == [4, 4, 6] && snap(s, [-3, 0, 0]) == [-4, 0, 0],
+    },
+    Sample {
+        what: "(10,10,10) at 0.25 and (11,11,11) at -0.25: one edge, vertex (10.5, 10.5, 10.5)",
+        calls: &["akf_get_zero_crossing_edges", "akf_extract_mesh_from_tsdf"],
+        holds: |s| {
+            let c = rows(&[(at(10, 10, 10), 0.25), (at(11, 11, 11), -0.25)]);
+            let m = meshed(s, &c, 64);
+            edges(s, &c) == 1 && m.numbers[0].1 == 1 && (2..5).all(|l| m.lists[l].1[0] == 0x4128_0000)
+        },
+    },
+    Sample {
+        what: "the same at 1e-30 and -1e-30: no edge, the product is -0",
+        calls: &["akf_get_zero_crossing_edges"],
+        holds: |s| edges(s, &rows(&[(at(10, 10, 10), 1e-30), (at(11, 11, 11), -1e-30)])) == 0,
+    },
+    Sample {
+        what: "root of 0.75 has bits 3F5DB3D7",
+        calls: &["akf_root"],
+        holds: |s| calls::root(s, &Case { reals: [0.75, 0.0, 0.0, 0.0, 0.0], ..Case::default() }).numbers[0].1 == 0x3f5d_b3d7,
+    },
+    Sample {
+        what: "one seed 0 at (10,10,10), threshold 0.5, maximum 2: 15 rows, eight at the root of 3, six at 2, 14 takings; with 1.9 the six read 1.9",
+        calls: &["akf_compute_from_tsdf"],
+        holds: |s| {
+            marched(s, at(10, 10, 10), 2.0, [ROOT_OF_3, 0x4000_0000]) == (15, 14, 8, 6)
+                && marched(s, at(10, 10, 10), 1.9, [ROOT_OF_3, 1.9f32.to_bits() as u64]) == (15, 14, 8, 6)
+        },
+    },
+    Sample {
+        what: "the seed at (0,0,0), maximum 2: 5 rows, four at the root of 3, 4 takings",
+        calls: &["akf_compute_from_tsdf"],
+        holds: |s| marched(s, at(0, 0, 0), 2.0, [ROOT_OF_3, 0x4000_0000]) == (5, 4, 4, 0),
+    },
+    Sample {
+        what: "a centre with all 14 neighbours of the other sign: 14 edges, 364 triangles; room 363 refuses with 6",
+        calls: &["akf_extract_mesh_from_tsdf"],
+        holds: |s| {
+            let c = surrounded();
+            let (m, refused) = (meshed(s, &c, 364), meshed(s, &c, 363));
+            m.answer == Some(DONE) && m.numbers[0].1 == 14 && m.numbers[1].1 == 364 && refused.answer == Some(6)
+        },
+    },
+    Sample {
+        what: "maximum weight 1e-38, truncation 10, reading 10 twice: the second refuses with 7",
+        calls: &["akf_update_from_depth"],
+        holds: |s| fused(s, [10.0, 1e-38, 1.0, 2.0], 2, &[(10.0, 1.0), (10.0, 1.0)]) == (7, 1, 10.0, 1e-38),
+    },
+    Sample {
+        what: "empty table: no edges, empty mesh, empty march, no box",
+        calls: &["akf_get_zero_crossing_edges", "akf_extract_mesh_from_tsdf", "akf_compute_from_tsdf", "akf_bounding_box"],
+        holds: |s| {
+            let m = meshed(s, &empty(), 4);
+            let march = calls::compute_from_tsdf(s, &Case { rooms: vec![4; 4], ..empty() });
+            edges(s, &empty()) == 0
+                && m.answer == Some(DONE)
+                && m.numbers.iter().chain(&march.numbers).all(|n| n.1 == 0)
+                && march.answer == Some(DONE)
+                && calls::bounding_box(s, &empty()).answer == Some(ABSENT)
+        },
+    },
+];
