@@ -167,8 +167,10 @@ pub fn shrink(mut c: Case, shows: &dyn Fn(&Case) -> bool) -> Case {
             better |= try_it(&mut c, s);
         }
         for axis in 0..3 {
-            let least = c.keys.iter().chain([&c.key]).chain(&c.batch_keys).map(|&k| coords_of(k)[axis]).min().unwrap();
-            for by in [least & !1, least / 2 & !1] {
+            // to the border, to 10, halfway
+            for to in [0, 10, u16::MAX] {
+                let least = c.keys.iter().chain([&c.key]).chain(&c.batch_keys).map(|&k| coords_of(k)[axis]).min().unwrap();
+                let by = if to == u16::MAX { least / 2 } else { least.saturating_sub(to) } & !1;
                 let s = moved(&c, |k| shifted(k, axis, by));
                 better |= by > 0 && try_it(&mut c, s);
             }
