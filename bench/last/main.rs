@@ -1,7 +1,7 @@
 // bench_last: one synthetic last of about 60,000 rows, and one of half as many: the Rust with its own hash tables and the C face in
 // one process on the same input. Prints the best of five runs of each, their ratio, and how each grows when the rows double.
 use compare::face::{FACE, LANDED};
-use compare::plain::keys::key_of;
+use compare::last::{rows, shuffled, SIZE};
 use compare::rng::Rng;
 use compare::shape::{Lists, Settings, Table, TableMut};
 use std::hint::black_box;
@@ -12,20 +12,6 @@ use compare::hashed::{
     Index64,
 };
 
-const SIZE: f32 = 0.001;
-const HEAD: u16 = 0x8000;
-
-// The distance, in cells, to a last: a rounded cone from heel to toe, bent upwards at the toe.
-fn distance(at: [f64; 3], scale: f64) -> f64 {
-    let (length, heel, toe) = (150.0 * scale, 26.0 * scale, 17.0 * scale);
-    let x = at[0].clamp(0.0, length);
-    let along = x / length;
-    let rise = 12.0 * scale * along * along;
-    let radius = heel + (toe - heel) * along;
-    let (dx, dy, dz) = (at[0] - x, at[1], at[2] - rise);
-    (dx * dx + dy * dy + dz * dz).sqrt() - radius
-}
-
 struct Field {
     settings: Settings,
     threshold: f32,
@@ -34,30 +20,10 @@ struct Field {
     order: Vec<usize>,
 }
 
-// The lattice cells within the truncation of the surface, keys ascending, and an order to shuffle them.
 fn field(scale: f64, truncation: f64, march: f64) -> Field {
-    let mut rows = Vec::new();
-    let (from, to) = ([-60, -60, -60], [240, 60, 80]);
-    for x in from[0]..to[0] {
-        for y in from[1]..to[1] {
-            for z in from[2]..to[2] {
-                let d = distance([x as f64, y as f64, z as f64], scale);
-                if (x - y) % 2 == 0 && (y - z) % 2 == 0 && d.abs() <= truncation {
-                    let at = [x, y, z].map(|v: i32| (v + 1_000) as u16);
-                    rows.push((key_of(HEAD, at[0], at[1], at[2]), (d * SIZE as f64) as f32));
-                }
-            }
-        }
-    }
-    rows.sort_unstable_by_key(|r| r.0);
-    let mut order: Vec<usize> = (0..rows.len()).collect();
-    let mut r = Rng::new(1, "shuffle");
-    for i in (1..order.len()).rev() {
-        order.swap(i, r.below(i + 1));
-    }
-    let (keys, distances) = rows.into_iter().unzip();
+    let (keys, distances) = rows(scale, truncation);
     let settings = Settings { truncation: 1.0, max_weight: 100.0, voxel_size: SIZE, max_distance: march as f32 * SIZE };
-    Field { settings, threshold: SIZE, keys, distances, order }
+    Field { settings, threshold: SIZE, order: shuffled(keys.len()), keys, distances }
 }
 
 // Milliseconds of this thread's own time, so that other work on the machine does not count.

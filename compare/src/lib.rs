@@ -2,6 +2,7 @@
 pub mod calls;
 pub mod case;
 pub mod face;
+pub mod last;
 pub mod make;
 pub mod plain;
 pub mod rng;
@@ -12,6 +13,8 @@ pub mod table;
 
 #[cfg(rust)]
 pub mod beside;
+#[cfg(rust)]
+pub mod large;
 #[cfg(rust)]
 pub mod partings;
 #[cfg(rust)]

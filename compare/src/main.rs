@@ -103,6 +103,10 @@ fn samples() -> usize {
 
 fn compare(seed: u64, cases: usize, only: &[String]) -> ExitCode {
     let mut differences = samples();
+    #[cfg(rust)]
+    if only.is_empty() {
+        differences += compare::vectors::check(std::path::Path::new("compare/vectors"));
+    }
     println!("seed {seed}; the plain reading of document 01 beside the Rust with ordered tables, and beside the C face");
     println!("{:31}{:>8} | {:>10} {:>7} {:>7} | {:>10} {:>7} {:>7} | answers", "call", "cases", "the Rust", "stated", "differ", "the face", "", "differ");
     for c in COMPARED.iter().filter(|c| only.is_empty() || only.iter().any(|n| n == c.name || c.name[4..] == *n)) {
@@ -114,6 +118,10 @@ fn compare(seed: u64, cases: usize, only: &[String]) -> ExitCode {
         rust.explain(c, Beside::Rust);
         face.explain(c, Beside::Face);
         differences += rust.differences + face.differences;
+    }
+    #[cfg(rust)]
+    if only.is_empty() && cases >= 100_000 {
+        differences += compare::large::run();
     }
     println!("differences: {differences}");
     ExitCode::from((differences > 0) as u8)
@@ -184,7 +192,7 @@ fn main() -> ExitCode {
     #[cfg(rust)]
     if arguments.first().is_some_and(|a| a == "vectors") {
         let folder = arguments.get(1).map_or("compare/vectors", |s| s);
-        compare::vectors::write(std::path::Path::new(folder), 1).expect("a folder to write to");
+        compare::vectors::write(std::path::Path::new(folder)).expect("a folder to write to");
         return ExitCode::SUCCESS;
     }
     let number = |i: usize, default: u64| arguments.get(i).map_or(default, |s| s.parse().expect("a number"));

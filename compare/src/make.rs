@@ -112,7 +112,8 @@ fn corner(r: &mut Rng, extent: &[i64; 3]) -> [i64; 3] {
 
 // Lattice keys of a box, ascending, each kept by chance; sometimes under two heads.
 pub fn clump(r: &mut Rng) -> Vec<u64> {
-    let extent = [r.pick(&[1, 2, 3, 4, 4, 6]), r.pick(&[1, 2, 3, 4]), r.pick(&[2, 3, 4])];
+    // one in two thousand is large
+    let extent = if r.one_in(2_000) { [14, 16, 18] } else { [r.pick(&[1, 2, 3, 4, 4, 6]), r.pick(&[1, 2, 3, 4]), r.pick(&[2, 3, 4])] };
     let at = corner(r, &extent);
     let dense = r.pick(&[1, 3, 6, 10, 10]);
     let base = head(r);
@@ -589,7 +590,7 @@ pub fn for_march(r: &mut Rng) -> Case {
         // a few rows give most of the ways to tie
         c.count = 1 + r.below(12);
     }
-    let (rows, waiting, _) = march::rooms(c.settings(), &rows_of(c.table()), c.reals[0], 300, 700);
+    let (rows, waiting, _) = march::rooms(c.settings(), &rows_of(c.table()), c.reals[0], 300 + 3 * c.count, 700 + 3 * c.count);
     let (a, b) = (room(r, rows), room(r, waiting));
     // one of the two is enough in most cases
     c.rooms = match r.below(4) {

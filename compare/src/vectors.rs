@@ -255,22 +255,39 @@ fn root(seed: u64) -> String {
     t
 }
 
-pub fn write(folder: &Path, seed: u64) -> std::io::Result<()> {
+const FILES: [(&str, fn(u64) -> String); 8] = [
+    ("ids", keys),
+    ("neighbors", neighbors),
+    ("root", root),
+    ("bcc_utils", bcc_utils),
+    ("tsdf", tsdf),
+    ("edges", edges),
+    ("esdf", esdf),
+    ("mesh", mesh),
+];
+const SEED: u64 = 1;
+
+pub fn write(folder: &Path) -> std::io::Result<()> {
     std::fs::create_dir_all(folder)?;
-    let all: [(&str, fn(u64) -> String); 8] = [
-        ("ids", keys),
-        ("neighbors", neighbors),
-        ("root", root),
-        ("bcc_utils", bcc_utils),
-        ("tsdf", tsdf),
-        ("edges", edges),
-        ("esdf", esdf),
-        ("mesh", mesh),
-    ];
-    for (name, make) in all {
-        let text = make(seed);
+    for (name, make) in FILES {
+        let text = make(SEED);
         println!("{name}.txt: {} lines, {} bytes", text.lines().count(), text.len());
         std::fs::write(folder.join(format!("{name}.txt")), text)?;
     }
     Ok(())
+}
+
+// How many of the stored files are not what the Rust gives today.
+pub fn check(folder: &Path) -> usize {
+    let stale = |(name, make): &(&str, fn(u64) -> String)| {
+        let stored = std::fs::read_to_string(folder.join(format!("{name}.txt"))).unwrap_or_default();
+        let differs = stored != make(SEED);
+        if differs {
+            println!("  {name}.txt is not what compare/run vectors writes");
+        }
+        differs
+    };
+    let differ = FILES.iter().filter(|f| stale(f)).count();
+    println!("vectors: {} files, {differ} differ", FILES.len());
+    differ
 }
