@@ -1,2 +1,4 @@
 pub mod Answers
 pub mod RowByRow
+pub mod Determined
+pub mod Samples
