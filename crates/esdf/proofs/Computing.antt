@@ -24,6 +24,7 @@ use Rattle.table.specs.declared.Checked.the-variants as checked
 use Rattle.table.proofs.RowLaws.{lengths-known}
 use Rattle.marching.specs.March.{Cell, State, Rooms, rooms, Going, on, refused, keysOf, distancesOf, cellsOf, nothing}
 use Rattle.marching.specs.Lattice.{marchFrom}
+use Rattle.marching.proofs.Verdicts.{follow, need-follow, need-passed}
 use Rattle.esdf.proofs.Marching.{same-rooms}
 use Rattle.esdf.specs.declared.Marched.{Marched}
 use Rattle.esdf.specs.declared.Marched.the-variants as marched
@@ -31,16 +32,6 @@ use Rattle.esdf.specs.Steps.{estimatesOf, Held, roomsOf, Lent, Finished,
 use Rattle.esdf.specs.Compute.{Places, places, setOk, marchCheck, tested, marching, Outcome, outcome, answerOf, keysLeft, distancesLeft, left, computed}
 
 -- ---- the tests
-
--- a verdict, and what is tested after it passed
-unfoldable pub follow : Checked → Checked → Checked
-follow checked.Passed rest = rest
-follow (checked.Refused why) rest = checked.Refused why
-
-need-follow : (b : Bool) (why : Refusal) (rest : Checked) → need b why rest ≡ follow (need b why checked.Passed) rest
-unfolding need follow
-need-follow true why rest = refl
-need-follow false why rest = refl
 
 module _ (s : Settings) (t : Table) (threshold : Float) (fit : Bool) where
   abbrev equal : Bool
@@ -88,11 +79,6 @@ module _ (s : Settings) (t : Table) (threshold : Float) (fit : Bool) where
           check-passed g = passed ∙ rw g
 
 -- ---- what passed
-
-need-passed : (b : Bool) (why : Refusal) (rest : Checked) → need b why rest ≡ checked.Passed → (b ≡ true) × (rest ≡ checked.Passed)
-unfolding need
-need-passed true why rest e = (refl, e)
-need-passed false why rest e = absurd (let z : _≡_ {A = ℕ} 0 1 = cc in omega arith)
 
 -- the tests that a march builds on
 pub record Tested (s : Settings) (t : Table) (threshold : Float) (fit : Bool) : Type 0 where

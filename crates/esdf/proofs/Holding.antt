@@ -32,25 +32,10 @@ use Rattle.esdf.specs.Steps.{estimatesOf, cellsBeside, HeldKeys, HeldRow
 use Rattle.lists.proofs.Bools.{cases}
 use Rattle.lists.proofs.Inserting.{insert-length}
 use Rattle.marching.proofs.KeysOnce.{ascending-insert}
+use Rattle.marching.proofs.Looking.{stands, member-find, at, distance-find}
 use Rattle.esdf.proofs.Columns.{column-insert, column-front, beside-front}
 
 -- ---- looking a key up
-
-stands : Found → Bool
-stands (At i) = true
-stands Absent = false
-
-stands-next : (f : Found) → stands (next f) ≡ stands f
-unfolding next stands
-stands-next (At i) = refl
-stands-next Absent = refl
-
-member-find : (k : ℕ) (ks : List ℕ) → member k ks ≡ stands (find k ks)
-unfolding member find stands
-member-find k [] = refl
-member-find k (l ∷ ls) =
-    cases (λ (b : Bool). b || member k ls ≡ stands (cond b (At 0) (next (find k ls)))) (eqb l k)
-    (λ e. refl) (λ e. member-find k ls ∙ sym (stands-next (find k ls)))
 
 -- two lists that hold rows hold their keys
 pub held-keys : (rs : List MarchedRow) (n : ℕ) (ks : List ℕ) (ds : List Float) → HeldRows rs n ks ds → HeldKeys rs n ks
@@ -181,22 +166,6 @@ module _ (e : Float) (ns list : List ℕ) (listed : list ≡ padded 0 14 ns) (n 
       (x .0, (x .1 .1 .1 ∙ rw (drop-of-length-le ns {i = i} l), (x .1 .0, x .1 .1 .0)))
 
 -- ---- a stored neighbour's distance
-
-at : Found → List Float → Option Float
-at (At i) ds = some (getD ds i nan)
-at Absent ds = none
-
-at-next : (f : Found) (d : Float) (ds : List Float) → at (next f) (d ∷ ds) ≡ at f ds
-unfolding next at
-at-next (At i) d ds = refl
-at-next Absent d ds = refl
-
-distance-find : (k : ℕ) (rs : List MarchedRow) → distanceOf k rs ≡ at (find k (keysOf rs)) (distancesOf rs)
-unfolding distanceOf find at
-distance-find k [] = refl
-distance-find k (r ∷ rs) =
-    cases (λ (b : Bool). cond b (some (r .distance)) (distanceOf k rs) ≡ at (cond b (At 0) (next (find k (keysOf rs)))) (r .distance ∷ distancesOf rs)) (eqb (r .key) k)
-    (λ e. refl) (λ e. distance-find k rs ∙ sym (at-next (find k (keysOf rs)) (r .distance) (distancesOf rs)))
 
 module _ (rs : List MarchedRow) (n : ℕ) (ks : List ℕ) (ds : List Float) (h : HeldRows rs n ks ds) (k : ℕ) (f : Found) (e : f ≡ findBy k (take n ks)) where
   pub absent-distance : f ≡ Absent → distanceOf k rs ≡ none

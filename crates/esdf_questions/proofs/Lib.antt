@@ -1,0 +1,4 @@
+-- Laws on a marched table.
+pub mod MarchedLaws
+pub mod Walking
+pub mod Answers
