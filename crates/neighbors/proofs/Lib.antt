@@ -1,3 +1,4 @@
+pub mod StepLaws
 pub mod NeighborLaws
 pub mod Adjacency
 pub mod Samples

@@ -1,13 +1,12 @@
 -- Laws of steps and neighbours.
 -- Assumes nothing.
 use mathlib.Core.Path.{_≡_, refl, sym}
-use mathlib.Core.Bool.{Bool, true, false}
+use mathlib.Core.Bool.{Bool, true, false, cond}
 use Prim.Native.Nat.{ℕ, zero, suc, _+_, _<_, _≤_, zero-le}
 use native.Mathlib.Omega.{arith}
-use borrow.Author.Tests.{lt-ltb, le-ltb, le-leb, lt-leb}
-use mathlib.Core.Bool.{cond}
+use borrow.Author.Tests.{lt-ltb, le-ltb, le-leb, leb-true}
 use mathlib.Core.List.{List, [], _∷_, _++_, append-nil, append-assoc}
-use lib.ListN.{length, getD, set, take, replicate, List·getD-map, length-append, length-take}
+use lib.ListN.{length, getD, set, take, replicate, length-append, length-take}
 use lib.Seq.{take-suc}
 use native.Mathlib.Numerals.{add-one}
 use Rattle.lists.specs.Padding.{padded}
@@ -18,71 +17,15 @@ use Rattle.refusals.specs.declared.Refusal.the-variants.{Lengths, OffLattice, N
 use Rattle.lists.proofs.PaddingLaws.{padded-more, padded-front}
 use Rattle.neighbors.specs.declared.Cell.{Cell}
 use Rattle.neighbors.specs.declared.Cell.the-variants as cell
-use Rattle.neighbors.specs.declared.Moved.{Moved}
-use Rattle.neighbors.specs.declared.Moved.the-variants as moved
-use Rattle.neighbors.specs.Neighbors.{Offset, offsets, offsetAt, inside, moveTo, movedBy, reached, shown, neighboursBy, neighbours, listedOf, listingOf}
+use Rattle.neighbors.specs.Neighbors.{Offset, offsets, offsetAt, inside, reached, shown, neighboursBy, neighbours, listedOf, listingOf}
 use Rattle.ids.specs.Key.{onLattice}
 use lib.Dec.{ltb, leb, lit≤}
 use native.Mathlib.Nat.{sub-zero}
-use borrow.Author.Tests.{leb-true}
 
-zero≢one : _≡_ {A = ℕ} 0 1 → ⊥
-zero≢one e = omega arith
-
--- a step leads below 0, past 65535, or stays inside
-module _ (x d : ℕ) where
-  pub too-low : x + d < 2 → inside x d ≡ false
-  unfolding inside
-  too-low l = rw (lt-leb 2 (x + d) l)
-
-  pub too-high : 65537 < x + d → inside x d ≡ false
-  unfolding inside
-  too-high l = rw (le-leb 2 (x + d) (omega arith), le-ltb (x + d) 65538 l)
-
-  pub within : 2 ≤ x + d → x + d ≤ 65537 → inside x d ≡ true
-  unfolding inside
-  within l h = rw (le-leb 2 (x + d) l, lt-ltb (x + d) 65538 (omega arith))
-
--- which way a move went
-out : (b : Bool) (v : ℕ) {m : Moved} → m ≡ cond b (moved.To v) moved.Outside → m ≡ moved.Outside → b ≡ false
-out true v e f = let z : _≡_ {A = ℕ} 0 1 = cc in absurd (zero≢one z)
-out false v e f = refl
-
-into : (b : Bool) (v : ℕ) {n : ℕ} {m : Moved} → m ≡ cond b (moved.To v) moved.Outside → m ≡ moved.To n → (b ≡ true) × (n ≡ v)
-into true v e f = (refl, cc)
-into false v e f = let z : _≡_ {A = ℕ} 0 1 = cc in absurd (zero≢one z)
-
-module _ (x d : ℕ) {m : Moved} (e : m ≡ movedBy x d) where
-  pub went-out : m ≡ moved.Outside → inside x d ≡ false
-  went-out f = out (inside x d) (moveTo x d) e f
-
-  pub went-in : {n : ℕ} → m ≡ moved.To n → inside x d ≡ true
-  went-in f = into (inside x d) (moveTo x d) e f .0
-
-  pub went-to : {n : ℕ} → m ≡ moved.To n → n ≡ moveTo x d
-  went-to f = into (inside x d) (moveTo x d) e f .1
-
--- the source's three tables are the offsets, axis by axis
-unfoldable pub steps-x : List ℕ
-steps-x = 3 ∷ 3 ∷ 3 ∷ 3 ∷ 1 ∷ 1 ∷ 1 ∷ 1 ∷ 4 ∷ 0 ∷ 2 ∷ 2 ∷ 2 ∷ 2 ∷ []
-
-unfoldable pub steps-y : List ℕ
-steps-y = 3 ∷ 3 ∷ 1 ∷ 1 ∷ 3 ∷ 3 ∷ 1 ∷ 1 ∷ 2 ∷ 2 ∷ 4 ∷ 0 ∷ 2 ∷ 2 ∷ []
-
-unfoldable pub steps-z : List ℕ
-steps-z = 3 ∷ 1 ∷ 3 ∷ 1 ∷ 3 ∷ 1 ∷ 3 ∷ 1 ∷ 2 ∷ 2 ∷ 2 ∷ 2 ∷ 4 ∷ 0 ∷ []
-
-pub step-x : (p : ℕ) → getD steps-x p 0 ≡ offsetAt p .0
-unfolding offsets steps-x
-step-x p = List·getD-map {A = Offset} (λ o. o .0) offsets p (0, 0, 0)
-
-pub step-y : (p : ℕ) → getD steps-y p 0 ≡ offsetAt p .1
-unfolding offsets steps-y
-step-y p = List·getD-map {A = Offset} (λ o. o .1) offsets p (0, 0, 0)
-
-pub step-z : (p : ℕ) → getD steps-z p 0 ≡ offsetAt p .2
-unfolding offsets steps-z
-step-z p = List·getD-map {A = Offset} (λ o. o .2) offsets p (0, 0, 0)
+-- a step that stays inside
+pub within : (x d : ℕ) → 2 ≤ x + d → x + d ≤ 65537 → inside x d ≡ true
+unfolding inside
+within x d l h = rw (le-leb 2 (x + d) l, lt-ltb (x + d) 65538 (omega arith))
 
 -- the neighbours by two lists of offsets, one after the other
 neighbours-append : (k : ℕ) (os ps : List Offset) → neighboursBy k (os ++ ps) ≡ neighboursBy k os ++ neighboursBy k ps

@@ -1,1 +1,2 @@
 pub mod Neighbors
+pub mod Steps

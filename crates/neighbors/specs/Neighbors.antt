@@ -11,8 +11,6 @@ use Rattle.lists.specs.declared.Listed.{Listed}
 use Rattle.lists.specs.declared.Listed.the-variants as listed
 use Rattle.refusals.specs.declared.Refusal.the-variants.{Lengths, OffLattice}
 use Rattle.refusals.specs.Refusals.{numberOf}
-use Rattle.neighbors.specs.declared.Moved.{Moved}
-use Rattle.neighbors.specs.declared.Moved.the-variants as moved
 use Rattle.neighbors.specs.declared.Cell.{Cell}
 use Rattle.neighbors.specs.declared.Cell.the-variants as cell
 use Rattle.neighbors.specs.declared.Neighbor.{Neighbor}
@@ -58,9 +56,6 @@ inside x d = leb 2 (x + d) && ltb (x + d) 65538
 -- the coordinate moved by a step, where it is inside
 abbrev pub moveTo : ℕ → ℕ → ℕ
 moveTo x d = x + d - 2
-
-abbrev pub movedBy : ℕ → ℕ → Moved
-movedBy x d = cond (inside x d) (moved.To (moveTo x d)) moved.Outside
 
 -- the cell that an offset leads to from head, x, y, z
 unfoldable pub reachedFrom : ℕ → ℕ → ℕ → ℕ → Offset → Cell

@@ -2,34 +2,39 @@
 use lists::Listed;
 use refusals::Refusal;
 ghost use mathlib.Core.Path.{_≡_};
-ghost use Prim.Native.Nat.{_<_, _≤_};
+ghost use Prim.Native.Nat.{_<_, _≤_, _^_};
+ghost use mathlib.Core.List.{map};
 ghost use lib.ListN.{length, take};
+ghost use Rattle.ids.specs.Morton.{gather};
 ghost use Rattle.lists.specs.Padding.{padded};
 ghost use Rattle.neighbors.specs.Neighbors.{
-  offsetAt,
-  movedBy,
-  reachedFrom,
+  offsets,
   neighbours,
   neighborAt,
   listedOf,
   listingOf,
   nearOf,
 };
+ghost use Rattle.neighbors.specs.Steps.{stepsAlong, Narrow, joinOf, lowOf, cellOf};
 
 // The longest list that is taken.
 const MAX_PLACES: usize = 1_048_576;
 
-// The 14 offsets by axis, each 2 larger than it is.
-const STEP_X: [u16; 14] = [3, 3, 3, 3, 1, 1, 1, 1, 4, 0, 2, 2, 2, 2];
+// Where the head begins.
+const HEAD: u64 = 0x1_0000_0000_0000;
 
-const STEP_Y: [u16; 14] = [3, 3, 1, 1, 3, 3, 1, 1, 2, 2, 4, 0, 2, 2];
+// An axis' 16 bits in a key, three apart; and with a 17th.
+const AXIS: u64 = 0x2492_4924_9249;
 
-const STEP_Z: [u16; 14] = [3, 1, 3, 1, 3, 1, 3, 1, 2, 2, 2, 2, 4, 0];
+const WIDER: u64 = 0x1_2492_4924_9249;
 
-// A coordinate moved by a step.
-enum Moved {
-    To(u16),
-    Outside,
+// Where the five steps lead along an axis: 17 bits, three apart, the last of them set outside.
+struct Along {
+    down2: u64,
+    down1: u64,
+    stay: u64,
+    up1: u64,
+    up2: u64,
 }
 
 // The cell that an offset leads to.
@@ -51,42 +56,63 @@ pub struct Near {
     pub count: usize,
 }
 
-// The coordinate moved by a step that is 2 larger than it is.
-fn move_by(x: u16, step: u16) -> Moved
-    ensures { λ r. ⌜ r ≡ movedBy x step ⌝ }
+// The steps along the axis that begins at the lowest bit. What is added is a spread number, with ones between its bits, which a carry passes.
+fn steps_along(m: u64) -> Along
+    ensures { λ r. ⌜ r ≡ stepsAlong (gather 16 m) ⌝ }
+    ensures { λ r. ⌜ Narrow r ⌝ }
 {
-    let sum = (x as u32) + (step as u32);
-    if sum < 2 {
-        return Moved::Outside;
+    let stay = m & AXIS;
+    Along {
+        down2: (stay + 0x7_ffff_ffff_fffe) & WIDER,
+        down1: (stay + 0x7_ffff_ffff_ffff) & WIDER,
+        stay,
+        up1: (stay + 0x6_db6d_b6db_6db7) & WIDER,
+        up2: (stay + 0x6_db6d_b6db_6dbe) & WIDER,
     }
-    if 65537 < sum {
-        return Moved::Outside;
-    }
-    Moved::To((sum - 2) as u16)
 }
 
-// The cell that three steps lead to.
-fn step(head: u16, x: u16, y: u16, z: u16, dx: u16, dy: u16, dz: u16) -> Cell
-    ensures { λ r. ⌜ r ≡ reachedFrom head x y z (dx, dy, dz) ⌝ }
+// Three axes in one number.
+fn join(x: u64, y: u64, z: u64) -> u64
+    requires { ⌜ (x < 2 ^ 51) × (y < 2 ^ 51) × (z < 2 ^ 51) ⌝ }
+    ensures { λ r. ⌜ r ≡ joinOf x y z ⌝ }
 {
-    let Moved::To(nx) = move_by(x, dx) else {
-        return Cell::Outside;
-    };
-    let Moved::To(ny) = move_by(y, dy) else {
-        return Cell::Outside;
-    };
-    let Moved::To(nz) = move_by(z, dz) else {
-        return Cell::Outside;
-    };
-    Cell::At((head as u64) * 0x1_0000_0000_0000 + ids::morton_encode(nx, ny, nz))
+    x + y * 2 + z * 4
 }
 
-// The cell that the offset at a place leads to.
-fn reached(head: u16, x: u16, y: u16, z: u16, place: usize) -> Cell
-    requires { ⌜ place < 14 ⌝ }
-    ensures { λ r. ⌜ r ≡ reachedFrom head x y z (offsetAt place) ⌝ }
+// What the 14 offsets lead to, below the head; past its end where that is outside.
+fn lower_parts(key: u64) -> [u64; 14]
+    ensures { λ r. ⌜ r ≡ map (lowOf key) offsets ⌝ }
 {
-    step(head, x, y, z, STEP_X[place], STEP_Y[place], STEP_Z[place])
+    let x = steps_along(key);
+    let y = steps_along(key / 2);
+    let z = steps_along(key / 4);
+    [
+        join(x.up1, y.up1, z.up1),
+        join(x.up1, y.up1, z.down1),
+        join(x.up1, y.down1, z.up1),
+        join(x.up1, y.down1, z.down1),
+        join(x.down1, y.up1, z.up1),
+        join(x.down1, y.up1, z.down1),
+        join(x.down1, y.down1, z.up1),
+        join(x.down1, y.down1, z.down1),
+        join(x.up2, y.stay, z.stay),
+        join(x.down2, y.stay, z.stay),
+        join(x.stay, y.up2, z.stay),
+        join(x.stay, y.down2, z.stay),
+        join(x.stay, y.stay, z.up2),
+        join(x.stay, y.stay, z.down2),
+    ]
+}
+
+// The cell of a lower part under the key's head.
+fn cell_of(key: u64, low: u64) -> Cell
+    ensures { λ r. ⌜ r ≡ cellOf key low ⌝ }
+{
+    if low < HEAD {
+        Cell::At(key / HEAD * HEAD + low)
+    } else {
+        Cell::Outside
+    }
 }
 
 // The neighbour at a place of the 14; past them there is none.
@@ -99,8 +125,8 @@ pub fn neighbor_at(key: u64, place: usize) -> Neighbor
     if 14 <= place {
         return Neighbor::Outside;
     }
-    let c = ids::morton_decode(key);
-    match reached(ids::head(key), c.x, c.y, c.z, place) {
+    let parts = lower_parts(key);
+    match cell_of(key, parts[place]) {
         Cell::At(k) => Neighbor::At(k),
         Cell::Outside => Neighbor::Outside,
     }
@@ -110,13 +136,12 @@ pub fn neighbor_at(key: u64, place: usize) -> Neighbor
 pub fn around(key: u64) -> Near
     ensures { λ r. ⌜ r ≡ nearOf key ⌝ }
 {
-    let head = ids::head(key);
-    let c = ids::morton_decode(key);
+    let parts = lower_parts(key);
     let mut keys = [0u64; 14];
     let mut count = 0;
     let mut place = 0;
     while place < 14 {
-        let n = reached(head, c.x, c.y, c.z, place);
+        let n = cell_of(key, parts[place]);
         if let Cell::At(k) = n {
             keys[count] = k;
             count += 1;

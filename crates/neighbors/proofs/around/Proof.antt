@@ -9,28 +9,32 @@ use lib.ListN.{length}
 use Rattle.lists.specs.Padding.{padded}
 use Rattle.neighbors.specs.Neighbors.{offsetAt, reached, neighboursBy}
 use Rattle.neighbors.proofs.NeighborLaws.{first, first-all, keys-one, count-one, keys-none, count-none}
+use Rattle.neighbors.proofs.StepLaws.{cell-reached}
 use Rattle.neighbors.proofs.around.Statement.{statement}
 use Rattle.neighbors.proofs.around.Tie as tie
 
 abbrev Inv-loop : tie.InvT-loop
-Inv-loop key head c keys₀ count₀ place₀ keys count place =
+Inv-loop key parts keys₀ count₀ place₀ keys count place =
     (place ≤ 14) × (keys ≡ padded 0 14 (first key place)) × (count ≡ length (first key place)) × (count ≤ place)
 
 abbrev μ-loop : tie.MeasureT-loop
-μ-loop key head c keys₀ count₀ place₀ keys count place = 14 - place
+μ-loop key parts keys₀ count₀ place₀ keys count place = 14 - place
 
-head-requires : tie.Need-head-requires Inv-loop μ-loop
-head-requires c κs = search needs
-
-morton-decode-requires : tie.Need-morton-decode-requires Inv-loop μ-loop
-morton-decode-requires c κs = search needs
+lower-parts-requires : tie.Need-lower-parts-requires Inv-loop μ-loop
+lower-parts-requires c κs = search needs
 
 loop-holds : tie.Need-loop-holds Inv-loop μ-loop
 unfolding padded neighboursBy
 loop-holds c = (search needs, refl, refl, search needs)
 
-reached-requires : tie.Need-reached-requires Inv-loop μ-loop
-reached-requires c κs = search needs
+mul-cell-of : tie.Need-mul-cell-of Inv-loop μ-loop
+mul-cell-of c = search needs
+
+array-read-cell-of : tie.Need-array-read-cell-of Inv-loop μ-loop
+array-read-cell-of c = search needs
+
+cell-of-requires : tie.Need-cell-of-requires Inv-loop μ-loop
+cell-of-requires c κs = search needs
 
 enum-known-n : tie.Need-enum-known-n Inv-loop μ-loop
 enum-known-n c = search needs
@@ -54,13 +58,15 @@ loop-less : tie.Need-loop-less Inv-loop μ-loop
 loop-less c = search needs
 
 -- the cell that was reached is that by the key's offset
-here : (c : tie.After-reached Inv-loop μ-loop) → c .reached .result ≡ reached (c .before .before .before .before .before .args .key) (offsetAt (c .before .before .loop .place))
-here c = let l = c .before .before in rw (c .reached .ensures, l .before .morton-decode .ensures, l .before .before .head .ensures)
+here : (c : tie.After-cell-of Inv-loop μ-loop) → c .cell-of .result ≡ reached (c .before .before .before .before .args .key) (offsetAt (c .before .before .loop .place))
+here c =
+    let l = c .before .before in
+    rw (c .cell-of .ensures, l .before .lower-parts .ensures) (cell-reached _ _ (c .before .loop-test .taken))
 
 loop-again : tie.Need-loop-again Inv-loop μ-loop
 loop-again c =
     let l = c .before .before .before in
-    let k = l .before .before .before .args .key in
+    let k = l .before .before .args .key in
     let n = l .loop .place in
     let t = c .before .before .loop-test .taken in
     let e = here (c .before) in
@@ -82,10 +88,11 @@ around-spec =
     (tie.spec
     Inv-loop
     μ-loop
-    head-requires
-    morton-decode-requires
+    lower-parts-requires
     loop-holds
-    reached-requires
+    mul-cell-of
+    array-read-cell-of
+    cell-of-requires
     enum-known-n
     mul-keys
     array-write-keys
