@@ -19,12 +19,12 @@ use Rattle.edges.specs.Edges.{Edge}
 use Rattle.edges.specs.EdgeList.{pairOf, SamePair, Neighbourhood, IsEdgeList}
 use Rattle.edges.specs.Listing.{firsts, seconds}
 use Rattle.edges.specs.ZeroCrossing.{crossesZero, zeroCrossingEdges}
-use Rattle.edges.proofs.RowLaws.{compared, ascending-keys}
+use Rattle.edges.proofs.RowLaws.{ascending-keys}
 use Rattle.edges.proofs.ZeroCrossingLaws.{lattice, demand-3-edges}
 use Rattle.groups.specs.Groups.{EndsAt, groupOf, groups, partOf}
 use Rattle.groups.specs.CellEdges.{paired, edgesIn, edgeListsOk, cellEdges}
 use Rattle.groups.specs.Near.{nearGroup}
-use Rattle.groups.proofs.GroupLaws.{group-in, in-group, group-ordered}
+use Rattle.groups.proofs.GroupLaws.{compared, group-in, in-group, group-ordered}
 use Rattle.groups.proofs.PartLaws.{Covers, groups-length, group-part}
 use Rattle.groups.proofs.CountingLaws.{edges-back}
 use Rattle.groups.proofs.Neighbourhoods.{gathered-is-group, group-small}

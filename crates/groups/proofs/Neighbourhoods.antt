@@ -14,7 +14,6 @@ use Rattle.table.specs.Table.{Row}
 use Rattle.edges.specs.Edges.{Edge, edge}
 use Rattle.edges.specs.EdgeList.{pairOf, SamePair, Neighbourhood, Before, IsEdgeList}
 use Rattle.edges.specs.Listing.{firsts}
-use Rattle.edges.proofs.RowLaws.{compared}
 use Rattle.table.specs.declared.Found.{Found}
 use Rattle.table.specs.declared.Found.the-variants.{At, Absent}
 use Rattle.lists.specs.Padding.{padded}
@@ -29,7 +28,7 @@ use Rattle.groups.specs.Groups.{groupOf}
 use Rattle.groups.proofs.NumberLaws.{number-sound, number-complete}
 use Rattle.groups.proofs.PlacingLaws.{placed-length, placed-here, placed-kept, placed-only, placed-ordered, held-numbers, held-open}
 use Rattle.groups.specs.Groups.{edgeAt, EndsAt}
-use Rattle.groups.proofs.GroupLaws.{group-in, in-group, group-ordered}
+use Rattle.groups.proofs.GroupLaws.{compared, group-in, in-group, group-ordered}
 
 -- numbers in ascending order, exactly those of the edges that have the cell as an end, are its group
 pub group-only : (es : List Edge) (cell : ℕ) (l : List ℕ) → Ordered _<_ l → ((i : ℕ) → i ∈ l → EndsAt es i cell) → ((i : ℕ) → EndsAt es i cell → i ∈ l) → l ≡ groupOf es cell

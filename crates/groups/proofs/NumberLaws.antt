@@ -9,7 +9,7 @@ use mathlib.Core.Path.{_≡_, refl, sym, ap, _∙_}
 use mathlib.Core.Bool.{Bool, true, false, cond}
 use mathlib.Core.List.{List, [], _∷_, map}
 use lib.Dec.{ltb, eqb}
-use lib.ListN.{length, getD, take, drop, length-drop}
+use lib.ListN.{length, getD, take, drop, length-drop, length-map}
 use lib.Seq.{getD-drop}
 use borrow.Author.Tests.{lt-ltb, ltb-true, ltb-false, eqb-true, ne-eqb, eq-eqb}
 use Rattle.lists.specs.Lists.{_∈_, Ordered}
@@ -148,20 +148,16 @@ module _ (a b : ℕ) (es : List Edge) where
   first-at (x ∷ fs) zero m = refl
   first-at (x ∷ fs) (suc k) m = first-at fs k (le-of-suc-le-suc m)
 
-  firsts-length : (fs : List Edge) → length (firsts fs) ≡ length fs
-  firsts-length [] = refl
-  firsts-length (x ∷ fs) = ap suc (firsts-length fs)
-
   -- from the place of a on, up to an edge that starts at a, all start there
   between : Ordered _≤_ (firsts es) → (i : ℕ) → i < length es → edgeAt es i .first ≡ a → (k : ℕ) → placeOf a (firsts es) ≤ k → k ≤ i → edgeAt es k .first ≡ a
   between o i l e k h g =
       let n : k < length es = omega arith in
-      let m : k < length (firsts es) = rw (firsts-length es) n in
+      let m : k < length (firsts es) = rw (length-map es (λ (e : Edge). e .first)) n in
       let low : a ≤ getD (firsts es) k 0 = at-place a (firsts es) o k h m in
       let here = first-at es k n in
       let there = first-at es i l in
       cases (λ (t : Bool). ltb k i ≡ t → edgeAt es k .first ≡ a) (ltb k i)
-      (λ t q. let up = ordered-at _≤_ (firsts es) 0 o k i (ltb-true k i q) (rw (firsts-length es) l) in omega arith)
+      (λ t q. let up = ordered-at _≤_ (firsts es) 0 o k i (ltb-true k i q) (rw (length-map es (λ (e : Edge). e .first)) l) in omega arith)
       (λ t q. let same : k ≡ i = omega (arith, ltb-false k i q) in rw same e) refl
 
   -- and where the first keys ascend, an edge is found
@@ -171,7 +167,7 @@ module _ (a b : ℕ) (es : List Edge) where
       let p = placeOf a (firsts es) in
       let start : edgeAt es i .first ≡ a = ap (λ (y : Edge). y .first) e in
       let key : getD (firsts es) i 0 ≡ a = first-at es i l ∙ start in
-      let low : p ≤ i = place-le a (firsts es) i (omega arith) (rw (firsts-length es) l) in
+      let low : p ≤ i = place-le a (firsts es) i (omega arith) (rw (length-map es (λ (e : Edge). e .first)) l) in
       let at : (k : ℕ) → edgeAt (drop p es) k ≡ edgeAt es (p + k) = λ k. getD-drop p es k (edge 0 0) in
       let step : p + (i - p) ≡ i = omega arith in
       rw (halved-place a (firsts es) o)

@@ -1,13 +1,12 @@
 -- The answer to building, and what the four lists then hold: what was found, in its room, or zeros.
 -- Assumes nothing.
-use Prim.Native.Nat.{ℕ, suc, _≤_, _<_}
-use native.Mathlib.Nat.{not-suc-le-zero}
+use Prim.Native.Nat.{ℕ, _≤_, _<_}
 use native.Mathlib.Omega.{arith}
 use mathlib.Core.Path.{_≡_, refl, sym, ap, _∙_}
 use mathlib.Core.Bool.{Bool, true, false, cond, _&&_, false≢true}
 use mathlib.Core.List.{List, [], _∷_, _++_, map}
 use lib.Dec.{eqb, leb}
-use lib.ListN.{length, take, replicate}
+use lib.ListN.{length, take, replicate, length-map}
 use lib.Seq.{sets, length-sets}
 use borrow.Author.Tests.{eqb-true, leb-true}
 use Rattle.lists.specs.Places.{clearedFrom}
@@ -37,10 +36,6 @@ settled (Count m) xs l l' l″ n e same how none =
     let long : length (sets l 0 xs) ≡ length l = length-sets l 0 xs in
     e ∙ rw (h .0, h .2, sets-front l xs (h .1), long)
 settled (Refused why) xs l l' l″ n e same how none = e ∙ rw (none why refl) (cleared-whole 0 l' ∙ ap (λ (k : ℕ). replicate k 0) same)
-
-column-length : (f : Three ℕ → ℕ) (ts : List (Three ℕ)) → length (map f ts) ≡ length ts
-column-length f [] = refl
-column-length f (t ∷ ts) = ap suc (column-length f ts)
 
 -- ---- the answer
 
@@ -134,7 +129,7 @@ module _ (ks : List ℕ) (rows : ℕ) (as' bs : List ℕ) (m : ℕ) (g x y z : L
         (λ c q.
         let h = counted ok f (length g') (length x') c (sym answered ∙ q) in
         let d = ap (λ (w : Filled). w .triangles) (all-counts (h .0)) in
-        let r = column-length p (trianglesAt s (take rows ks)) in (
+        let r = length-map (trianglesAt s (take rows ks)) p in (
           kept ∙ ap countOf q ∙ h .3 ∙ d ∙ sym r,
           omega (arith, h .2, d, r, x-long, same (h .0)),
           wrote ∙ ap (λ (i : ℕ). sets l 0 (map p (trianglesAt s (take i ks)))) (all-rows (h .0)),

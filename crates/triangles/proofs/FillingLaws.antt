@@ -1,11 +1,11 @@
 -- Filling the lists cell by cell: the cells that are left say what all of them say.
 -- Assumes nothing.
-use Prim.Native.Nat.{ℕ, suc, _+_, _≤_, _<_}
+use Prim.Native.Nat.{ℕ, _+_, _≤_, _<_}
 use native.Mathlib.Numerals.{add-one}
 use native.Mathlib.Omega.{arith}
-use mathlib.Core.Path.{_≡_, refl, sym, ap, _∙_}
+use mathlib.Core.Path.{_≡_, sym, ap, _∙_}
 use mathlib.Core.List.{List, [], _∷_, _++_, map, map-append}
-use lib.ListN.{length, getD, take, drop, length-append, drop-of-length-le}
+use lib.ListN.{length, getD, take, drop, length-append, length-map, drop-of-length-le}
 use lib.Seq.{sets, drop-cons}
 use Rattle.lists.specs.Lists.{joined}
 use Rattle.lists.proofs.PaddingLaws.{padded-front, padded-length}
@@ -17,11 +17,6 @@ use Rattle.triangles.specs.Building.{Source, groupAt, groupsAt, triangle
 use Rattle.triangles.specs.Steps.{filledWith}
 use Rattle.triangles.proofs.ThreeLaws.{length-threes}
 use Rattle.triangles.proofs.WritingLaws.{Written, written-begun, written-more, written-ended}
-
--- a column is as long as the list
-column-length : (f : Three ℕ → ℕ) (ts : List (Three ℕ)) → length (map f ts) ≡ length ts
-column-length f [] = refl
-column-length f (t ∷ ts) = ap suc (column-length f ts)
 
 -- the lists as they were, and as they are where the cells from `row` on are left
 pub record Filling (s : Source) (cells : List ℕ) (g₀ x₀ y₀ z₀ : List ℕ) (row numbers triangles : ℕ) (g x y z : List ℕ) : Type 0 where
@@ -57,7 +52,7 @@ module _ (s : Source) (cells : List ℕ) (g₀ x₀ y₀ z₀ : List ℕ) where
       put : (f : Three ℕ → ℕ) (l₀ l l' : List ℕ) (b' : ℕ) → b' ≡ b + threesOf (length numbers) → l' ≡ sets l b (map f (threes numbers)) →
           Written (map f (trianglesAt s cells)) 0 l₀ (map f (trianglesAt s (drop row cells))) b l → Written (map f (trianglesAt s cells)) 0 l₀ (map f (trianglesAt s (drop (row + 1) cells))) b' l'
       put f l₀ l l' b' p q v =
-          let n : b' ≡ b + length (map f (threes numbers)) = omega (arith, column-length f (threes numbers), length-threes numbers) in
+          let n : b' ≡ b + length (map f (threes numbers)) = omega (arith, length-map (threes numbers) f, length-threes numbers) in
           rw (n, q) (written-more (map f (trianglesAt s cells)) 0 l₀ (map f (trianglesAt s (drop row cells))) b l (map f (threes numbers)) (map f (trianglesAt s (drop (row + 1) cells))) (column f) v)
 
       pub filling-turn : (a' b' : ℕ) (g' x' y' z' : List ℕ) → a' ≡ a + length numbers → b' ≡ b + threesOf (length numbers) → g' ≡ sets g a numbers →

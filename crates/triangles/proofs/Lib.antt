@@ -5,3 +5,5 @@ pub mod WritingLaws
 pub mod PuttingLaws
 pub mod FillingLaws
 pub mod AnswerLaws
+pub mod Built
+pub mod Determined

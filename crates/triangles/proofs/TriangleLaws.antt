@@ -12,11 +12,10 @@ use Rattle.lists.proofs.ListLaws.{at-in, ordered-at, ordered-weaken, joined-in,
 use Rattle.triangles.specs.Threes.{Three, threes, threesOf, Dictionary}
 use Rattle.triangles.proofs.ThreeLaws.{length-threes, threes-in, in-threes, threes-ordered, dictionary-asym}
 use Rattle.edges.specs.Edges.{Edge, edge}
-use Rattle.edges.proofs.RowLaws.{compared}
 use Rattle.groups.specs.Groups.{edgeAt, groupOf, countOf}
 use Rattle.triangles.specs.Triangles.{trianglesAt, triangles, trianglesOf}
 use Rattle.triangles.specs.TriangleList.{Meet, Before, IsTriangleList}
-use Rattle.groups.proofs.GroupLaws.{numbers-length, group-in, in-group, group-ordered}
+use Rattle.groups.proofs.GroupLaws.{compared, numbers-length, group-in, in-group, group-ordered}
 use Rattle.groups.proofs.PartLaws.{Covers, cell-in}
 
 -- how long the triangle list is
