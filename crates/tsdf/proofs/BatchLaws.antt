@@ -1,13 +1,13 @@
--- A batch of one is a fuse, and a batch splits anywhere: it is its readings in turn, and what the first part leaves passes the tests again.
+-- A batch of one is a fuse, a batch splits anywhere, and in a refused one the earlier readings stand: a batch is its readings in turn, and what a part leaves passes the tests again.
 -- Assumes nothing.
 use mathlib.Core.Path.{_≡_, refl, sym, ap, _∙_}
 use mathlib.Core.Bool.{Bool, true, false}
 use mathlib.Core.List.{List, [], _∷_, _++_}
-use Prim.Native.Nat.{ℕ, suc, _+_, _≤_}
+use Prim.Native.Nat.{ℕ, suc, _+_, _≤_, _<_, zero-le, suc-le-suc}
 use native.Mathlib.Nat.{add-zero, add-suc, suc-add, suc-inj, suc-ne-zero, zero-add}
 use native.Mathlib.Omega.{arith}
 use borrow.Author.Tests.{le-leb, eq-eqb}
-use lib.ListN.{length, length-append}
+use lib.ListN.{length, take, length-append}
 use lib.Ieee.{Float}
 use Rattle.refusals.specs.declared.Refusal.{Refusal}
 use Rattle.refusals.specs.declared.Refusal.the-variants.{Setting}
@@ -22,6 +22,7 @@ use Rattle.tsdf.specs.declared.Batched.the-variants as Batched
 use Rattle.tsdf.specs.Fusing.{Outcome, fuseIf, fuse}
 use Rattle.tsdf.specs.Batches.{BatchOutcome, batchOutcome, directOf, stopOr, batchFrom, batchIf, batchCheck, batch}
 use Rattle.tsdf.proofs.Keeping.{fuse-keeps}
+use Rattle.tsdf.proofs.FuseLaws.{refused-unchanged}
 
 -- ---- the tests
 
@@ -153,3 +154,38 @@ batch-splits s t ks ks' ds ds' cs cs' p q p' q' h =
         let o = batchFrom s 0 t (beside ks ds cs) in
         from-splits s 0 t (beside ks ds cs) (beside ks' ds' cs')
         ∙ followed-same (o .answer) (o .left) (λ u. batchFrom s (0 + length (beside ks ds cs)) u (beside ks' ds' cs')) (λ u. countedFrom (length ks) (batchIf (batchCheck s u (length ks') (length ds') (length cs')) s u (beside ks' ds' cs'))) (second (o .left) (from-keeps s 0 t (beside ks ds cs) e))
+
+-- ---- a refused batch
+
+-- a batch whose first reading is the j-th and that names reading i: those before it went through, and leave what the batch leaves
+pub record Stands (s : Settings) (j : ℕ) (t : Table) (rs : List Row) (i : ℕ) : Type 0 where
+  pub earlier : ℕ
+  pub named : i ≡ j + earlier
+  pub inside : earlier < length rs
+  pub same : batchFrom s j t (take earlier rs) ≡ batchOutcome Batched.Done (batchFrom s j t rs .left)
+
+stands : (s : Settings) (j : ℕ) (t : Table) (rs : List Row) (why : Refusal) (i : ℕ) → batchFrom s j t rs .answer ≡ Batched.Refused why i → Stands s j t rs i
+unfolding batchFrom stopOr
+stands s j t [] why i e = let z : _≡_ {A = ℕ} 0 1 = cc in absurd (omega arith)
+stands s j t (r ∷ rs) why i e = go (fuse s t (r .key) (directOf r) .answer) refl e (λ q. stands s (suc j) (fuse s t (r .key) (directOf r) .left) rs why i q)
+  where
+    go : (a : Fused) → fuse s t (r .key) (directOf r) .answer ≡ a → stopOr a j (fuse s t (r .key) (directOf r) .left) (batchFrom s (suc j) (fuse s t (r .key) (directOf r) .left) rs) .answer ≡ Batched.Refused why i → (batchFrom s (suc j) (fuse s t (r .key) (directOf r) .left) rs .answer ≡ Batched.Refused why i → Stands s (suc j) (fuse s t (r .key) (directOf r) .left) rs i) → Stands s j t (r ∷ rs) i
+    go (Fused.Refused w) q f next =
+        let n : j ≡ i = cc in
+        record {
+          earlier = 0;
+          named = rw add-zero (sym n);
+          inside = suc-le-suc zero-le;
+          same = rw q (ap (batchOutcome Batched.Done) (sym (refused-unchanged s t (r .key) (directOf r) w q)));
+        }
+    go Fused.Far q f next =
+        let n = next f in
+        record { earlier = suc (n .earlier); named = omega (arith, n .named); inside = suc-le-suc (n .inside); same = rw q (n .same) }
+    go Fused.Stored q f next =
+        let n = next f in
+        record { earlier = suc (n .earlier); named = omega (arith, n .named); inside = suc-le-suc (n .inside); same = rw q (n .same) }
+
+-- the readings before the refused one stand, and nothing else changed
+pub earlier-stand : (s : Settings) (t : Table) (ks : List ℕ) (ds cs : List Float) (why : Refusal) (i : ℕ) → batchCheck s t (length ks) (length ds) (length cs) ≡ Checked.Passed → batch s t ks ds cs .answer ≡ Batched.Refused why i → Stands s 0 t (beside ks ds cs) i
+unfolding batch batchIf
+earlier-stand s t ks ds cs why i p e = stands s 0 t (beside ks ds cs) why i (rw p at e)

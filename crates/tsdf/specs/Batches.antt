@@ -42,6 +42,7 @@ batchFrom s i t (r ∷ rs) =
     let o = fuse s t (r .key) (directOf r) in
     stopOr (o .answer) i (o .left) (batchFrom s (suc i) (o .left) rs)
 
+-- what the tests refuse stays refused, and names reading 0
 unfoldable pub batchIf : Checked → Settings → Table → List Row → BatchOutcome
 unfolding batchFrom
 batchIf (Checked.Refused why) s t rs = batchOutcome (Batched.Refused why 0) t
@@ -51,7 +52,7 @@ batchIf Checked.Passed s t rs = batchFrom s 0 t rs
 abbrev pub batchCheck : Settings → Table → ℕ → ℕ → ℕ → Checked
 batchCheck s t a b c = need (settingsOk s) Setting (need (lengthsOk a b c 0) Lengths (tableCheck s t))
 
--- refused with 1 to 3 it names reading 0
+-- a batch: its tests, then its readings
 unfoldable pub batch : Settings → Table → List ℕ → List Float → List Float → BatchOutcome
 unfolding batchIf
 batch s t ks ds cs = batchIf (batchCheck s t (length ks) (length ds) (length cs)) s t (beside ks ds cs)

@@ -63,12 +63,14 @@ fusedNear most t k m =
     let f = find k (take (t .count) (t .keys)) in
     stored t k (hasPlace f t) (fusedVoxel most (voxelAt f t) m)
 
+-- what the tests of the reading refuse stays refused, and Far is Far
 unfoldable pub fusedIf : Float → Table → ℕ → Admitted → Outcome
 unfolding fusedNear
 fusedIf most t k (Admitted.No why) = outcome (Fused.Refused why) t
 fusedIf most t k Admitted.Far = outcome Fused.Far t
 fusedIf most t k (Admitted.Near m) = fusedNear most t k m
 
+-- what the tests of the table refuse stays refused
 unfoldable pub fuseIf : Checked → Settings → Table → ℕ → Reading → Outcome
 unfolding fusedIf admitted
 fuseIf (Checked.Refused why) s t k r = outcome (Fused.Refused why) t

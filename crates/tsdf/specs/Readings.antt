@@ -24,6 +24,7 @@ readingOk (Ray x y z depth c) = isFinite (x .0) && (isFinite (y .0) && (isFinite
 abbrev pub apart : ℕ → Float → Float → Float
 apart cells size sensor = sub binary32 (metresOf cells size .0) sensor
 
+-- x times itself
 abbrev pub square : Float → Float
 square x = mul binary32 x x
 

@@ -368,20 +368,20 @@ fn batch_sound(
     distances: &mut [f32],
     weights: &mut [f32],
     count: &mut usize,
-    cells: &[u64],
-    sdfs: &[f32],
-    confidences: &[f32],
+    batch_keys: &[u64],
+    batch_distances: &[f32],
+    batch_confidences: &[f32],
 ) -> Batched
     requires { ⌜ tableCheck settings (table (now keys) (now distances) (now weights) (now count)) ≡ Checked.Passed ⌝ }
-    requires { ⌜ (length (now sdfs) ≡ length (now cells)) × (length (now confidences) ≡ length (now cells)) ⌝ }
+    requires { ⌜ (length (now «batch_distances») ≡ length (now «batch_keys»)) × (length (now «batch_confidences») ≡ length (now «batch_keys»)) ⌝ }
     ensures { λ r. ⌜ batchOutcome r (table (now (keys .exit)) (now (distances .exit)) (now (weights .exit)) (now (count .exit)))
-        ≡ batchFrom settings 0 (table (now (keys .entry)) (now (distances .entry)) (now (weights .entry)) (now (count .entry))) (beside (now (cells .entry)) (now (sdfs .entry)) (now (confidences .entry))) ⌝ }
+        ≡ batchFrom settings 0 (table (now (keys .entry)) (now (distances .entry)) (now (weights .entry)) (now (count .entry))) (beside (now («batch_keys» .entry)) (now («batch_distances» .entry)) (now («batch_confidences» .entry))) ⌝ }
 {
     let mut i = 0;
-    while i < cells.len() {
-        let key = cells[i];
-        let distance = sdfs[i];
-        let confidence = confidences[i];
+    while i < batch_keys.len() {
+        let key = batch_keys[i];
+        let distance = batch_distances[i];
+        let confidence = batch_confidences[i];
         let reading = Reading::Direct {
             distance: Metres(distance),
             confidence,
@@ -409,17 +409,22 @@ pub fn batch_update(
     distances: &mut [f32],
     weights: &mut [f32],
     count: &mut usize,
-    cells: &[u64],
-    sdfs: &[f32],
-    confidences: &[f32],
+    batch_keys: &[u64],
+    batch_distances: &[f32],
+    batch_confidences: &[f32],
 ) -> Batched
     ensures { λ r. ⌜ batchOutcome r (table (now (keys .exit)) (now (distances .exit)) (now (weights .exit)) (now (count .exit)))
-        ≡ batch settings (table (now (keys .entry)) (now (distances .entry)) (now (weights .entry)) (now (count .entry))) (now (cells .entry)) (now (sdfs .entry)) (now (confidences .entry)) ⌝ }
+        ≡ batch settings (table (now (keys .entry)) (now (distances .entry)) (now (weights .entry)) (now (count .entry))) (now («batch_keys» .entry)) (now («batch_distances» .entry)) (now («batch_confidences» .entry)) ⌝ }
 {
     if !settings_ok(settings) {
         return Batched::Refused(Refusal::Setting, 0);
     }
-    if !lengths_ok(cells.len(), sdfs.len(), confidences.len(), 0) {
+    if !lengths_ok(
+        batch_keys.len(),
+        batch_distances.len(),
+        batch_confidences.len(),
+        0,
+    ) {
         return Batched::Refused(Refusal::Lengths, 0);
     }
     match check_table(settings, keys, distances, weights, *count) {
@@ -430,9 +435,9 @@ pub fn batch_update(
             distances,
             weights,
             count,
-            cells,
-            sdfs,
-            confidences,
+            batch_keys,
+            batch_distances,
+            batch_confidences,
         ),
     }
 }

@@ -33,10 +33,12 @@ unfoldable pub rowIf : Bool → Looked → Looked
 rowIf true row = row
 rowIf false row = looked.Refused OffLattice
 
+-- the row of a key that is on the lattice
 unfoldable pub rowOf : Table → ℕ → Looked
 unfolding rowAt rowIf
 rowOf t k = rowIf (onLattice k) (rowAt t (find k (take (t .count) (t .keys))))
 
+-- what the tests of the table refuse stays refused
 unfoldable pub lookedIf : Checked → Looked → Looked
 lookedIf checked.Passed row = row
 lookedIf (checked.Refused why) row = looked.Refused why

@@ -32,6 +32,7 @@ tallied size t d w =
     })
     t
 
+-- the rows in order
 unfoldable pub talliedAll : Float → Tally → List Row → Tally
 talliedAll size t [] = t
 talliedAll size t (r ∷ rs) = talliedAll size (tallied size t (r .distance) (r .weight)) rs
@@ -44,6 +45,7 @@ unlessStart start x = cond (eq x start) zero32 x
 abbrev pub meanOf : Float → ℕ → Float
 meanOf sum n = cond (eqb n 0) zero32 (div binary32 sum (ofInt binary32 (pos n)))
 
+-- the statistics of n rows
 unfoldable pub statsOf : ℕ → Tally → TsdfStats
 statsOf n t =
     record {
@@ -54,6 +56,7 @@ statsOf n t =
       «average_weight» = meanOf (t .weight) n;
     }
 
+-- what the tests of the table refuse stays refused
 unfoldable pub statisticsIf : Checked → TsdfStats → Statistics
 statisticsIf checked.Passed s = statistics.Of s
 statisticsIf (checked.Refused why) s = statistics.Refused why

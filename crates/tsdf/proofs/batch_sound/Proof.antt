@@ -13,17 +13,17 @@ use Rattle.tsdf.proofs.batch_sound.Statement.{statement}
 use Rattle.tsdf.proofs.batch_sound.Tie as tie
 
 abbrev Inv-loop : tie.InvT-loop
-Inv-loop settings keys₀ distances₀ weights₀ count₀ cells sdfs confidences i₀ keys distances weights count i =
-    (i ≤ length cells)
+Inv-loop settings keys₀ distances₀ weights₀ count₀ batch-keys batch-distances batch-confidences i₀ keys distances weights count i =
+    (i ≤ length batch-keys)
     × (tableCheck settings (table keys distances weights count) ≡ Passed)
-    × (batchFrom settings 0 (table keys₀ distances₀ weights₀ count₀) (beside cells sdfs confidences)
-    ≡ batchFrom settings i (table keys distances weights count) (drop i (beside cells sdfs confidences)))
+    × (batchFrom settings 0 (table keys₀ distances₀ weights₀ count₀) (beside batch-keys batch-distances batch-confidences)
+    ≡ batchFrom settings i (table keys distances weights count) (drop i (beside batch-keys batch-distances batch-confidences)))
     × (length keys ≡ length keys₀)
     × (length distances ≡ length distances₀)
     × (length weights ≡ length weights₀)
 
 abbrev μ-loop : tie.MeasureT-loop
-μ-loop settings keys₀ distances₀ weights₀ count₀ cells sdfs confidences i₀ keys distances weights count i = length cells - i
+μ-loop settings keys₀ distances₀ weights₀ count₀ batch-keys batch-distances batch-confidences i₀ keys distances weights count i = length batch-keys - i
 
 loop-holds : tie.Need-loop-holds Inv-loop μ-loop
 loop-holds c = (search needs, c .before .before .before .before .before .before .pre .0, refl, refl, refl, refl)
@@ -67,8 +67,8 @@ returns c =
     let l = f .before .before .before .before .before .before .before .before .before in
     let s = f .before .before .before .before .before .before .before .before .before .before .before .before .before .before .before .before in
     let a = s .args in
-    let h : l .loop .i < length (a .cells .now) = omega (arith, f .before .before .before .before .before .before .before .before .loop-test .taken) in
-    sym (l .loop .inv .2 ∙ stops (a .settings) (table (l .loop .keys) (l .loop .distances) (l .loop .weights) (l .loop .count)) (a .cells .now) (a .sdfs .now) (a .confidences .now) (l .loop .i) (s .pre .1 .0) (s .pre .1 .1) h _ _ (f .fuse-sound .ensures) _ (c .before .answer .given .1))
+    let h : l .loop .i < length (a .batch-keys .now) = omega (arith, f .before .before .before .before .before .before .before .before .loop-test .taken) in
+    sym (l .loop .inv .2 ∙ stops (a .settings) (table (l .loop .keys) (l .loop .distances) (l .loop .weights) (l .loop .count)) (a .batch-keys .now) (a .batch-distances .now) (a .batch-confidences .now) (l .loop .i) (s .pre .1 .0) (s .pre .1 .1) h _ _ (f .fuse-sound .ensures) _ (c .before .answer .given .1))
 
 enum-told : tie.Need-enum-told Inv-loop μ-loop
 enum-told c = search needs
@@ -85,10 +85,10 @@ loop-again c =
     let l = f .before .before .before .before .before .before .before .before .before in
     let s = f .before .before .before .before .before .before .before .before .before .before .before .before .before .before .before .before in
     let a = s .args in
-    let h : l .loop .i < length (a .cells .now) = omega (arith, f .before .before .before .before .before .before .before .before .loop-test .taken) in (
+    let h : l .loop .i < length (a .batch-keys .now) = omega (arith, f .before .before .before .before .before .before .before .before .loop-test .taken) in (
       omega arith,
-      passes-again (a .settings) (table (l .loop .keys) (l .loop .distances) (l .loop .weights) (l .loop .count)) (a .cells .now) (a .sdfs .now) (a .confidences .now) (l .loop .i) (s .pre .1 .0) (s .pre .1 .1) h _ _ (f .fuse-sound .ensures) (l .loop .inv .1),
-      l .loop .inv .2 ∙ goes-on-far (a .settings) (table (l .loop .keys) (l .loop .distances) (l .loop .weights) (l .loop .count)) (a .cells .now) (a .sdfs .now) (a .confidences .now) (l .loop .i) (s .pre .1 .0) (s .pre .1 .1) h _ _ (f .fuse-sound .ensures) (c .enum-told .given .1),
+      passes-again (a .settings) (table (l .loop .keys) (l .loop .distances) (l .loop .weights) (l .loop .count)) (a .batch-keys .now) (a .batch-distances .now) (a .batch-confidences .now) (l .loop .i) (s .pre .1 .0) (s .pre .1 .1) h _ _ (f .fuse-sound .ensures) (l .loop .inv .1),
+      l .loop .inv .2 ∙ goes-on-far (a .settings) (table (l .loop .keys) (l .loop .distances) (l .loop .weights) (l .loop .count)) (a .batch-keys .now) (a .batch-distances .now) (a .batch-confidences .now) (l .loop .i) (s .pre .1 .0) (s .pre .1 .1) h _ _ (f .fuse-sound .ensures) (c .enum-told .given .1),
       f .fuse-sound .kept .1 .0 ∙ l .loop .inv .3,
       f .fuse-sound .kept .1 .1 .0 ∙ l .loop .inv .4,
       f .fuse-sound .kept .1 .1 .1 .0 ∙ l .loop .inv .5,
@@ -109,10 +109,10 @@ loop-again-2 c =
     let l = f .before .before .before .before .before .before .before .before .before in
     let s = f .before .before .before .before .before .before .before .before .before .before .before .before .before .before .before .before in
     let a = s .args in
-    let h : l .loop .i < length (a .cells .now) = omega (arith, f .before .before .before .before .before .before .before .before .loop-test .taken) in (
+    let h : l .loop .i < length (a .batch-keys .now) = omega (arith, f .before .before .before .before .before .before .before .before .loop-test .taken) in (
       omega arith,
-      passes-again (a .settings) (table (l .loop .keys) (l .loop .distances) (l .loop .weights) (l .loop .count)) (a .cells .now) (a .sdfs .now) (a .confidences .now) (l .loop .i) (s .pre .1 .0) (s .pre .1 .1) h _ _ (f .fuse-sound .ensures) (l .loop .inv .1),
-      l .loop .inv .2 ∙ goes-on (a .settings) (table (l .loop .keys) (l .loop .distances) (l .loop .weights) (l .loop .count)) (a .cells .now) (a .sdfs .now) (a .confidences .now) (l .loop .i) (s .pre .1 .0) (s .pre .1 .1) h _ _ (f .fuse-sound .ensures) (c .enum-told2 .given .1),
+      passes-again (a .settings) (table (l .loop .keys) (l .loop .distances) (l .loop .weights) (l .loop .count)) (a .batch-keys .now) (a .batch-distances .now) (a .batch-confidences .now) (l .loop .i) (s .pre .1 .0) (s .pre .1 .1) h _ _ (f .fuse-sound .ensures) (l .loop .inv .1),
+      l .loop .inv .2 ∙ goes-on (a .settings) (table (l .loop .keys) (l .loop .distances) (l .loop .weights) (l .loop .count)) (a .batch-keys .now) (a .batch-distances .now) (a .batch-confidences .now) (l .loop .i) (s .pre .1 .0) (s .pre .1 .1) h _ _ (f .fuse-sound .ensures) (c .enum-told2 .given .1),
       f .fuse-sound .kept .1 .0 ∙ l .loop .inv .3,
       f .fuse-sound .kept .1 .1 .0 ∙ l .loop .inv .4,
       f .fuse-sound .kept .1 .1 .1 .0 ∙ l .loop .inv .5,
@@ -131,7 +131,7 @@ returns-2 : tie.Need-returns-2 Inv-loop μ-loop
 returns-2 c =
     let l = c .before in
     let a = l .before .before .before .before .before .before .before .args in
-    sym (l .loop .inv .2 ∙ ended (a .settings) _ (a .cells .now) (a .sdfs .now) (a .confidences .now) (l .loop .i) (c .loop-test .left))
+    sym (l .loop .inv .2 ∙ ended (a .settings) _ (a .batch-keys .now) (a .batch-distances .now) (a .batch-confidences .now) (l .loop .i) (c .loop-test .left))
 
 pub batch-sound-spec : {M : Type 1} → statement M
 batch-sound-spec =
