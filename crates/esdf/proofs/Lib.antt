@@ -5,3 +5,4 @@ pub mod Holding
 pub mod Stepping
 pub mod Marching
 pub mod Computing
+pub mod Determined

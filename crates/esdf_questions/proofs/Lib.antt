@@ -2,3 +2,4 @@
 pub mod MarchedLaws
 pub mod Walking
 pub mod Answers
+pub mod Determined
