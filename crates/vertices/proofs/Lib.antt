@@ -7,3 +7,4 @@ pub mod Samples
 pub mod Determined
 pub mod Sizes
 pub mod Reach
+pub mod LengthLaws

@@ -23,7 +23,7 @@ use Rattle.ids.specs.Key.{xOf, yOf, zOf}
 use Rattle.ids.proofs.KeyLaws.{coord-small}
 use Rattle.bcc_utils.specs.Metres.{metresOf}
 use Rattle.vertices.specs.Vertices.{partOf, placeOf, vertexOf}
-use Rattle.vertices.proofs.Sizes.{Small, Held, le-of, round-size, round-small, small-wider, small-neg, mul-small, add-small, ofInt-small}
+use Rattle.vertices.proofs.Sizes.{true-is, is-true, Small, Held, le-of, round-size, round-small, small-wider, small-neg, mul-small, add-small, ofInt-small}
 use Rattle.vertices.proofs.PartLaws.{part-between}
 
 -- ---- with a sign: from 0 to b, and from -b to 0
@@ -151,13 +151,6 @@ add-opposite m (fin false k e) (fin true n d) h p q =
     (over (k * up e) m (down e) (down d) p) (over' (n * up d) m (down e) (down d) q)
 
 -- ---- t, the voxel size and the cells
-
-true-is : (b : Bool) → b ≡ true → T b
-true-is b e = subst T (sym e) tt
-
-is-true : (b : Bool) → T b → b ≡ true
-is-true true h = refl
-is-true false h = absurd h
 
 -- from 0 to 1; a zero may have either sign
 abbrev Fraction : Float → Type 0

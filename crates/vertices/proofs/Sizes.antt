@@ -18,6 +18,14 @@ use Rattle.lists.proofs.Bools.{cases}
 use Rattle.floats.specs.Floats.{sizeOf, isFinite}
 use Rattle.floats.proofs.Values.{le-or-lt}
 
+-- a test and its truth
+pub true-is : (b : Bool) → b ≡ true → T b
+true-is b e = subst T (sym e) tt
+
+pub is-true : (b : Bool) → T b → b ≡ true
+is-true true h = refl
+is-true false h = absurd h
+
 -- x is finite and at most b in size
 abbrev pub Small : ℕ → Float → Type 0
 Small b nan = ⊥
