@@ -817,7 +817,7 @@ fn spoil_groups(r: &mut Rng, c: &mut Case) {
         }
         5 if !c.edges[i].is_empty() => {
             let k = r.below(c.edges[i].len());
-            c.edges[i][k] = r.pick(&[c.key, 0, u64::MAX, c.key + 1]);
+            c.edges[i][k] = r.pick(&[c.key, 0, u64::MAX, c.key.wrapping_add(1)]);
         }
         6 if !c.edges[0].is_empty() && c.edges[0].len() == c.edges[1].len() => {
             let k = r.below(c.edges[0].len());
