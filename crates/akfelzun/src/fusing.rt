@@ -1,0 +1,158 @@
+// Fusing a reading or a batch of readings into a table.
+use floats::Metres;
+use table::Settings;
+use tsdf::Batched;
+use tsdf::Fused;
+ghost use mathlib.Core.Path.{_≡_};
+ghost use Rattle.table.specs.Table.{table};
+ghost use Rattle.tsdf.specs.Fusing.{fuse, fusedNumber};
+ghost use Rattle.tsdf.specs.Batches.{batch, batchedNumber, batchedAt};
+ghost use Rattle.akfelzun.specs.Fusing.{settingsOf, directReading, rayReading};
+
+fn fused_number(fused: Fused) -> u32
+    ensures { λ r. ⌜ r ≡ fusedNumber fused ⌝ }
+{
+    match fused {
+        Fused::Stored => 0,
+        Fused::Far => 100,
+        Fused::Refused(why) => refusals::number(why),
+    }
+}
+
+#[no_mangle]
+pub extern "C" fn akf_update_from_depth(
+    truncation: f32,
+    max_weight: f32,
+    voxel_size: f32,
+    max_distance: f32,
+    keys: &mut [u64],
+    distances: &mut [f32],
+    weights: &mut [f32],
+    count: &mut usize,
+    key: u64,
+    distance: f32,
+    confidence: f32,
+) -> u32
+    ensures { λ r. ⌜ r ≡ fusedNumber (fuse (settingsOf truncation «max_weight» «voxel_size» «max_distance») (table (now (keys .entry)) (now (distances .entry)) (now (weights .entry)) (now (count .entry))) key (directReading distance confidence) .answer) ⌝ }
+    ensures { λ _. ⌜ table (now (keys .exit)) (now (distances .exit)) (now (weights .exit)) (now (count .exit))
+        ≡ fuse (settingsOf truncation «max_weight» «voxel_size» «max_distance») (table (now (keys .entry)) (now (distances .entry)) (now (weights .entry)) (now (count .entry))) key (directReading distance confidence) .left ⌝ }
+{
+    let settings = Settings {
+        truncation: Metres(truncation),
+        max_weight,
+        voxel_size: Metres(voxel_size),
+        max_distance: Metres(max_distance),
+    };
+    let fused = tsdf::update_from_depth(
+        settings,
+        keys,
+        distances,
+        weights,
+        count,
+        key,
+        Metres(distance),
+        confidence,
+    );
+    fused_number(fused)
+}
+
+#[no_mangle]
+pub extern "C" fn akf_update_from_depth_ray(
+    truncation: f32,
+    max_weight: f32,
+    voxel_size: f32,
+    max_distance: f32,
+    keys: &mut [u64],
+    distances: &mut [f32],
+    weights: &mut [f32],
+    count: &mut usize,
+    key: u64,
+    sensor_x: f32,
+    sensor_y: f32,
+    sensor_z: f32,
+    depth: f32,
+    confidence: f32,
+) -> u32
+    ensures { λ r. ⌜ r ≡ fusedNumber (fuse (settingsOf truncation «max_weight» «voxel_size» «max_distance») (table (now (keys .entry)) (now (distances .entry)) (now (weights .entry)) (now (count .entry))) key (rayReading «sensor_x» «sensor_y» «sensor_z» depth confidence) .answer) ⌝ }
+    ensures { λ _. ⌜ table (now (keys .exit)) (now (distances .exit)) (now (weights .exit)) (now (count .exit))
+        ≡ fuse (settingsOf truncation «max_weight» «voxel_size» «max_distance») (table (now (keys .entry)) (now (distances .entry)) (now (weights .entry)) (now (count .entry))) key (rayReading «sensor_x» «sensor_y» «sensor_z» depth confidence) .left ⌝ }
+{
+    let settings = Settings {
+        truncation: Metres(truncation),
+        max_weight,
+        voxel_size: Metres(voxel_size),
+        max_distance: Metres(max_distance),
+    };
+    let fused = tsdf::update_from_depth_ray(
+        settings,
+        keys,
+        distances,
+        weights,
+        count,
+        key,
+        Metres(sensor_x),
+        Metres(sensor_y),
+        Metres(sensor_z),
+        Metres(depth),
+        confidence,
+    );
+    fused_number(fused)
+}
+
+fn batched_number(batched: Batched) -> u32
+    ensures { λ r. ⌜ r ≡ batchedNumber batched ⌝ }
+{
+    match batched {
+        Batched::Done => 0,
+        Batched::Refused(why, _) => refusals::number(why),
+    }
+}
+
+fn batched_at(batched: Batched) -> usize
+    ensures { λ r. ⌜ r ≡ batchedAt batched ⌝ }
+{
+    match batched {
+        Batched::Done => 0,
+        Batched::Refused(_, at) => at,
+    }
+}
+
+#[no_mangle]
+pub extern "C" fn akf_batch_update(
+    truncation: f32,
+    max_weight: f32,
+    voxel_size: f32,
+    max_distance: f32,
+    keys: &mut [u64],
+    distances: &mut [f32],
+    weights: &mut [f32],
+    count: &mut usize,
+    batch_keys: &[u64],
+    batch_distances: &[f32],
+    batch_confidences: &[f32],
+    at: &mut usize,
+) -> u32
+    ensures { λ r. ⌜ r ≡ batchedNumber (batch (settingsOf truncation «max_weight» «voxel_size» «max_distance») (table (now (keys .entry)) (now (distances .entry)) (now (weights .entry)) (now (count .entry))) (now («batch_keys» .entry)) (now («batch_distances» .entry)) (now («batch_confidences» .entry)) .answer) ⌝ }
+    ensures { λ _. ⌜ table (now (keys .exit)) (now (distances .exit)) (now (weights .exit)) (now (count .exit))
+        ≡ batch (settingsOf truncation «max_weight» «voxel_size» «max_distance») (table (now (keys .entry)) (now (distances .entry)) (now (weights .entry)) (now (count .entry))) (now («batch_keys» .entry)) (now («batch_distances» .entry)) (now («batch_confidences» .entry)) .left ⌝ }
+    ensures { λ _. ⌜ now (at .exit) ≡ batchedAt (batch (settingsOf truncation «max_weight» «voxel_size» «max_distance») (table (now (keys .entry)) (now (distances .entry)) (now (weights .entry)) (now (count .entry))) (now («batch_keys» .entry)) (now («batch_distances» .entry)) (now («batch_confidences» .entry)) .answer) ⌝ }
+{
+    let settings = Settings {
+        truncation: Metres(truncation),
+        max_weight,
+        voxel_size: Metres(voxel_size),
+        max_distance: Metres(max_distance),
+    };
+    let batched = tsdf::batch_update(
+        settings,
+        keys,
+        distances,
+        weights,
+        count,
+        batch_keys,
+        batch_distances,
+        batch_confidences,
+    );
+    *at = batched_at(batched);
+    batched_number(batched)
+}
