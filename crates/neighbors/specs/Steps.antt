@@ -30,7 +30,7 @@ pub record Narrow (s : Along) : Type 0 where
 abbrev pub joinOf : ℕ → ℕ → ℕ → ℕ
 joinOf x y z = x + y * 2 + z * 4
 
--- what an offset leads to, below the head
+-- what an offset leads to, without the head
 unfoldable pub lowOf : ℕ → Offset → ℕ
 lowOf key o = joinOf (moved (xOf key) (o .0)) (moved (yOf key) (o .1)) (moved (zOf key) (o .2))
 

@@ -56,7 +56,7 @@ pub struct Near {
     pub count: usize,
 }
 
-// The steps along the axis that begins at the lowest bit. What is added is a spread number, with ones between its bits, which a carry passes.
+// The steps along the axis that begins at the lowest bit. What is added is the step over 17 bits, with ones between them, so that a carry passes.
 fn steps_along(m: u64) -> Along
     ensures { λ r. ⌜ r ≡ stepsAlong (gather 16 m) ⌝ }
     ensures { λ r. ⌜ Narrow r ⌝ }
@@ -79,7 +79,7 @@ fn join(x: u64, y: u64, z: u64) -> u64
     x + y * 2 + z * 4
 }
 
-// What the 14 offsets lead to, below the head; past its end where that is outside.
+// What the 14 offsets lead to, without the head; from HEAD on it is outside.
 fn lower_parts(key: u64) -> [u64; 14]
     ensures { λ r. ⌜ r ≡ map (lowOf key) offsets ⌝ }
 {
