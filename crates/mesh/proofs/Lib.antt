@@ -1,0 +1,3 @@
+pub mod MeshLaws
+pub mod Calls
+pub mod Determined

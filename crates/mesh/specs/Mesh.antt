@@ -1,0 +1,109 @@
+-- The mesh of a table: edges, vertices with normals, groups and triangles, in twelve lent lists.
+use Prim.Native.Nat.{ℕ, _+_}
+use mathlib.Core.Path.{_≡_}
+use mathlib.Core.Bool.{Bool, cond, _&&_}
+use mathlib.Core.List.{List, map}
+use lib.Dec.{eqb, leb}
+use lib.Ieee.{Float}
+use lib.ListN.{length, replicate}
+use Rattle.floats.specs.Floats.{zero32}
+use Rattle.lists.specs.Padding.{padded}
+use Rattle.refusals.specs.declared.Refusal.the-variants.{Setting, Lengths, NoPlace}
+use Rattle.refusals.specs.Refusals.{numberOf}
+use Rattle.table.specs.Table.{Table, rows, settingsOk, need, tableCheck}
+use Rattle.table.specs.declared.Settings.{Settings}
+use Rattle.table.specs.declared.Checked.{Checked}
+use Rattle.table.specs.declared.Checked.the-variants as checked
+use Rattle.edges.specs.Rows.{keysOf}
+use Rattle.edges.specs.Edges.{Edge}
+use Rattle.edges.specs.ZeroCrossing.{zeroCrossingEdges}
+use Rattle.edges.specs.Listing.{firsts, seconds, outputsOk}
+use Rattle.vertices.specs.declared.Vertex.{Vertex}
+use Rattle.vertices.specs.declared.Normal.{Normal}
+use Rattle.vertices.specs.Stored.{distanceIn}
+use Rattle.vertices.specs.Vertices.{vertexAt, xsOf, ysOf, zsOf}
+use Rattle.vertices.specs.Normals.{normalsOf, partsX, partsY, partsZ}
+use Rattle.groups.specs.Groups.{groups}
+use Rattle.triangles.specs.Threes.{Three, column0, column1, column2}
+use Rattle.triangles.specs.Triangles.{triangles}
+use Rattle.mesh.specs.declared.Rooms.{Rooms}
+use Rattle.mesh.specs.declared.Meshed.{Meshed}
+use Rattle.mesh.specs.declared.Meshed.the-variants.{Done, Refused}
+
+-- the edges of a table
+abbrev pub edgesOf : Table → List Edge
+edgesOf t = zeroCrossingEdges (rows t)
+
+-- vertex i comes from edge i
+abbrev pub verticesOf : Settings → Table → List Vertex
+verticesOf s t = map (λ (e : Edge). vertexAt (distanceIn (rows t)) (s .«voxel_size» .0) (e .first) (e .second)) (edgesOf t)
+
+-- its normal is that at the edge's first cell
+abbrev pub normals : Settings → Table → List Normal
+normals s t = normalsOf (distanceIn (rows t)) (s .«voxel_size» .0) (firsts (edgesOf t))
+
+-- the edge numbers grouped by cell, and the triangles
+abbrev pub groupsOf : Table → List ℕ
+groupsOf t = groups (edgesOf t) (keysOf (rows t))
+
+abbrev pub trianglesOf : Table → List (Three ℕ)
+trianglesOf t = triangles (edgesOf t) (keysOf (rows t))
+
+-- the lengths of the twelve lists
+abbrev pub rooms : ℕ → ℕ → ℕ → ℕ → ℕ → ℕ → ℕ → ℕ → ℕ → ℕ → ℕ → ℕ → Rooms
+rooms first second px py pz nx ny nz groups t0 t1 t2 =
+    record { first = first; second = second; px = px; py = py; pz = pz; nx = nx; ny = ny; nz = nz; groups = groups; t0 = t0; t1 = t1; t2 = t2 }
+
+-- edges fill two lists, vertices six, groups one, triangles three; each set equally long, at most 1,048,576 places
+abbrev pub roomsOk : Rooms → Bool
+roomsOk r =
+    outputsOk (r .first) (r .second)
+    && ((((eqb (r .px) (r .py) && eqb (r .px) (r .pz)) && (eqb (r .px) (r .nx) && (eqb (r .px) (r .ny) && eqb (r .px) (r .nz)))) && leb (r .px) 1048576)
+    && (leb (r .groups) 1048576 && ((eqb (r .t0) (r .t1) && eqb (r .t0) (r .t2)) && leb (r .t0) 1048576)))
+
+-- refusals 1, 2 and 3
+unfoldable pub meshCheck : Settings → Table → Rooms → Checked
+unfolding need
+meshCheck s t r = need (settingsOk s) Setting (need (roomsOk r) Lengths (tableCheck s t))
+
+-- edges, vertices, groups and triangles each have room in their own list
+abbrev pub haveRoom : Table → Rooms → Bool
+haveRoom t r =
+    leb (length (edgesOf t)) (r .first)
+    && (leb (length (edgesOf t)) (r .px) && (leb (length (groupsOf t)) (r .groups) && leb (length (trianglesOf t)) (r .t0)))
+
+-- what the tests refuse stays refused; otherwise 6 exactly when one of them would outgrow its own list
+unfoldable pub meshedIf : Checked → Table → Rooms → Meshed
+meshedIf checked.Passed t r = cond (haveRoom t r) (Done (length (edgesOf t)) (length (trianglesOf t))) (Refused NoPlace)
+meshedIf (checked.Refused why) t r = Refused why
+
+-- the answer to a call
+unfoldable pub meshAnswer : Settings → Table → Rooms → Meshed
+unfolding meshCheck meshedIf
+meshAnswer s t r = meshedIf (meshCheck s t r) t r
+
+-- what a list of a given room then holds: what was found and then v, or v throughout where it is refused
+unfoldable pub heldIn : {A : Type 0} → A → Meshed → ℕ → List A → List A
+heldIn v (Done n m) room found = padded v room found
+heldIn v (Refused why) room found = replicate room v
+
+-- the answer, and what each of the twelve lists holds
+pub record IsMesh (s : Settings) (t : Table) (r : Rooms) (a : Meshed) (as' bs : List ℕ) (xs ys zs us vs ws : List Float) (gs is js ks : List ℕ) : Type 0 where
+  pub answer : a ≡ meshAnswer s t r
+  pub first : as' ≡ heldIn 0 (meshAnswer s t r) (r .first) (firsts (edgesOf t))
+  pub second : bs ≡ heldIn 0 (meshAnswer s t r) (r .second) (seconds (edgesOf t))
+  pub px : xs ≡ heldIn zero32 (meshAnswer s t r) (r .px) (xsOf (verticesOf s t))
+  pub py : ys ≡ heldIn zero32 (meshAnswer s t r) (r .py) (ysOf (verticesOf s t))
+  pub pz : zs ≡ heldIn zero32 (meshAnswer s t r) (r .pz) (zsOf (verticesOf s t))
+  pub nx : us ≡ heldIn zero32 (meshAnswer s t r) (r .nx) (partsX (normals s t))
+  pub ny : vs ≡ heldIn zero32 (meshAnswer s t r) (r .ny) (partsY (normals s t))
+  pub nz : ws ≡ heldIn zero32 (meshAnswer s t r) (r .nz) (partsZ (normals s t))
+  pub groups : gs ≡ heldIn 0 (meshAnswer s t r) (r .groups) (groupsOf t)
+  pub t0 : is ≡ heldIn 0 (meshAnswer s t r) (r .t0) (column0 (trianglesOf t))
+  pub t1 : js ≡ heldIn 0 (meshAnswer s t r) (r .t1) (column1 (trianglesOf t))
+  pub t2 : ks ≡ heldIn 0 (meshAnswer s t r) (r .t2) (column2 (trianglesOf t))
+
+-- document 01's number of an answer, 0 where it is no refusal
+abbrev pub meshedNumber : Meshed → ℕ
+meshedNumber (Done n m) = 0
+meshedNumber (Refused why) = numberOf why
