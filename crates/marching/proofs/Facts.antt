@@ -1,40 +1,125 @@
--- What a march over an accepted table gives, in one place.
-use mathlib.Core.Path.{_≡_}
+-- What a march over an accepted table gives, in one place: each promise by its own theorem, from what the tests say of the rows. Assumes nothing.
+use mathlib.Core.Path.{_≡_, refl, sym, subst, _∙_}
 use mathlib.Core.Logic.{_⊎_}
-use mathlib.Core.Bool.{true}
-use mathlib.Core.List.{List, []}
-use Prim.Native.Nat.{ℕ, _≤_}
-use native.Mathlib.Omega.{arith}
-use lib.ListN.{length}
-use lib.Ieee.{Float, le}
-use Rattle.floats.specs.Floats.{zero32, within}
+use mathlib.Core.Bool.{Bool, true, false, cond, not, _&&_}
+use mathlib.Core.List.{List, [], _∷_}
+use Prim.Native.Nat.{ℕ}
+use lib.Dec.{ltb, eqb, lit≤}
+use lib.ListN.{length, take}
+use lib.Ieee.{Float, lt, le, ofBits, toBits, binary32}
+use Rattle.floats.specs.Floats.{zero32, thousand, million, within, between, positiveTo}
+use Rattle.floats.proofs.Order.{within-size}
 use Rattle.ids.specs.Key.{onLattice}
-use Rattle.table.specs.Keys.{ascending}
-use Rattle.table.specs.Table.{Row}
-use Rattle.marching.specs.March.{MarchedRow, State, Rooms, on, keysOf, seeds}
-use Rattle.marching.specs.Lattice.{lattice, marchFrom}
-use Rattle.table.proofs.Laying.{keysOf as tableKeys}
 use Rattle.lists.specs.Lists.{_∈_, All}
+use Rattle.lists.proofs.Bools.{cases, and-first, and-second}
+use Rattle.neighbors.specs.Neighbors.{neighbours, adjacent}
+use Rattle.neighbors.proofs.Adjacency.{adjacent-sym, neighbour-adjacent, adjacent-neighbour}
+use Rattle.refusals.specs.declared.Refusal.the-variants.{Setting, Lengths, BadRow}
+use Rattle.table.specs.Keys.{ascending}
+use Rattle.table.specs.Table.{Row, Table, rows, rowOk, rowsOk, settingsOk, lengthsOk, farthestOk, tableOk, tableCheck}
+use Rattle.table.specs.declared.Settings.{Settings}
+use Rattle.table.specs.declared.Checked.the-variants as checked
+use Rattle.table.proofs.Laying.{keysOf as tableKeys, columns}
+use Rattle.table.proofs.RowLaws.{lengths-known}
+use Rattle.marching.specs.March.{MarchedRow, State, Rooms, on, diagonal, seeds, settled}
+use Rattle.marching.specs.Lattice.{axial, lengthAt, lattice, marchFrom}
+use Rattle.marching.specs.Promises.{From, Marches}
+use Rattle.marching.proofs.Verdicts.{need-passed}
 use Rattle.marching.proofs.Sound.{After, after-on, Ended, takings-few}
-use Rattle.marching.proofs.Bounded.{march-within}
-use Rattle.marching.proofs.Lattice.{lattice-ends, lattice-keeps}
+use Rattle.marching.proofs.Bounded.{settled-within, march-within}
+use Rattle.marching.proofs.Lattice.{seeds-all, lattice-ends, lattice-keeps}
+use Rattle.marching.proofs.Least.{plain}
+use Rattle.marching.proofs.Small.{Small, small-below, small-million, small-thousand, small-most, small-within, plain-positive, said-small}
+use Rattle.marching.proofs.Hearing.{Sure, all-map, march-said}
 
-pub record Marches (m : Rooms) (most t : Float) (rs : List Row) (s : State) : Type 0 where
-  pub ascends : ascending (keysOf (s .stored)) ≡ true
-  pub lattice : All (λ (r : MarchedRow). onLattice (r .key) ≡ true) (s .stored)
-  pub within : All (λ (r : MarchedRow). (r ∈ seeds t rs) ⊎ (within most (r .distance) ≡ true)) (s .stored)
-  pub takings : s .takings ≤ length (s .stored)
-  pub fits : length (s .stored) ≤ m .rows
-  pub empty : s .waiting ≡ []
+-- ---- what the tests say
 
-pub marches : (size most : Float) (m : Rooms) (t : Float) (rs : List Row) (s : State) → le zero32 most ≡ true → ascending (tableKeys rs) ≡ true → All (λ (r : Row). onLattice (r .key) ≡ true) rs → marchFrom size most m t rs ≡ on s → Marches m most t rs s
-marches size most m t rs s p a l e =
-    let h = after-on (Ended m) (marchFrom size most m t rs) s (lattice-ends size most m t rs a) e in
+-- a row that passes is on the lattice and at most 1,000,000 in size
+abbrev Fit : Row → Type 0
+Fit r = (onLattice (r .key) ≡ true) × (within million (r .distance) ≡ true)
+
+rows-fit : (most : Float) (rs : List Row) → rowsOk most rs ≡ true → All Fit rs
+unfolding rowsOk All
+rows-fit most [] h = tt
+rows-fit most (r ∷ rs) h =
+    let a = and-first (rowOk most (r .key) (r .distance) (r .weight)) (rowsOk most rs) h in
+    let b = and-second (onLattice (r .key)) _ a in
+    ((and-first (onLattice (r .key)) _ a, and-first (within million (r .distance)) _ b), rows-fit most rs (and-second (rowOk most (r .key) (r .distance) (r .weight)) (rowsOk most rs) h))
+
+record Accepted (s : Settings) (t : Table) : Type 0 where
+  size : positiveTo thousand (s .«voxel_size» .0) ≡ true
+  most : (le zero32 (s .«max_distance» .0) ≡ true) × (le (s .«max_distance» .0) million ≡ true)
+  fit : All Fit (rows t)
+  ascends : ascending (tableKeys (rows t)) ≡ true
+
+accepted : (s : Settings) (t : Table) → tableCheck s t ≡ checked.Passed → Accepted s t
+unfolding tableCheck
+accepted s t e =
+    let a = need-passed (settingsOk s) Setting _ e in
+    let b = need-passed (lengthsOk (length (t .keys)) (length (t .distances)) (length (t .weights)) (t .count)) Lengths _ (a .1) in
+    let c = need-passed (tableOk (s .«max_weight») t) BadRow _ (b .1) .0 in
+    let l = lengths-known _ _ _ _ (b .0) in
+    let w = and-second (positiveTo million (s .«max_weight»)) (positiveTo thousand (s .«voxel_size» .0) && farthestOk (s .«max_distance» .0)) (and-second (positiveTo thousand (s .truncation .0)) _ (a .0)) in
+    let z = and-first (between zero32 million (s .«max_distance» .0)) (not (eqb (toBits binary32 (s .«max_distance» .0)) 0x8000_0000)) (and-second (positiveTo thousand (s .«voxel_size» .0)) (farthestOk (s .«max_distance» .0)) w) in
     record {
-      ascends = h .sound .ascends;
-      lattice = after-on (λ (s : State). All (λ (r : MarchedRow). onLattice (r .key) ≡ true) (s .stored)) (marchFrom size most m t rs) s (lattice-keeps size most m t rs l) e;
-      within = after-on (λ (s : State). All (λ (r : MarchedRow). (r ∈ seeds t rs) ⊎ (within most (r .distance) ≡ true)) (s .stored)) (marchFrom size most m t rs) s (march-within (lattice size most) m (seeds t rs) p) e;
-      takings = takings-few m (s .takings) s (h .sound) .0;
-      fits = h .sound .rowsFit;
-      empty = h .empty;
+      size = and-first (positiveTo thousand (s .«voxel_size» .0)) _ w;
+      most = (and-first (le zero32 (s .«max_distance» .0)) _ z, and-second (le zero32 (s .«max_distance» .0)) _ z);
+      fit = rows-fit (s .«max_weight») (rows t) (and-first (rowsOk (s .«max_weight») (rows t)) _ c);
+      ascends = rw (columns (t .keys) (t .distances) (t .weights) (t .count) (l .1) (l .2) .0) (and-second (rowsOk (s .«max_weight») (rows t)) _ c);
     }
+
+-- ---- the lattice
+
+-- its steps are at most 2
+length-plain : (p : ℕ) → plain (lengthAt p) ≡ true
+unfolding lengthAt ofBits
+length-plain p = cases (λ (b : Bool). plain (cond b diagonal axial) ≡ true) (ltb p 8) (λ e. refl) (λ e. refl)
+
+length-small : (p : ℕ) → Small 2 (lengthAt p)
+unfolding lengthAt ofBits
+length-small p = cases (λ (b : Bool). Small 2 (cond b diagonal axial)) (ltb p 8) (λ e. lit≤ tt) (λ e. lit≤ tt)
+
+-- a neighbour's neighbour is the cell itself
+back : (k l : ℕ) → l ∈ neighbours k → k ∈ neighbours l
+back k l i = adjacent-neighbour l k (adjacent-sym l k ∙ neighbour-adjacent k l i)
+
+module _ (size most : Float) (p : positiveTo thousand size ≡ true) where
+  sure : (d : Float) → Small 1000000 d → Sure (lattice size most) d
+  sure d h k i =
+      let u = plain-positive size (and-first (lt zero32 size) (le size thousand) p) in
+      said-small size (lengthAt i) d u (small-below size thousand 1000 u (and-second (lt zero32 size) (le size thousand) p) small-thousand) (length-plain i) (length-small i) h
+
+  settled-sure : (le zero32 most ≡ true) × (le most million ≡ true) → (ts : List MarchedRow) (k : ℕ) → Sure (lattice size most) (settled (lattice size most) ts k)
+  settled-sure q ts k =
+      sure (settled (lattice size most) ts k)
+      (small-within (settled (lattice size most) ts k) most 1000000 (sym (within-size most (settled (lattice size most) ts k)) ∙ settled-within (lattice size most) ts k (q .0)) (small-most most (q .0) (q .1)))
+
+-- ---- the promises
+
+module _ (st : Settings) (t : Table) (m : Rooms) (threshold : Float) (s : State) where
+  abbrev size : Float
+  size = st .«voxel_size» .0
+
+  abbrev most : Float
+  most = st .«max_distance» .0
+
+  pub marches : tableCheck st t ≡ checked.Passed → marchFrom size most m threshold (rows t) ≡ on s → Marches (lattice size most) m (seeds threshold (rows t)) s
+  marches c e =
+      let a = accepted st t c in
+      let g = marchFrom size most m threshold (rows t) in
+      let h = after-on (Ended m) g s (lattice-ends size most m threshold (rows t) (a .ascends)) e in
+      record {
+        empty = h .empty;
+        ascends = h .sound .ascends;
+        lattice = after-on (λ (s : State). All (λ (r : MarchedRow). onLattice (r .key) ≡ true) (s .stored)) g s (lattice-keeps size most m threshold (rows t) (all-map Fit (λ (r : Row). onLattice (r .key) ≡ true) (rows t) (λ r f. f .0) (a .fit))) e;
+        within = after-on (λ (s : State). All (λ (r : MarchedRow). (r ∈ seeds threshold (rows t)) ⊎ (within most (r .distance) ≡ true)) (s .stored)) g s (march-within (lattice size most) m (seeds threshold (rows t)) (a .most .0)) e;
+        said = after-on (λ (s : State). All (λ (r : MarchedRow). (r ∈ seeds threshold (rows t)) ⊎ From (lattice size most) (s .stored) r) (s .stored)) g s (march-said (lattice size most) m back (settled-sure size most (a .size) (a .most)) (seeds threshold (rows t)) (seeds-sure a)) e;
+        takings = takings-few m (s .takings) s (h .sound) .0;
+        fits = h .sound .rowsFit;
+      }
+    where
+      seeds-sure : Accepted st t → All (λ (r : MarchedRow). Sure (lattice size most) (r .distance)) (seeds threshold (rows t))
+      seeds-sure a =
+          seeds-all threshold (λ (r : MarchedRow). Sure (lattice size most) (r .distance)) (rows t)
+          (all-map Fit (λ (r : Row). Sure (lattice size most) (r .distance)) (rows t)
+          (λ r f. sure size most (a .size) (r .distance) (small-within (r .distance) million 1000000 (sym (within-size million (r .distance)) ∙ f .1) small-million)) (a .fit))

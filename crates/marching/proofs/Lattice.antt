@@ -54,7 +54,7 @@ module _ (t : Float) where
       tail k (l ∷ ks) h = and-second (ltb k l) (risesFrom l ks) h
 
   -- what holds of every row holds of every seed
-  seeds-all : (P : MarchedRow → Type 0) (rs : List Row) → All (λ (r : Row). P (record { key = r .key; distance = r .distance })) rs → All P (seeds t rs)
+  pub seeds-all : (P : MarchedRow → Type 0) (rs : List Row) → All (λ (r : Row). P (record { key = r .key; distance = r .distance })) rs → All P (seeds t rs)
   unfolding seeds All
   seeds-all P [] h = tt
   seeds-all P (r ∷ rs) h =

@@ -8,5 +8,7 @@ pub mod Verdicts
 pub mod Bounded
 pub mod Lattice
 pub mod Least
+pub mod Small
+pub mod Hearing
 pub mod Facts
 pub mod Samples

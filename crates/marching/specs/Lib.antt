@@ -1,2 +1,3 @@
 pub mod March
 pub mod Lattice
+pub mod Promises
