@@ -4,6 +4,7 @@ use Prim.Native.Nat.{ℕ, _+_, _*_, _^_, _≤_}
 use native.Mathlib.Omega.{arith}
 use mathlib.Core.Path.{_≡_, refl, sym, ap, _∙_}
 use mathlib.Core.Bool.{true, false≢true}
+use mathlib.Core.List.{List, [], _∷_}
 use lib.Dec.{lit<, lit≤}
 use lib.Ieee.{Float, nan, inf, fin, binary32, up, down, sub, mul, le, lt, eq, ofBits}
 use Rattle.lists.proofs.Bools.{and-first, and-second, and-eq}
@@ -11,13 +12,14 @@ use Rattle.floats.specs.Floats.{thousand, sizeOf, isFinite, within, positiveTo}
 use Rattle.floats.proofs.Order.{within-size}
 use Rattle.root.specs.Root.{rootOf}
 use Rattle.vertices.specs.declared.Vertex.{Vertex}
-use Rattle.vertices.specs.Vertices.{half, vertexOf}
+use Rattle.vertices.specs.Vertices.{half, vertexOf, vertexAt, verticesOf}
+use Rattle.vertices.specs.Stored.{Lookup, orZero}
 use Rattle.vertices.specs.Normals.{squares, lengthOf}
 use Rattle.vertices.proofs.Sizes.{Small, Held, true-is, le-of, small-wider, mul-small, sub-small, small-finite}
 use Rattle.vertices.proofs.LengthLaws.{length-root}
 use Rattle.vertices.proofs.Reach.{vertex-within}
 use Rattle.surfaces.specs.declared.Arrow.{Arrow}
-use Rattle.surfaces.specs.Corners.{farthest, vertexOk}
+use Rattle.surfaces.specs.Corners.{every, farthest, vertexOk}
 use Rattle.surfaces.specs.Areas.{arrowOf, crossOf, areaBetween}
 
 -- ---- a vertex of an accepted table passes
@@ -27,6 +29,14 @@ pub made-vertex-ok : (size : Float) → positiveTo thousand size ≡ true → (k
 made-vertex-ok size s k1 d1 k2 d2 f =
     let w = vertex-within size s k1 d1 k2 d2 f in
     and-eq (w .0) (and-eq (w .1) (w .2))
+
+-- so every vertex of a mesh passes, and area and box never refuse it with 10 (finite distances: stored-finite of vertices)
+pub mesh-ok : (size : Float) → positiveTo thousand size ≡ true → (look : Lookup) → ((k : ℕ) → isFinite (orZero (look k)) ≡ true) → (ks ls : List ℕ) → every vertexOk (verticesOf look size ks ls) ≡ true
+unfolding every verticesOf vertexAt
+mesh-ok size s look f [] ls = refl
+mesh-ok size s look f (k ∷ ks) [] = refl
+mesh-ok size s look f (k ∷ ks) (l ∷ ls) =
+    and-eq (made-vertex-ok size s k (orZero (look k)) l (orZero (look l)) (f k)) (mesh-ok size s look f ks ls)
 
 -- ---- sizes on the way to an area
 

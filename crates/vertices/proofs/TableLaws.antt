@@ -4,15 +4,21 @@ use Prim.Native.Nat.{ℕ, _<_, min, max}
 use native.Mathlib.Omega.{arith}
 use mathlib.Core.Path.{_≡_, refl, ap, fun-ext, _∙_}
 use mathlib.Core.Logic.{⊎-elim}
-use mathlib.Core.Bool.{true}
+use mathlib.Core.Bool.{Bool, true, cond}
 use mathlib.Core.List.{List, [], _∷_, map}
+use mathlib.Core.Option.{some}
 use borrow.Author.Tests.{lt-ltb}
-use lib.Ieee.{Float}
+use lib.Dec.{eqb}
+use lib.Ieee.{Float, ofBits}
 use lib.ListN.{length, take, length-map}
 use Rattle.lists.specs.Lists.{_∈_}
+use Rattle.lists.proofs.Bools.{cases, and-first, and-second}
+use Rattle.ids.specs.Key.{onLattice}
+use Rattle.floats.specs.Floats.{million, isFinite}
+use Rattle.floats.proofs.Order.{within-finite}
 use Rattle.floats.proofs.Values.{le-or-lt}
 use Rattle.table.specs.Keys.{ascending, findBy}
-use Rattle.table.specs.Table.{Row, rowsOf}
+use Rattle.table.specs.Table.{Row, rowsOf, rowOk, rowsOk}
 use Rattle.table.specs.declared.Found.{Found}
 use Rattle.table.specs.declared.Found.the-variants as found
 use Rattle.edges.specs.Rows.{keysOf, stored}
@@ -43,6 +49,19 @@ module _ (ks : List ℕ) (ds ws : List Float) (n : ℕ) (acc : Accepted ks ds ws
   pub distance-by : distanceBy ks ds n ≡ distanceIn (rowsOf ks ds ws n)
   distance-by = fun-ext (λ key. by-found key (findBy key (take n ks)) refl)
 
+-- ---- what is stored in accepted rows is finite, and so is 0 for what is not
+
+row-finite : (most : Float) (k : ℕ) (d w : Float) → rowOk most k d w ≡ true → isFinite d ≡ true
+row-finite most k d w h = within-finite million d (unfold ofBits in refl) (and-first _ _ (and-second (onLattice k) _ h))
+
+pub stored-finite : (most : Float) (rows : List Row) → rowsOk most rows ≡ true → (key : ℕ) → isFinite (orZero (distanceIn rows key)) ≡ true
+unfolding stored distanceOf orZero rowsOk ofBits
+stored-finite most [] h key = refl
+stored-finite most (r ∷ rs) h key =
+    cases (λ (b : Bool). isFinite (orZero (distanceOf (cond b (some r) (stored key rs)))) ≡ true) (eqb (r .key) key)
+    (λ e. row-finite most (r .key) (r .distance) (r .weight) (and-first _ _ h))
+    (λ e. stored-finite most rs (and-second (rowOk most (r .key) (r .distance) (r .weight)) _ h) key)
+
 -- ---- an edge list by its two columns
 
 module _ (look : Lookup) (size : Float) where
@@ -57,6 +76,15 @@ module _ (look : Lookup) (size : Float) where
 
   pub normals-count : (es : List Edge) → length (normalsOf look size (firsts es)) ≡ length es
   normals-count es = length-map (firsts es) (λ (k : ℕ). normalAt look size k) ∙ length-map es (λ (e : Edge). e .first)
+
+-- on an accepted table, as document 01 says it over the rows
+module _ (ks : List ℕ) (ds ws : List Float) (n : ℕ) (acc : Accepted ks ds ws n) (size : Float) (es : List Edge) where
+  pub own-vertices : verticesOf (distanceBy ks ds n) size (firsts es) (seconds es) ≡ map (λ (e : Edge). vertexAt (distanceIn (rowsOf ks ds ws n)) size (e .first) (e .second)) es
+  own-vertices =
+      ap (λ (look : Lookup). verticesOf look size (firsts es) (seconds es)) (distance-by ks ds ws n acc) ∙ vertices-of-edges (distanceIn (rowsOf ks ds ws n)) size es
+
+  pub own-normals : normalsOf (distanceBy ks ds n) size (firsts es) ≡ normalsOf (distanceIn (rowsOf ks ds ws n)) size (firsts es)
+  own-normals = ap (λ (look : Lookup). normalsOf look size (firsts es)) (distance-by ks ds ws n acc)
 
 -- ---- each edge of the table's own list has the vertex of its two rows
 
