@@ -3,7 +3,7 @@
 # make bench  figures of speed, measured on this machine
 # make compare   every call beside the Rust and the plain reading, 100,000 cases each (seed=N cases=N)
 # make misread   misreadings of document 01 on purpose: the comparison must see each
-.PHONY: test demo quick compare misread bench bench-root bench-last
+.PHONY: test demo quick compare misread bench bench-root bench-last bench-march
 
 test:
 	@.ci/run
@@ -25,10 +25,13 @@ compare:
 misread:
 	@compare/run misread
 
-bench: bench-root bench-last
+bench: bench-root bench-last bench-march
 
 bench-root:
 	@bench/root/run
 
 bench-last:
 	@bench/last/run
+
+bench-march:
+	@bench/march/run
