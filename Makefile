@@ -1,9 +1,11 @@
 # make test   everything that .ci/run does: the quick runs, then every proof, must-fail edit and program
 # make demo   the main job on a small example
 # make bench  figures of speed, measured on this machine
+# make lib    build/libakfelzun.a, for x86-64, and build/akfelzun.h, for a plug-in to link
+# make examples  the two hosts and the test of bad input, on this machine
 # make compare   every call beside the Rust and the plain reading, 100,000 cases each (seed=N cases=N)
 # make misread   misreadings of document 01 on purpose: the comparison must see each
-.PHONY: test demo quick compare misread bench bench-root bench-last bench-march
+.PHONY: test demo quick lib examples compare misread bench bench-root bench-last bench-march
 
 test:
 	@.ci/run
@@ -12,6 +14,13 @@ test:
 quick:
 	@bench/root/run quick
 	@compare/run short
+	@examples/run
+
+lib:
+	@tools/lib
+
+examples:
+	@examples/run
 
 demo:
 	@rt check

@@ -1,4 +1,6 @@
 // Fusing a reading or a batch of readings into a table.
+use crate::DONE;
+use crate::FAR;
 use floats::Metres;
 use table::Settings;
 use tsdf::Batched;
@@ -13,8 +15,8 @@ fn fused_number(fused: Fused) -> u32
     ensures { λ r. ⌜ r ≡ fusedNumber fused ⌝ }
 {
     match fused {
-        Fused::Stored => 0,
-        Fused::Far => 100,
+        Fused::Stored => DONE,
+        Fused::Far => FAR,
         Fused::Refused(why) => refusals::number(why),
     }
 }
@@ -103,7 +105,7 @@ fn batched_number(batched: Batched) -> u32
     ensures { λ r. ⌜ r ≡ batchedNumber batched ⌝ }
 {
     match batched {
-        Batched::Done => 0,
+        Batched::Done => DONE,
         Batched::Refused(why, _) => refusals::number(why),
     }
 }

@@ -1,4 +1,5 @@
 // Keys, neighbours, the root and snapping.
+use crate::DONE;
 use bcc_utils::Snapped;
 use bcc_utils::WideCells;
 use floats::Metres;
@@ -29,7 +30,7 @@ pub(crate) fn listed_number(listed: Listed) -> u32
     ensures { λ r. ⌜ r ≡ listedNumber listed ⌝ }
 {
     match listed {
-        Listed::Count(_) => 0,
+        Listed::Count(_) => DONE,
         Listed::Refused(why) => refusals::number(why),
     }
 }
@@ -38,7 +39,7 @@ fn made_number(made: Made) -> u32
     ensures { λ r. ⌜ r ≡ madeNumber made ⌝ }
 {
     match made {
-        Made::Key(_) => 0,
+        Made::Key(_) => DONE,
         Made::Refused(why) => refusals::number(why),
     }
 }
@@ -66,7 +67,7 @@ fn decoded_number(decoded: Decoded) -> u32
     ensures { λ r. ⌜ r ≡ decodedNumber decoded ⌝ }
 {
     match decoded {
-        Decoded::At(_, _, _) => 0,
+        Decoded::At(_, _, _) => DONE,
         Decoded::Refused(why) => refusals::number(why),
     }
 }
@@ -127,7 +128,7 @@ fn root_number(rooted: Rooted) -> u32
     ensures { λ r. ⌜ r ≡ rootNumber rooted ⌝ }
 {
     match rooted {
-        Rooted::Root(_) => 0,
+        Rooted::Root(_) => DONE,
         Rooted::Refused(why) => refusals::number(why),
     }
 }
@@ -155,7 +156,7 @@ fn snapped_number(snapped: Snapped) -> u32
     ensures { λ r. ⌜ r ≡ snappedNumber snapped ⌝ }
 {
     match snapped {
-        Snapped::At(_, _, _) => 0,
+        Snapped::At(_, _, _) => DONE,
         Snapped::Refused(why) => refusals::number(why),
     }
 }

@@ -3,4 +3,12 @@
 pub mod fusing;
 pub mod keys;
 pub mod marching;
+pub mod meshing;
 pub mod questions;
+
+// The numbers of answers that are no refusals.
+pub const DONE: u32 = 0;
+
+pub const FAR: u32 = 100;
+
+pub const ABSENT: u32 = 101;

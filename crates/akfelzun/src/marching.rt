@@ -1,18 +1,34 @@
 // The march, and questions about a marched table.
+use crate::ABSENT;
+use crate::DONE;
+use crate::keys::listed_number;
+use crate::keys::one_if;
 use esdf::Marched;
+use esdf_questions::Distance;
+use esdf_questions::EsdfStats;
+use esdf_questions::Free;
+use esdf_questions::Gradient;
+use esdf_questions::Statistics;
 use floats::Metres;
 use table::Settings;
 ghost use mathlib.Core.Path.{_≡_};
 ghost use lib.ListN.{length};
+ghost use Rattle.lists.specs.Listing.{countOf, listedNumber};
 ghost use Rattle.table.specs.Table.{table};
 ghost use Rattle.esdf.specs.Compute.{computed, places, marchedNumber, rowsMarched, takingsMarched};
+ghost use Rattle.esdf_questions.specs.Marched.{marchedTable};
+ghost use Rattle.esdf_questions.specs.Lookups.{getDistance, isFreeSpace, freeNumber};
+ghost use Rattle.esdf_questions.specs.Gradient.{getGradient};
+ghost use Rattle.esdf_questions.specs.Within.{withinListed, withinKeys, withinDistances};
+ghost use Rattle.esdf_questions.specs.Statistics.{getStats, statisticsNumber};
 ghost use Rattle.akfelzun.specs.Fusing.{settingsOf};
+ghost use Rattle.akfelzun.specs.Marching.{marchedDistanceNumber, marchedDistance, freeFound, slopeNumber, slopeFound, marchedStats};
 
 fn marched_number(marched: Marched) -> u32
     ensures { λ r. ⌜ r ≡ marchedNumber marched ⌝ }
 {
     match marched {
-        Marched::Done(_, _) => 0,
+        Marched::Done(_, _) => DONE,
         Marched::Refused(why) => refusals::number(why),
     }
 }
@@ -82,4 +98,216 @@ pub extern "C" fn akf_compute_from_tsdf(
     *rows = rows_marched(marched);
     *takings = takings_marched(marched);
     marched_number(marched)
+}
+
+fn distance_number(distance: Distance) -> u32
+    ensures { λ r. ⌜ r ≡ marchedDistanceNumber distance ⌝ }
+{
+    match distance {
+        Distance::Of(_) => DONE,
+        Distance::Absent => ABSENT,
+        Distance::Refused(why) => refusals::number(why),
+    }
+}
+
+fn distance_found(distance: Distance) -> f32
+    ensures { λ r. ⌜ r ≡ marchedDistance distance ⌝ }
+{
+    match distance {
+        Distance::Of(d) => d,
+        Distance::Absent => 0.0,
+        Distance::Refused(_) => 0.0,
+    }
+}
+
+#[no_mangle]
+pub extern "C" fn akf_esdf_get_distance(
+    keys: &[u64],
+    distances: &[f32],
+    count: usize,
+    key: u64,
+    distance: &mut f32,
+) -> u32
+    ensures { λ r. ⌜ r ≡ marchedDistanceNumber (getDistance (marchedTable (now (keys .entry)) (now (distances .entry)) count) key) ⌝ }
+    ensures { λ _. ⌜ now (distance .exit) ≡ marchedDistance (getDistance (marchedTable (now (keys .entry)) (now (distances .entry)) count) key) ⌝ }
+{
+    let found = esdf_questions::get_distance(keys, distances, count, key);
+    *distance = distance_found(found);
+    distance_number(found)
+}
+
+fn free_number(free: Free) -> u32
+    ensures { λ r. ⌜ r ≡ freeNumber free ⌝ }
+{
+    match free {
+        Free::Answer(_) => DONE,
+        Free::Refused(why) => refusals::number(why),
+    }
+}
+
+fn free_found(free: Free) -> u32
+    ensures { λ r. ⌜ r ≡ freeFound free ⌝ }
+{
+    match free {
+        Free::Answer(yes) => one_if(yes),
+        Free::Refused(_) => 0,
+    }
+}
+
+#[no_mangle]
+pub extern "C" fn akf_is_free_space(
+    keys: &[u64],
+    distances: &[f32],
+    count: usize,
+    key: u64,
+    threshold: f32,
+    yes: &mut u32,
+) -> u32
+    ensures { λ r. ⌜ r ≡ freeNumber (isFreeSpace (marchedTable (now (keys .entry)) (now (distances .entry)) count) key threshold) ⌝ }
+    ensures { λ _. ⌜ now (yes .exit) ≡ freeFound (isFreeSpace (marchedTable (now (keys .entry)) (now (distances .entry)) count) key threshold) ⌝ }
+{
+    let found = esdf_questions::is_free_space(keys, distances, count, key, threshold);
+    *yes = free_found(found);
+    free_number(found)
+}
+
+fn slope_number(gradient: Gradient) -> u32
+    ensures { λ r. ⌜ r ≡ slopeNumber gradient ⌝ }
+{
+    match gradient {
+        Gradient::Of(_, _, _) => DONE,
+        Gradient::Absent => ABSENT,
+        Gradient::Refused(why) => refusals::number(why),
+    }
+}
+
+fn x_slope(gradient: Gradient) -> f32
+    ensures { λ r. ⌜ r ≡ slopeFound gradient .0 ⌝ }
+{
+    match gradient {
+        Gradient::Of(x, _, _) => x,
+        Gradient::Absent => 0.0,
+        Gradient::Refused(_) => 0.0,
+    }
+}
+
+fn y_slope(gradient: Gradient) -> f32
+    ensures { λ r. ⌜ r ≡ slopeFound gradient .1 ⌝ }
+{
+    match gradient {
+        Gradient::Of(_, y, _) => y,
+        Gradient::Absent => 0.0,
+        Gradient::Refused(_) => 0.0,
+    }
+}
+
+fn z_slope(gradient: Gradient) -> f32
+    ensures { λ r. ⌜ r ≡ slopeFound gradient .2 ⌝ }
+{
+    match gradient {
+        Gradient::Of(_, _, z) => z,
+        Gradient::Absent => 0.0,
+        Gradient::Refused(_) => 0.0,
+    }
+}
+
+#[no_mangle]
+pub extern "C" fn akf_get_gradient(
+    keys: &[u64],
+    distances: &[f32],
+    count: usize,
+    key: u64,
+    gx: &mut f32,
+    gy: &mut f32,
+    gz: &mut f32,
+) -> u32
+    ensures { λ r. ⌜ r ≡ slopeNumber (getGradient (marchedTable (now (keys .entry)) (now (distances .entry)) count) key) ⌝ }
+    ensures { λ _. ⌜ now (gx .exit) ≡ slopeFound (getGradient (marchedTable (now (keys .entry)) (now (distances .entry)) count) key) .0 ⌝ }
+    ensures { λ _. ⌜ now (gy .exit) ≡ slopeFound (getGradient (marchedTable (now (keys .entry)) (now (distances .entry)) count) key) .1 ⌝ }
+    ensures { λ _. ⌜ now (gz .exit) ≡ slopeFound (getGradient (marchedTable (now (keys .entry)) (now (distances .entry)) count) key) .2 ⌝ }
+{
+    let gradient = esdf_questions::get_gradient(keys, distances, count, key);
+    *gx = x_slope(gradient);
+    *gy = y_slope(gradient);
+    *gz = z_slope(gradient);
+    slope_number(gradient)
+}
+
+#[no_mangle]
+pub extern "C" fn akf_get_voxels_within_distance(
+    keys: &[u64],
+    distances: &[f32],
+    count: usize,
+    threshold: f32,
+    out_keys: &mut [u64],
+    out_distances: &mut [f32],
+    listed: &mut usize,
+) -> u32
+    ensures { λ r. ⌜ r ≡ listedNumber (withinListed (marchedTable (now (keys .entry)) (now (distances .entry)) count) threshold (length (now («out_keys» .entry))) (length (now («out_distances» .entry)))) ⌝ }
+    ensures { λ _. ⌜ now («out_keys» .exit) ≡ withinKeys (marchedTable (now (keys .entry)) (now (distances .entry)) count) threshold (length (now («out_keys» .entry))) (length (now («out_distances» .entry))) ⌝ }
+    ensures { λ _. ⌜ now («out_distances» .exit) ≡ withinDistances (marchedTable (now (keys .entry)) (now (distances .entry)) count) threshold (length (now («out_keys» .entry))) (length (now («out_distances» .entry))) ⌝ }
+    ensures { λ _. ⌜ now (listed .exit) ≡ countOf (withinListed (marchedTable (now (keys .entry)) (now (distances .entry)) count) threshold (length (now («out_keys» .entry))) (length (now («out_distances» .entry)))) ⌝ }
+{
+    let answer = esdf_questions::get_voxels_within_distance(
+        keys,
+        distances,
+        count,
+        threshold,
+        out_keys,
+        out_distances,
+    );
+    *listed = lists::count_of(answer);
+    listed_number(answer)
+}
+
+fn stats_number(statistics: Statistics) -> u32
+    ensures { λ r. ⌜ r ≡ statisticsNumber statistics ⌝ }
+{
+    match statistics {
+        Statistics::Of(_) => DONE,
+        Statistics::Refused(why) => refusals::number(why),
+    }
+}
+
+fn stats_found(statistics: Statistics) -> EsdfStats
+    ensures { λ r. ⌜ r ≡ marchedStats statistics ⌝ }
+{
+    match statistics {
+        Statistics::Of(stats) => stats,
+        Statistics::Refused(_) => EsdfStats {
+            voxel_count: 0,
+            obstacle_voxel_count: 0,
+            free_voxel_count: 0,
+            min_distance: 0.0,
+            max_distance: 0.0,
+        },
+    }
+}
+
+#[no_mangle]
+pub extern "C" fn akf_esdf_stats(
+    keys: &[u64],
+    distances: &[f32],
+    count: usize,
+    voxel_count: &mut usize,
+    obstacle_voxel_count: &mut usize,
+    free_voxel_count: &mut usize,
+    smallest: &mut f32,
+    largest: &mut f32,
+) -> u32
+    ensures { λ r. ⌜ r ≡ statisticsNumber (getStats (marchedTable (now (keys .entry)) (now (distances .entry)) count)) ⌝ }
+    ensures { λ _. ⌜ now («voxel_count» .exit) ≡ marchedStats (getStats (marchedTable (now (keys .entry)) (now (distances .entry)) count)) .«voxel_count» ⌝ }
+    ensures { λ _. ⌜ now («obstacle_voxel_count» .exit) ≡ marchedStats (getStats (marchedTable (now (keys .entry)) (now (distances .entry)) count)) .«obstacle_voxel_count» ⌝ }
+    ensures { λ _. ⌜ now («free_voxel_count» .exit) ≡ marchedStats (getStats (marchedTable (now (keys .entry)) (now (distances .entry)) count)) .«free_voxel_count» ⌝ }
+    ensures { λ _. ⌜ now (smallest .exit) ≡ marchedStats (getStats (marchedTable (now (keys .entry)) (now (distances .entry)) count)) .«min_distance» ⌝ }
+    ensures { λ _. ⌜ now (largest .exit) ≡ marchedStats (getStats (marchedTable (now (keys .entry)) (now (distances .entry)) count)) .«max_distance» ⌝ }
+{
+    let statistics = esdf_questions::stats(keys, distances, count);
+    let found = stats_found(statistics);
+    *voxel_count = found.voxel_count;
+    *obstacle_voxel_count = found.obstacle_voxel_count;
+    *free_voxel_count = found.free_voxel_count;
+    *smallest = found.min_distance;
+    *largest = found.max_distance;
+    stats_number(statistics)
 }

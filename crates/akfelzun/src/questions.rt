@@ -1,13 +1,273 @@
 // Questions about a table, and lists from it.
+use crate::ABSENT;
+use crate::DONE;
 use crate::keys::listed_number;
+use crate::keys::one_if;
 use floats::Metres;
 use table::Settings;
+use tsdf_questions::Distance;
+use tsdf_questions::Statistics;
+use tsdf_questions::Surface;
+use tsdf_questions::TsdfStats;
+use tsdf_questions::Weight;
 ghost use mathlib.Core.Path.{_≡_};
 ghost use lib.ListN.{length};
 ghost use Rattle.lists.specs.Listing.{countOf, listedNumber};
 ghost use Rattle.table.specs.Table.{table};
+ghost use Rattle.tsdf_questions.specs.Lookups.{lookedUp, distanceOf, weightOf, surfaceOf, distanceNumber, weightNumber, surfaceNumber};
+ghost use Rattle.tsdf_questions.specs.Surface.{surfaceListed, surfaceHeld};
+ghost use Rattle.tsdf_questions.specs.Statistics.{statisticsOf, statisticsNumber};
 ghost use Rattle.edges.specs.Listing.{edgesAnswer, firstsHeld, secondsHeld};
 ghost use Rattle.akfelzun.specs.Fusing.{settingsOf};
+ghost use Rattle.akfelzun.specs.Questions.{distanceFound, weightFound, surfaceFound, statsFound};
+
+fn distance_number(distance: Distance) -> u32
+    ensures { λ r. ⌜ r ≡ distanceNumber distance ⌝ }
+{
+    match distance {
+        Distance::Of(_) => DONE,
+        Distance::Absent => ABSENT,
+        Distance::Refused(why) => refusals::number(why),
+    }
+}
+
+fn distance_found(distance: Distance) -> f32
+    ensures { λ r. ⌜ r ≡ distanceFound distance ⌝ }
+{
+    match distance {
+        Distance::Of(metres) => metres.0,
+        Distance::Absent => 0.0,
+        Distance::Refused(_) => 0.0,
+    }
+}
+
+#[no_mangle]
+pub extern "C" fn akf_tsdf_get_distance(
+    truncation: f32,
+    max_weight: f32,
+    voxel_size: f32,
+    max_distance: f32,
+    keys: &[u64],
+    distances: &[f32],
+    weights: &[f32],
+    count: usize,
+    key: u64,
+    distance: &mut f32,
+) -> u32
+    ensures { λ r. ⌜ r ≡ distanceNumber (distanceOf (lookedUp (settingsOf truncation «max_weight» «voxel_size» «max_distance») (table (now (keys .entry)) (now (distances .entry)) (now (weights .entry)) count) key)) ⌝ }
+    ensures { λ _. ⌜ now (distance .exit) ≡ distanceFound (distanceOf (lookedUp (settingsOf truncation «max_weight» «voxel_size» «max_distance») (table (now (keys .entry)) (now (distances .entry)) (now (weights .entry)) count) key)) ⌝ }
+{
+    let settings = Settings {
+        truncation: Metres(truncation),
+        max_weight,
+        voxel_size: Metres(voxel_size),
+        max_distance: Metres(max_distance),
+    };
+    let found = tsdf_questions::get_distance(settings, keys, distances, weights, count, key);
+    *distance = distance_found(found);
+    distance_number(found)
+}
+
+fn weight_number(weight: Weight) -> u32
+    ensures { λ r. ⌜ r ≡ weightNumber weight ⌝ }
+{
+    match weight {
+        Weight::Of(_) => DONE,
+        Weight::Absent => ABSENT,
+        Weight::Refused(why) => refusals::number(why),
+    }
+}
+
+fn weight_found(weight: Weight) -> f32
+    ensures { λ r. ⌜ r ≡ weightFound weight ⌝ }
+{
+    match weight {
+        Weight::Of(w) => w,
+        Weight::Absent => 0.0,
+        Weight::Refused(_) => 0.0,
+    }
+}
+
+#[no_mangle]
+pub extern "C" fn akf_tsdf_get_weight(
+    truncation: f32,
+    max_weight: f32,
+    voxel_size: f32,
+    max_distance: f32,
+    keys: &[u64],
+    distances: &[f32],
+    weights: &[f32],
+    count: usize,
+    key: u64,
+    weight: &mut f32,
+) -> u32
+    ensures { λ r. ⌜ r ≡ weightNumber (weightOf (lookedUp (settingsOf truncation «max_weight» «voxel_size» «max_distance») (table (now (keys .entry)) (now (distances .entry)) (now (weights .entry)) count) key)) ⌝ }
+    ensures { λ _. ⌜ now (weight .exit) ≡ weightFound (weightOf (lookedUp (settingsOf truncation «max_weight» «voxel_size» «max_distance») (table (now (keys .entry)) (now (distances .entry)) (now (weights .entry)) count) key)) ⌝ }
+{
+    let settings = Settings {
+        truncation: Metres(truncation),
+        max_weight,
+        voxel_size: Metres(voxel_size),
+        max_distance: Metres(max_distance),
+    };
+    let found = tsdf_questions::get_weight(settings, keys, distances, weights, count, key);
+    *weight = weight_found(found);
+    weight_number(found)
+}
+
+fn surface_number(surface: Surface) -> u32
+    ensures { λ r. ⌜ r ≡ surfaceNumber surface ⌝ }
+{
+    match surface {
+        Surface::Answer(_) => DONE,
+        Surface::Refused(why) => refusals::number(why),
+    }
+}
+
+fn surface_found(surface: Surface) -> u32
+    ensures { λ r. ⌜ r ≡ surfaceFound surface ⌝ }
+{
+    match surface {
+        Surface::Answer(near) => one_if(near),
+        Surface::Refused(_) => 0,
+    }
+}
+
+#[no_mangle]
+pub extern "C" fn akf_is_surface_voxel(
+    truncation: f32,
+    max_weight: f32,
+    voxel_size: f32,
+    max_distance: f32,
+    keys: &[u64],
+    distances: &[f32],
+    weights: &[f32],
+    count: usize,
+    key: u64,
+    threshold: f32,
+    yes: &mut u32,
+) -> u32
+    ensures { λ r. ⌜ r ≡ surfaceNumber (surfaceOf threshold (lookedUp (settingsOf truncation «max_weight» «voxel_size» «max_distance») (table (now (keys .entry)) (now (distances .entry)) (now (weights .entry)) count) key)) ⌝ }
+    ensures { λ _. ⌜ now (yes .exit) ≡ surfaceFound (surfaceOf threshold (lookedUp (settingsOf truncation «max_weight» «voxel_size» «max_distance») (table (now (keys .entry)) (now (distances .entry)) (now (weights .entry)) count) key)) ⌝ }
+{
+    let settings = Settings {
+        truncation: Metres(truncation),
+        max_weight,
+        voxel_size: Metres(voxel_size),
+        max_distance: Metres(max_distance),
+    };
+    let found = tsdf_questions::is_surface_voxel(
+        settings,
+        keys,
+        distances,
+        weights,
+        count,
+        key,
+        Metres(threshold),
+    );
+    *yes = surface_found(found);
+    surface_number(found)
+}
+
+fn stats_number(statistics: Statistics) -> u32
+    ensures { λ r. ⌜ r ≡ statisticsNumber statistics ⌝ }
+{
+    match statistics {
+        Statistics::Of(_) => DONE,
+        Statistics::Refused(why) => refusals::number(why),
+    }
+}
+
+fn stats_found(statistics: Statistics) -> TsdfStats
+    ensures { λ r. ⌜ r ≡ statsFound statistics ⌝ }
+{
+    match statistics {
+        Statistics::Of(stats) => stats,
+        Statistics::Refused(_) => TsdfStats {
+            voxel_count: 0,
+            surface_voxel_count: 0,
+            min_distance: Metres(0.0),
+            max_distance: Metres(0.0),
+            average_weight: 0.0,
+        },
+    }
+}
+
+#[no_mangle]
+pub extern "C" fn akf_tsdf_stats(
+    truncation: f32,
+    max_weight: f32,
+    voxel_size: f32,
+    max_distance: f32,
+    keys: &[u64],
+    distances: &[f32],
+    weights: &[f32],
+    count: usize,
+    voxel_count: &mut usize,
+    surface_voxel_count: &mut usize,
+    smallest: &mut f32,
+    largest: &mut f32,
+    average_weight: &mut f32,
+) -> u32
+    ensures { λ r. ⌜ r ≡ statisticsNumber (statisticsOf (settingsOf truncation «max_weight» «voxel_size» «max_distance») (table (now (keys .entry)) (now (distances .entry)) (now (weights .entry)) count)) ⌝ }
+    ensures { λ _. ⌜ now («voxel_count» .exit) ≡ statsFound (statisticsOf (settingsOf truncation «max_weight» «voxel_size» «max_distance») (table (now (keys .entry)) (now (distances .entry)) (now (weights .entry)) count)) .«voxel_count» ⌝ }
+    ensures { λ _. ⌜ now («surface_voxel_count» .exit) ≡ statsFound (statisticsOf (settingsOf truncation «max_weight» «voxel_size» «max_distance») (table (now (keys .entry)) (now (distances .entry)) (now (weights .entry)) count)) .«surface_voxel_count» ⌝ }
+    ensures { λ _. ⌜ now (smallest .exit) ≡ statsFound (statisticsOf (settingsOf truncation «max_weight» «voxel_size» «max_distance») (table (now (keys .entry)) (now (distances .entry)) (now (weights .entry)) count)) .«min_distance» .0 ⌝ }
+    ensures { λ _. ⌜ now (largest .exit) ≡ statsFound (statisticsOf (settingsOf truncation «max_weight» «voxel_size» «max_distance») (table (now (keys .entry)) (now (distances .entry)) (now (weights .entry)) count)) .«max_distance» .0 ⌝ }
+    ensures { λ _. ⌜ now («average_weight» .exit) ≡ statsFound (statisticsOf (settingsOf truncation «max_weight» «voxel_size» «max_distance») (table (now (keys .entry)) (now (distances .entry)) (now (weights .entry)) count)) .«average_weight» ⌝ }
+{
+    let settings = Settings {
+        truncation: Metres(truncation),
+        max_weight,
+        voxel_size: Metres(voxel_size),
+        max_distance: Metres(max_distance),
+    };
+    let statistics = tsdf_questions::stats(settings, keys, distances, weights, count);
+    let found = stats_found(statistics);
+    *voxel_count = found.voxel_count;
+    *surface_voxel_count = found.surface_voxel_count;
+    *smallest = found.min_distance.0;
+    *largest = found.max_distance.0;
+    *average_weight = found.average_weight;
+    stats_number(statistics)
+}
+
+#[no_mangle]
+pub extern "C" fn akf_get_surface_voxels(
+    truncation: f32,
+    max_weight: f32,
+    voxel_size: f32,
+    max_distance: f32,
+    keys: &[u64],
+    distances: &[f32],
+    weights: &[f32],
+    count: usize,
+    threshold: f32,
+    out: &mut [u64],
+    listed: &mut usize,
+) -> u32
+    ensures { λ r. ⌜ r ≡ listedNumber (surfaceListed (settingsOf truncation «max_weight» «voxel_size» «max_distance») (table (now (keys .entry)) (now (distances .entry)) (now (weights .entry)) count) threshold (length (now (out .entry)))) ⌝ }
+    ensures { λ _. ⌜ now (out .exit) ≡ surfaceHeld (settingsOf truncation «max_weight» «voxel_size» «max_distance») (table (now (keys .entry)) (now (distances .entry)) (now (weights .entry)) count) threshold (length (now (out .entry))) ⌝ }
+    ensures { λ _. ⌜ now (listed .exit) ≡ countOf (surfaceListed (settingsOf truncation «max_weight» «voxel_size» «max_distance») (table (now (keys .entry)) (now (distances .entry)) (now (weights .entry)) count) threshold (length (now (out .entry)))) ⌝ }
+{
+    let settings = Settings {
+        truncation: Metres(truncation),
+        max_weight,
+        voxel_size: Metres(voxel_size),
+        max_distance: Metres(max_distance),
+    };
+    let answer = tsdf_questions::get_surface_voxels(
+        settings,
+        keys,
+        distances,
+        weights,
+        count,
+        Metres(threshold),
+        out,
+    );
+    *listed = lists::count_of(answer);
+    listed_number(answer)
+}
 
 #[no_mangle]
 pub extern "C" fn akf_get_zero_crossing_edges(

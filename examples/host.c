@@ -1,0 +1,74 @@
+/* host.c: what a plug-in does. Two passes over a small last are fused, the surface is meshed, and counts, area and box are
+ * printed; then one refusal. All lists are the host's own. */
+#include "akfelzun.h"
+
+#include <stdio.h>
+
+enum { TABLE = 4096, EDGES = 16384, GROUPS = 32768, TRIANGLES = 262144 };
+
+/* truncation, maximum weight, voxel size, maximum distance */
+#define SETTINGS 2.0f, 100.0f, 1.0f, 10.0f
+
+static uint64_t keys[TABLE], batch_keys[TABLE], first[EDGES], second[EDGES];
+static float distances[TABLE], weights[TABLE], batch_distances[TABLE], batch_confidences[TABLE];
+static float px[EDGES], py[EDGES], pz[EDGES], nx[EDGES], ny[EDGES], nz[EDGES];
+static uint32_t groups[GROUPS], t0[TRIANGLES], t1[TRIANGLES], t2[TRIANGLES];
+
+#define TABLE_IN keys, TABLE, distances, TABLE, weights, TABLE
+
+/* how far a cell lies outside a ball */
+static float outside_ball(int x, int y, int z, int cx, int cy, int cz, float radius) {
+    float root;
+    int dx = x - cx, dy = y - cy, dz = z - cz;
+    akf_root((float)(dx * dx + dy * dy + dz * dz), &root);
+    return root - radius;
+}
+
+/* a last in little: a heel and a toe */
+static float outside_last(int x, int y, int z) {
+    float heel = outside_ball(x, y, z, 16, 16, 16, 4.5f), toe = outside_ball(x, y, z, 22, 16, 15, 3.5f);
+    return heel < toe ? heel : toe;
+}
+
+/* one pass of the scanner, whose readings are all off by the same length */
+static size_t scan(float off) {
+    size_t n = 0;
+    for (int x = 8; x < 30; x++)
+        for (int y = 8; y < 26; y++)
+            for (int z = 8; z < 26; z++)
+                if (n < TABLE && akf_index64_new(0, x, y, z, &batch_keys[n]) == AKF_DONE) {
+                    batch_distances[n] = outside_last(x, y, z) + off;
+                    batch_confidences[n++] = 0.5f;
+                }
+    return n;
+}
+
+int main(void) {
+    size_t rows = 0, at, edges, triangles;
+    for (int pass = 0; pass < 2; pass++) {
+        size_t n = scan(pass == 0 ? 0.125f : -0.125f);
+        uint32_t answer = akf_batch_update(SETTINGS, TABLE_IN, &rows, batch_keys, n, batch_distances, n,
+                                           batch_confidences, n, &at);
+        printf("pass %d: %zu readings, answer %u, rows %zu\n", pass + 1, n, answer, rows);
+    }
+
+    uint32_t answer = akf_extract_mesh_from_tsdf(
+        SETTINGS, TABLE_IN, rows, first, EDGES, second, EDGES, px, EDGES, py, EDGES, pz, EDGES, nx, EDGES, ny, EDGES, nz,
+        EDGES, groups, GROUPS, t0, TRIANGLES, t1, TRIANGLES, t2, TRIANGLES, &edges, &triangles);
+    printf("mesh: answer %u, vertices %zu, triangles %zu\n", answer, edges, triangles);
+
+    float area, low[3], high[3];
+    answer = akf_surface_area(px, EDGES, py, EDGES, pz, EDGES, edges, t0, TRIANGLES, t1, TRIANGLES, t2, TRIANGLES,
+                              triangles, &area);
+    printf("area: answer %u, %.3f\n", answer, area);
+    answer = akf_bounding_box(px, EDGES, py, EDGES, pz, EDGES, edges, &low[0], &low[1], &low[2], &high[0], &high[1],
+                              &high[2]);
+    printf("box: answer %u, (%.3f, %.3f, %.3f) to (%.3f, %.3f, %.3f)\n", answer, low[0], low[1], low[2], high[0], high[1],
+           high[2]);
+
+    /* coordinates of mixed parity make no key: refusal 4, and the key handed back is 0 */
+    uint64_t key = 1;
+    answer = akf_index64_new(0, 16, 16, 17, &key);
+    printf("key of (16, 16, 17): refused with %u, key %llu\n", answer, (unsigned long long)key);
+    return 0;
+}

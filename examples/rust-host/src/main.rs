@@ -1,0 +1,100 @@
+//! What a plug-in in Rust does. Two passes over a small last are fused, the surface is meshed, and counts, area and box are
+//! printed; then refusals and what is far.
+mod akfelzun;
+
+use akfelzun::{key, root, Answer, Room, Settings, Table};
+
+/// How far a cell lies outside a ball.
+fn outside_ball(cell: [u16; 3], centre: [u16; 3], radius: f32) -> f32 {
+    let squares: f32 = cell
+        .iter()
+        .zip(centre)
+        .map(|(&a, c)| (a as f32 - c as f32).powi(2))
+        .sum();
+    let Answer::Done(length) = root(squares) else {
+        unreachable!("a sum of squares has a root")
+    };
+    length - radius
+}
+
+/// A last in little: a heel and a toe.
+fn outside_last(cell: [u16; 3]) -> f32 {
+    outside_ball(cell, [16, 16, 16], 4.5).min(outside_ball(cell, [22, 16, 15], 3.5))
+}
+
+/// One pass of the scanner, whose readings are all off by the same length.
+fn scan(off: f32) -> (Vec<u64>, Vec<f32>) {
+    let mut keys = Vec::new();
+    let mut distances = Vec::new();
+    for x in 8..30 {
+        for y in 8..26 {
+            for z in 8..26 {
+                if let Answer::Done(k) = key(0, x, y, z) {
+                    keys.push(k);
+                    distances.push(outside_last([x, y, z]) + off);
+                }
+            }
+        }
+    }
+    (keys, distances)
+}
+
+fn main() {
+    let settings = Settings {
+        truncation: 2.0,
+        max_weight: 100.0,
+        voxel_size: 1.0,
+        max_distance: 10.0,
+    };
+    let mut table = Table::new(settings, 4096);
+    for off in [0.125, -0.125] {
+        let (keys, distances) = scan(off);
+        let fused = table.batch_update(&keys, &distances, &vec![0.5; keys.len()]);
+        println!(
+            "pass: {} readings, {:?}, rows {}",
+            keys.len(),
+            fused,
+            table.rows()
+        );
+    }
+    match table.mesh(Room {
+        edges: 16384,
+        groups: 32768,
+        triangles: 262144,
+    }) {
+        Answer::Done(mesh) => {
+            println!(
+                "mesh: vertices {}, triangles {}",
+                mesh.positions[0].len(),
+                mesh.triangles[0].len()
+            );
+            println!("area: {:.3?}", mesh.area());
+            println!("box: {:.3?}", mesh.bounding_box());
+            println!(
+                "normal of vertex 0: {:.3?}",
+                mesh.normals.each_ref().map(|parts| parts[0])
+            );
+        }
+        other => println!("mesh: {:?}", other.refusal()),
+    }
+    println!("key of (16, 16, 17): {:?}", key(0, 16, 16, 17));
+    println!(
+        "mesh with room for one triangle: {:?}",
+        table
+            .mesh(Room {
+                edges: 16384,
+                groups: 32768,
+                triangles: 1
+            })
+            .refusal()
+    );
+    let Answer::Done(k) = key(0, 16, 16, 16) else {
+        unreachable!("an even cell is on the lattice")
+    };
+    println!(
+        "a reading of 3 m: {:?}",
+        table.update_from_depth(k, 3.0, 1.0)
+    );
+    let halves = table.batch_update(&[k, 1], &[0.5, 0.5], &[1.0, 1.0]);
+    println!("a batch with a key off the lattice: {:?}", halves);
+}
