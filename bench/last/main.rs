@@ -90,7 +90,7 @@ fn rust(f: &Field) -> Times {
         t.counts[1] = m.vertices.len();
         t.counts[2] = m.triangles.len();
     }));
-    t.ms[4] = Some(best(|| {
+    t.ms[4] = (!quick()).then(|| best(|| {
         let mut e = ESDFLayer::new(f.settings.voxel_size, f.settings.max_distance);
         e.compute_from_tsdf(&l, f.threshold).unwrap();
         t.counts[3] = black_box(e).voxels.len();
@@ -109,6 +109,11 @@ fn rust(_: &Field) -> Times {
 
 fn landed(name: &str) -> bool {
     LANDED.contains(&name)
+}
+
+// `quick` leaves the march out, which takes minutes.
+fn quick() -> bool {
+    std::env::args().any(|a| a == "quick")
 }
 
 fn table(f: &Field) -> Table<'_> {
@@ -165,7 +170,7 @@ fn face(f: &Field) -> Times {
             (t.counts[1], t.counts[2]) = (edges, triangles);
         }));
     }
-    if landed("akf_compute_from_tsdf") {
+    if landed("akf_compute_from_tsdf") && !quick() {
         let (mut keys, mut distances) = (vec![0; ROOM / 2], vec![0.0; ROOM / 2]);
         let (mut estimates, mut waiting) = (vec![0.0; ROOM / 2], vec![0; ROOM / 2]);
         t.ms[4] = Some(best(|| {
