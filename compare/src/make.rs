@@ -590,6 +590,16 @@ pub fn for_march(r: &mut Rng) -> Case {
         // a few rows give most of the ways to tie
         c.count = 1 + r.below(12);
     }
+    if c.count > 0 && r.one_in(4) {
+        // a maximum distance that an estimate meets, or misses by one float
+        let step = f32::from_bits(0x3fdd_b3d7) * c.settings[2];
+        let near = c.distances[r.below(c.count)].abs() + step;
+        let at = if r.one_in(3) { near } else { near + step };
+        let at = f32::from_bits((at.to_bits() + r.below(3) as u32).saturating_sub(1));
+        if at <= 1_000_000.0 {
+            c.settings[3] = at;
+        }
+    }
     let (rows, waiting, _) = march::rooms(c.settings(), &rows_of(c.table()), c.reals[0], 300 + 3 * c.count, 700 + 3 * c.count);
     let (a, b) = (room(r, rows), room(r, waiting));
     // one of the two is enough in most cases
