@@ -1,6 +1,7 @@
 pub mod Bools
 pub mod Table
 pub mod Writing
+pub mod Held
 pub mod Shifting
 pub mod Lowering
 pub mod PaddingLaws

@@ -15,7 +15,7 @@ use Rattle.vertices.specs.declared.Vertex.{Vertex}
 use Rattle.vertices.specs.Vertices.{half, vertexOf, vertexAt, verticesOf}
 use Rattle.vertices.specs.Stored.{Lookup, orZero}
 use Rattle.vertices.specs.Normals.{squares, lengthOf}
-use Rattle.vertices.proofs.Sizes.{Small, Held, true-is, le-of, small-wider, mul-small, sub-small, small-finite}
+use Rattle.floats.proofs.Sizes.{Small, Held, true-is, le-of, small-wider, mul-small, sub-small, small-finite}
 use Rattle.vertices.proofs.LengthLaws.{length-root}
 use Rattle.vertices.proofs.Reach.{vertex-within}
 use Rattle.surfaces.specs.declared.Arrow.{Arrow}

@@ -1,26 +1,17 @@
--- What a passed check tells the work behind it, and what a list holds after it: what was written from the front stands there where it has room, and all is cleared where it has not.
+-- What a passed check tells the work behind it, and what the list holds after it.
 -- Assumes nothing.
 use Prim.Native.Nat.{ℕ}
-use native.Mathlib.Nat.{sub-zero}
 use native.Mathlib.Omega.{arith}
 use mathlib.Core.Path.{_≡_, refl, ap, _∙_}
-use mathlib.Core.Bool.{Bool, true, false, cond}
 use mathlib.Core.List.{List}
 use lib.Dec.{leb}
 use lib.Ieee.{Float}
-use lib.ListN.{length, take}
+use lib.ListN.{length}
 use lib.Seq.{sets, length-sets}
-use borrow.Author.Tests.{leb-true}
-use Rattle.floats.specs.Floats.{isFinite}
-use Rattle.lists.specs.Padding.{padded}
 use Rattle.lists.specs.Places.{clearedFrom}
 use Rattle.lists.specs.Listing.{roomFor, countOf, heldFor}
 use Rattle.lists.specs.declared.Listed.{Listed}
-use Rattle.lists.specs.declared.Listed.the-variants as listed
-use Rattle.lists.proofs.Bools.{cases}
-use Rattle.lists.proofs.Writing.{sets-front, cleared-whole}
-use Rattle.refusals.specs.declared.Refusal.{Refusal}
-use Rattle.refusals.specs.declared.Refusal.the-variants.{NoPlace}
+use Rattle.lists.proofs.Held.{written-held}
 use Rattle.table.specs.declared.Settings.{Settings}
 use Rattle.table.specs.declared.Checked.{Checked}
 use Rattle.table.specs.declared.Checked.the-variants as checked
@@ -47,26 +38,6 @@ pub list-accepted : (s : Settings) (ks : List ℕ) (ds ws : List Float) (n : ℕ
 unfolding listCheck
 list-accepted s ks ds ws n threshold room e =
     accepted s ks ds ws n (went-on (tableCheck s (table ks ds ws n)) _ (passed (leb room 1048576) _ _ (passed (settingsOk s) _ _ e .1) .1))
-
--- ---- what a list holds
-
-abbrev roomIf : Bool → ℕ → Listed
-roomIf b n = cond b (listed.Count n) (listed.Refused NoPlace)
-
-module _ {A : Type 0} (v : A) where
-  pub refused-held : (why : Refusal) (l xs : List A) → clearedFrom v 0 l ≡ heldFor v (listed.Refused why) (length l) xs
-  unfolding heldFor
-  refused-held why l xs = cleared-whole v l
-
-  pub written-held : (l xs : List A) (n : ℕ) (l' : List A) → n ≡ length xs → l' ≡ sets l 0 xs → clearedFrom v (countOf (roomFor n (length l))) l' ≡ heldFor v (roomFor n (length l)) (length l) xs
-  unfolding heldFor padded
-  written-held l xs n l' e w =
-      let long : length l' ≡ length l = ap length w ∙ length-sets l 0 xs in
-      cases (λ (b : Bool). clearedFrom v (countOf (roomIf b n)) l' ≡ heldFor v (roomIf b n) (length l) xs) (leb n (length l))
-      (λ t.
-      let front : take n l' ≡ xs = rw (w, e) (sets-front l xs (omega (arith, leb-true n (length l) t))) in
-      rw (front, long, e))
-      (λ t. rw (long, sub-zero (length l)))
 
 -- ---- the surface's cells
 

@@ -6,12 +6,12 @@ use mathlib.Core.Path.{_≡_, refl, subst}
 use mathlib.Core.Bool.{true, false, false≢true}
 use lib.Dec.{T, lit<}
 use lib.Ieee.{Float, nan, inf, fin, binary32, up, down, size, odd, units, round, mul, add, le, ofBits}
+use lib.Ieee.Bits.{is-true}
 use lib.Ieee.Fits.{down-pos}
 use lib.Ieee.Order.{round-mono}
 use Rattle.floats.specs.Floats.{zero32, isFinite}
 use Rattle.floats.proofs.Sums.{sum-at-least-0}
 use Rattle.root.specs.Root.{rootOf, rootAnswer}
-use Rattle.vertices.proofs.Sizes.{is-true}
 use Rattle.vertices.specs.Normals.{rootedOr, squares, lengthOf}
 
 zero-rounds : round binary32 false 0 1 ≡ zero32

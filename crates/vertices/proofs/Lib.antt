@@ -5,6 +5,5 @@ pub mod PartLaws
 pub mod TableLaws
 pub mod Samples
 pub mod Determined
-pub mod Sizes
 pub mod Reach
 pub mod LengthLaws

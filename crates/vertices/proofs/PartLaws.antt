@@ -1,37 +1,19 @@
 -- t of two finite distances is a number from 0 to 1: a finite number over one that is not 0 is no NaN, and the clamp does the rest.
 -- Assumes nothing.
-use Prim.Native.Nat.{ℕ, zero, suc, _+_, _*_, _^_, zero-le}
+use Prim.Native.Nat.{ℕ, zero, suc, _*_, zero-le}
 use native.Mathlib.Nat.{zero-mul}
 use mathlib.Core.Path.{_≡_, refl, sym, _∙_}
 use mathlib.Core.Bool.{Bool, true, false, cond, not, false≢true}
 use native.Mathlib.Omega.{arith}
 use borrow.Author.Tests.{le-ltb, ne-eqb}
-use lib.Dec.{ltb}
 use lib.IntN.{ℤ}
-use lib.Ieee.{Float, nan, inf, fin, Format, binary32, unlike, up, down, low, emax, prec, odd, units, round, sub, div, neg, lt, le, eq, isNan, ofBits}
+use lib.Ieee.{Float, nan, inf, fin, binary32, unlike, up, down, sub, div, neg, lt, le, eq, isNan, ofBits}
 use Rattle.lists.proofs.Bools.{cases, and-first}
 use Rattle.floats.specs.Floats.{zero32, one32, sizeOf, isFinite, between}
 use Rattle.floats.proofs.Clamped.{clamped}
 use Rattle.floats.proofs.Order.{le-second}
+use Rattle.floats.proofs.Sizes.{round-number}
 use Rattle.vertices.specs.Vertices.{tiny, half, partOf}
-
--- ---- rounding gives no NaN
-
-odd-number : (d : ℕ) (s : Bool) (q k l : ℕ) → isNan (odd d s q k l) ≡ false
-unfolding isNan odd
-odd-number d s zero k l = refl
-odd-number d s (suc q) k l = refl
-
-units-number : (f : Format) (s : Bool) (q k : ℕ) → isNan (units f s q k) ≡ false
-unfolding isNan units
-units-number f s q k =
-    cases (λ (b : Bool). isNan (cond b (odd (suc (prec f)) s q k (low f)) (inf s)) ≡ false) (ltb (q * 2 ^ k) (2 ^ (low f + suc (emax f))))
-    (λ e. odd-number (suc (prec f)) s q k (low f))
-    (λ e. refl)
-
-pub round-number : (f : Format) (s : Bool) (a c : ℕ) → isNan (round f s a c) ≡ false
-unfolding round
-round-number f s a c = units-number f s _ _
 
 -- ---- what is divided
 

@@ -11,6 +11,7 @@ use borrow.Author.Tests.{lt-ltb, le-ltb, eqb-true}
 use lib.Dec.{T, ltb, eqb, lit<, lit≤}
 use lib.IntN.{ℤ, pos}
 use lib.Ieee.{Float, nan, inf, fin, Format, binary32, unlike, up, down, low, emax, prec, odd, units, round, sum, add, sub, mul, neg, lt, le, eq, ofInt, ofBits}
+use lib.Ieee.Bits.{is-true}
 use lib.Ieee.Exact.{HasValue}
 use lib.Ieee.Fits.{up-pos, down-pos}
 use lib.Ieee.Order.{le-of-values}
@@ -19,11 +20,11 @@ use Rattle.floats.specs.Floats.{f32, zero32, one32, thousand, sizeOf, isFinite,
 use Rattle.floats.specs.declared.Metres.{Metres}
 use Rattle.floats.proofs.Values.{le-or-lt}
 use Rattle.floats.proofs.Order.{within-size}
+use Rattle.floats.proofs.Sizes.{true-is, Small, Held, le-of, round-size, round-small, small-wider, small-neg, mul-small, add-small, ofInt-small}
 use Rattle.ids.specs.Key.{xOf, yOf, zOf}
 use Rattle.ids.proofs.KeyLaws.{coord-small}
 use Rattle.bcc_utils.specs.Metres.{metresOf}
 use Rattle.vertices.specs.Vertices.{partOf, placeOf, vertexOf}
-use Rattle.vertices.proofs.Sizes.{true-is, is-true, Small, Held, le-of, round-size, round-small, small-wider, small-neg, mul-small, add-small, ofInt-small}
 use Rattle.vertices.proofs.PartLaws.{part-between}
 
 -- ---- with a sign: from 0 to b, and from -b to 0

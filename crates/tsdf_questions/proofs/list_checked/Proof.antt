@@ -3,7 +3,8 @@
 use mathlib.Core.Path.{refl}
 use Rattle.table.specs.Table.{rowsOf}
 use Rattle.tsdf_questions.specs.Surface.{surfaceKeys, listedIf}
-use Rattle.tsdf_questions.proofs.Answers.{refused-held, answer-room, keys-held}
+use Rattle.lists.proofs.Held.{refused-held}
+use Rattle.tsdf_questions.proofs.Answers.{answer-room, keys-held}
 use borrow.Author.Needs.{needs}
 use Rattle.tsdf_questions.proofs.list_checked.Statement.{statement}
 use Rattle.tsdf_questions.proofs.list_checked.Tie as tie

@@ -1,4 +1,5 @@
--- How large a sum, a difference or a product can be: rounding keeps the order, so a result is at most b in size where the exact one is, and b is a value of the format.
+-- What rounding gives: a number, and how large a sum, a difference or a product can be. Rounding keeps the order, so a result is at most b in size where the exact one is,
+-- and b is a value of the format.
 -- Assumes nothing.
 use Prim.Native.Nat.{ℕ, zero, suc, _+_, _-_, _*_, _^_, _<_, _≤_}
 use native.Mathlib.Nat.{le-trans, le-of-eq, lt-of-lt-of-le, mul-comm, mul-assoc, mul-one, mul-right-comm, mul-le-mul, mul-le-mul-right, mul-mul-mul-comm, le-of-mul-le-mul-right, mul-pos}
@@ -10,21 +11,17 @@ use borrow.Author.Tests.{le-ltb, ne-eqb}
 use lib.Dec.{T, ltb, eqb, lit<}
 use lib.Pow.{pow-add, pow-mono, shl-lt}
 use lib.IntN.{ℤ, pos}
-use lib.Ieee.{Float, nan, inf, fin, Format, binary32, unlike, up, down, low, emax, prec, odd, units, round, sum, add, sub, mul, neg, lt, le, eq, ofInt}
+use lib.Ieee.{Float, nan, inf, fin, Format, binary32, unlike, up, down, low, emax, prec, odd, units, round, sum, add, sub, mul, neg, lt, le, eq, isNan, ofInt}
 use lib.Ieee.Exact.{HasValue, round-exact}
 use lib.Ieee.Fits.{up-pos, down-pos}
 use lib.Ieee.Order.{round-mono}
 use Rattle.lists.proofs.Bools.{cases}
 use Rattle.floats.specs.Floats.{sizeOf, isFinite}
 use Rattle.floats.proofs.Values.{le-or-lt}
 
--- a test and its truth
+-- the truth of a test
 pub true-is : (b : Bool) → b ≡ true → T b
 true-is b e = subst T (sym e) tt
-
-pub is-true : (b : Bool) → T b → b ≡ true
-is-true true h = refl
-is-true false h = absurd h
 
 -- x is finite and at most b in size
 abbrev pub Small : ℕ → Float → Type 0
@@ -40,7 +37,25 @@ pub record Held (b : ℕ) : Type 0 where
   pub digits : q < 2 ^ 24
   pub places : j ≤ 100
 
--- ---- rounding
+-- ---- rounding gives no NaN
+
+odd-number : (d : ℕ) (s : Bool) (q k l : ℕ) → isNan (odd d s q k l) ≡ false
+unfolding isNan odd
+odd-number d s zero k l = refl
+odd-number d s (suc q) k l = refl
+
+units-number : (f : Format) (s : Bool) (q k : ℕ) → isNan (units f s q k) ≡ false
+unfolding isNan units
+units-number f s q k =
+    cases (λ (b : Bool). isNan (cond b (odd (suc (prec f)) s q k (low f)) (inf s)) ≡ false) (ltb (q * 2 ^ k) (2 ^ (low f + suc (emax f))))
+    (λ e. odd-number (suc (prec f)) s q k (low f))
+    (λ e. refl)
+
+pub round-number : (f : Format) (s : Bool) (a c : ℕ) → isNan (round f s a c) ≡ false
+unfolding round
+round-number f s a c = units-number f s _ _
+
+-- ---- rounding keeps sizes
 
 odd-size : (d : ℕ) (s : Bool) (q k l : ℕ) → sizeOf (odd d s q k l) ≡ odd d false q k l
 unfolding odd
