@@ -9,7 +9,7 @@ use lib.Ieee.{Float, binary32, add, sub, mul, div, neg, lt, ofInt}
 use Rattle.floats.specs.Floats.{f32, zero32}
 use Rattle.ids.specs.Key.{xOf, yOf, zOf}
 use Rattle.neighbors.specs.Neighbors.{neighbours}
-use Rattle.refusals.specs.Refusals.{numberOf}
+use Rattle.refusals.specs.Refusals.{numberOf, absentNumber}
 use Rattle.root.specs.Root.{rootAnswer}
 use Rattle.root.specs.declared.Rooted.{Rooted}
 use Rattle.root.specs.declared.Rooted.the-variants as rooted
@@ -89,8 +89,8 @@ gradientSaid (checked.Refused why) g = gradient.Refused why
 abbrev pub getGradient : MarchedTable → ℕ → Gradient
 getGradient t k = gradientSaid (keyCheck t k) (gradientAt (marchedRows t) k (distanceOf k (marchedRows t)))
 
--- document 01's number of an answer, 0 where it is no refusal
+-- the number of an answer: 0 where there is one, Absent's, or document 01's of the refusal
 abbrev pub gradientNumber : Gradient → ℕ
 gradientNumber (gradient.Of x y z) = 0
-gradientNumber gradient.Absent = 0
+gradientNumber gradient.Absent = absentNumber
 gradientNumber (gradient.Refused why) = numberOf why

@@ -3,7 +3,7 @@ use Prim.Native.Nat.{ℕ}
 use mathlib.Core.Bool.{Bool, false}
 use mathlib.Core.Option.{Option, none, some}
 use lib.Ieee.{Float, lt}
-use Rattle.refusals.specs.Refusals.{numberOf}
+use Rattle.refusals.specs.Refusals.{numberOf, absentNumber}
 use Rattle.table.specs.declared.Checked.{Checked}
 use Rattle.table.specs.declared.Checked.the-variants as checked
 use Rattle.marching.specs.March.{distanceOf}
@@ -34,10 +34,10 @@ freeSaid (checked.Refused why) b = free.Refused why
 abbrev pub isFreeSpace : MarchedTable → ℕ → Float → Free
 isFreeSpace t k threshold = freeSaid (freeCheck t k threshold) (isAbove threshold (distanceOf k (marchedRows t)))
 
--- document 01's number of an answer, 0 where it is no refusal
+-- the number of an answer: 0 where there is one, Absent's, or document 01's of the refusal
 abbrev pub distanceNumber : Distance → ℕ
 distanceNumber (distance.Of d) = 0
-distanceNumber distance.Absent = 0
+distanceNumber distance.Absent = absentNumber
 distanceNumber (distance.Refused why) = numberOf why
 
 abbrev pub freeNumber : Free → ℕ

@@ -1,4 +1,4 @@
--- Document 01's numbers of the refusals.
+-- The numbers of answers: document 01's of the refusals, and the header's of Absent.
 use Prim.Native.Nat.{ℕ}
 use Rattle.refusals.specs.declared.Refusal.{Refusal}
 use Rattle.refusals.specs.declared.Refusal.the-variants.{Setting, Lengths, BadRow, OffLattice, BadReading, NoPlace, TooLarge, NoWaitingPlace, OutOfRange, BadVertex}
@@ -15,3 +15,7 @@ numberOf TooLarge = 7
 numberOf NoWaitingPlace = 8
 numberOf OutOfRange = 9
 numberOf BadVertex = 10
+
+-- the number of Absent, which is no refusal: a key that is not stored, no gradient, no box
+abbrev pub absentNumber : ℕ
+absentNumber = 101

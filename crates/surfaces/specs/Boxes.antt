@@ -5,7 +5,7 @@ use mathlib.Core.List.{List, [], _∷_}
 use lib.ListN.{length}
 use lib.Ieee.{Float}
 use Rattle.floats.specs.Floats.{smallerOf, largerOf}
-use Rattle.refusals.specs.Refusals.{numberOf}
+use Rattle.refusals.specs.Refusals.{numberOf, absentNumber}
 use Rattle.refusals.specs.declared.Refusal.the-variants.{Lengths, BadVertex}
 use Rattle.vertices.specs.declared.Vertex.{Vertex}
 use Rattle.surfaces.specs.declared.Bounds.{Bounds}
@@ -43,8 +43,8 @@ boxAnswer xs ys zs n =
     let vs = verticesIn xs ys zs n in
     cond (setOk (length xs) (length ys) (length zs) n) (cond (every vertexOk vs) (boxOf vs) (Refused BadVertex)) (Refused Lengths)
 
--- document 01's number of the answer, 0 for no refusal
+-- the number of an answer: 0 where there is a box, Absent's, or document 01's of the refusal
 abbrev pub boxNumber : Bounds → ℕ
 boxNumber (Corners low high) = 0
-boxNumber Absent = 0
+boxNumber Absent = absentNumber
 boxNumber (Refused why) = numberOf why

@@ -5,7 +5,7 @@ use lib.ListN.{getD, take}
 use lib.Ieee.{Float, nan, lt}
 use Rattle.floats.specs.Floats.{sizeOf, isFinite}
 use Rattle.ids.specs.Key.{onLattice}
-use Rattle.refusals.specs.Refusals.{numberOf}
+use Rattle.refusals.specs.Refusals.{numberOf, absentNumber}
 use Rattle.refusals.specs.declared.Refusal.the-variants.{OffLattice, BadReading}
 use Rattle.table.specs.declared.Settings.{Settings}
 use Rattle.table.specs.declared.Checked.{Checked}
@@ -72,15 +72,15 @@ surfaceOf threshold (looked.Row d w) = surfaceIf (isFinite threshold) (lt (sizeO
 surfaceOf threshold looked.Absent = surfaceIf (isFinite threshold) false
 surfaceOf threshold (looked.Refused why) = surface.Refused why
 
--- document 01's number of an answer, 0 where it is no refusal; 101 for Absent
+-- the number of an answer: 0 where there is one, Absent's, or document 01's of the refusal
 abbrev pub distanceNumber : Distance → ℕ
 distanceNumber (distance.Of d) = 0
-distanceNumber distance.Absent = 101
+distanceNumber distance.Absent = absentNumber
 distanceNumber (distance.Refused why) = numberOf why
 
 abbrev pub weightNumber : Weight → ℕ
 weightNumber (weight.Of w) = 0
-weightNumber weight.Absent = 101
+weightNumber weight.Absent = absentNumber
 weightNumber (weight.Refused why) = numberOf why
 
 abbrev pub surfaceNumber : Surface → ℕ
