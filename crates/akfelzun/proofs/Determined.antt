@@ -2,7 +2,8 @@
 -- Assumes nothing.
 use mathlib.Core.Path.{_≡_, sym, ap, _∙_}
 use denote.Ref.{now}
-use Rattle.table.specs.Table.{Table}
+use Rattle.akfelzun.specs.Fusing.{FuseBack, BatchBack}
+use Rattle.akfelzun.specs.Marching.{MarchBack}
 use Rattle.akfelzun.proofs.keys.akf_index64_new.Reads as akf_index64_new
 use Rattle.akfelzun.proofs.keys.akf_decode_coords.Reads as akf_decode_coords
 use Rattle.akfelzun.proofs.keys.akf_neighbors_index64.Reads as akf_neighbors_index64
@@ -53,13 +54,13 @@ pub akf-is-valid-bcc-determined : (κs : _) (a : _) (r r' : _) (s s' : _) → ak
 akf-is-valid-bcc-determined κs a r r' s s' p q = p ∙ sym q
 
 pub akf-update-from-depth-determined : (κs : _) (a : _) (r r' : _) (s s' : _) → akf_update_from_depth.Post κs a r s → akf_update_from_depth.Post κs a r' s' → (r ≡ r') × (now (s .1 .1 .1 .1 .0) ≡ now (s' .1 .1 .1 .1 .0)) × (now (s .1 .1 .1 .1 .1 .0) ≡ now (s' .1 .1 .1 .1 .1 .0)) × (now (s .1 .1 .1 .1 .1 .1 .0) ≡ now (s' .1 .1 .1 .1 .1 .1 .0)) × (now (s .1 .1 .1 .1 .1 .1 .1 .0) ≡ now (s' .1 .1 .1 .1 .1 .1 .1 .0))
-akf-update-from-depth-determined κs a r r' s s' p q = (p .0 ∙ sym (q .0), ap (λ (t : Table). t .keys) (p .1 ∙ sym (q .1)), ap (λ (t : Table). t .distances) (p .1 ∙ sym (q .1)), ap (λ (t : Table). t .weights) (p .1 ∙ sym (q .1)), ap (λ (t : Table). t .count) (p .1 ∙ sym (q .1)))
+akf-update-from-depth-determined κs a r r' s s' p q = (ap (λ (h : FuseBack). h .number) (p ∙ sym q), ap (λ (h : FuseBack). h .left .keys) (p ∙ sym q), ap (λ (h : FuseBack). h .left .distances) (p ∙ sym q), ap (λ (h : FuseBack). h .left .weights) (p ∙ sym q), ap (λ (h : FuseBack). h .left .count) (p ∙ sym q))
 
 pub akf-update-from-depth-ray-determined : (κs : _) (a : _) (r r' : _) (s s' : _) → akf_update_from_depth_ray.Post κs a r s → akf_update_from_depth_ray.Post κs a r' s' → (r ≡ r') × (now (s .1 .1 .1 .1 .0) ≡ now (s' .1 .1 .1 .1 .0)) × (now (s .1 .1 .1 .1 .1 .0) ≡ now (s' .1 .1 .1 .1 .1 .0)) × (now (s .1 .1 .1 .1 .1 .1 .0) ≡ now (s' .1 .1 .1 .1 .1 .1 .0)) × (now (s .1 .1 .1 .1 .1 .1 .1 .0) ≡ now (s' .1 .1 .1 .1 .1 .1 .1 .0))
-akf-update-from-depth-ray-determined κs a r r' s s' p q = (p .0 ∙ sym (q .0), ap (λ (t : Table). t .keys) (p .1 ∙ sym (q .1)), ap (λ (t : Table). t .distances) (p .1 ∙ sym (q .1)), ap (λ (t : Table). t .weights) (p .1 ∙ sym (q .1)), ap (λ (t : Table). t .count) (p .1 ∙ sym (q .1)))
+akf-update-from-depth-ray-determined κs a r r' s s' p q = (ap (λ (h : FuseBack). h .number) (p ∙ sym q), ap (λ (h : FuseBack). h .left .keys) (p ∙ sym q), ap (λ (h : FuseBack). h .left .distances) (p ∙ sym q), ap (λ (h : FuseBack). h .left .weights) (p ∙ sym q), ap (λ (h : FuseBack). h .left .count) (p ∙ sym q))
 
 pub akf-batch-update-determined : (κs : _) (a : _) (r r' : _) (s s' : _) → akf_batch_update.Post κs a r s → akf_batch_update.Post κs a r' s' → (r ≡ r') × (now (s .1 .1 .1 .1 .0) ≡ now (s' .1 .1 .1 .1 .0)) × (now (s .1 .1 .1 .1 .1 .0) ≡ now (s' .1 .1 .1 .1 .1 .0)) × (now (s .1 .1 .1 .1 .1 .1 .0) ≡ now (s' .1 .1 .1 .1 .1 .1 .0)) × (now (s .1 .1 .1 .1 .1 .1 .1 .0) ≡ now (s' .1 .1 .1 .1 .1 .1 .1 .0)) × (now (s .1 .1 .1 .1 .1 .1 .1 .1 .1 .1 .1 .0) ≡ now (s' .1 .1 .1 .1 .1 .1 .1 .1 .1 .1 .1 .0))
-akf-batch-update-determined κs a r r' s s' p q = (p .0 ∙ sym (q .0), ap (λ (t : Table). t .keys) (p .1 .0 ∙ sym (q .1 .0)), ap (λ (t : Table). t .distances) (p .1 .0 ∙ sym (q .1 .0)), ap (λ (t : Table). t .weights) (p .1 .0 ∙ sym (q .1 .0)), ap (λ (t : Table). t .count) (p .1 .0 ∙ sym (q .1 .0)), p .1 .1 ∙ sym (q .1 .1))
+akf-batch-update-determined κs a r r' s s' p q = (ap (λ (h : BatchBack). h .number) (p ∙ sym q), ap (λ (h : BatchBack). h .left .keys) (p ∙ sym q), ap (λ (h : BatchBack). h .left .distances) (p ∙ sym q), ap (λ (h : BatchBack). h .left .weights) (p ∙ sym q), ap (λ (h : BatchBack). h .left .count) (p ∙ sym q), ap (λ (h : BatchBack). h .at) (p ∙ sym q))
 
 pub akf-tsdf-get-distance-determined : (κs : _) (a : _) (r r' : _) (s s' : _) → akf_tsdf_get_distance.Post κs a r s → akf_tsdf_get_distance.Post κs a r' s' → (r ≡ r') × (now (s .1 .1 .1 .1 .1 .1 .1 .1 .1 .0) ≡ now (s' .1 .1 .1 .1 .1 .1 .1 .1 .1 .0))
 akf-tsdf-get-distance-determined κs a r r' s s' p q = (p .0 ∙ sym (q .0), p .1 ∙ sym (q .1))
@@ -80,7 +81,7 @@ pub akf-get-zero-crossing-edges-determined : (κs : _) (a : _) (r r' : _) (s s' 
 akf-get-zero-crossing-edges-determined κs a r r' s s' p q = (p .0 ∙ sym (q .0), p .1 .0 ∙ sym (q .1 .0), p .1 .1 .0 ∙ sym (q .1 .1 .0), p .1 .1 .1 ∙ sym (q .1 .1 .1))
 
 pub akf-compute-from-tsdf-determined : (κs : _) (a : _) (r r' : _) (s s' : _) → akf_compute_from_tsdf.Post κs a r s → akf_compute_from_tsdf.Post κs a r' s' → (r ≡ r') × (now (s .1 .1 .1 .1 .1 .1 .1 .1 .1 .0) ≡ now (s' .1 .1 .1 .1 .1 .1 .1 .1 .1 .0)) × (now (s .1 .1 .1 .1 .1 .1 .1 .1 .1 .1 .0) ≡ now (s' .1 .1 .1 .1 .1 .1 .1 .1 .1 .1 .0)) × (now (s .1 .1 .1 .1 .1 .1 .1 .1 .1 .1 .1 .0) ≡ now (s' .1 .1 .1 .1 .1 .1 .1 .1 .1 .1 .1 .0)) × (now (s .1 .1 .1 .1 .1 .1 .1 .1 .1 .1 .1 .1 .0) ≡ now (s' .1 .1 .1 .1 .1 .1 .1 .1 .1 .1 .1 .1 .0)) × (now (s .1 .1 .1 .1 .1 .1 .1 .1 .1 .1 .1 .1 .1 .0) ≡ now (s' .1 .1 .1 .1 .1 .1 .1 .1 .1 .1 .1 .1 .1 .0)) × (now (s .1 .1 .1 .1 .1 .1 .1 .1 .1 .1 .1 .1 .1 .1 .0) ≡ now (s' .1 .1 .1 .1 .1 .1 .1 .1 .1 .1 .1 .1 .1 .1 .0))
-akf-compute-from-tsdf-determined κs a r r' s s' p q = (p .0 ∙ sym (q .0), p .1 .0 ∙ sym (q .1 .0), p .1 .1 .0 ∙ sym (q .1 .1 .0), p .1 .1 .1 .0 ∙ sym (q .1 .1 .1 .0), p .1 .1 .1 .1 .0 ∙ sym (q .1 .1 .1 .1 .0), p .1 .1 .1 .1 .1 .0 ∙ sym (q .1 .1 .1 .1 .1 .0), p .1 .1 .1 .1 .1 .1 ∙ sym (q .1 .1 .1 .1 .1 .1))
+akf-compute-from-tsdf-determined κs a r r' s s' p q = (ap (λ (h : MarchBack). h .number) (p ∙ sym q), ap (λ (h : MarchBack). h .keys) (p ∙ sym q), ap (λ (h : MarchBack). h .distances) (p ∙ sym q), ap (λ (h : MarchBack). h .estimates) (p ∙ sym q), ap (λ (h : MarchBack). h .cells) (p ∙ sym q), ap (λ (h : MarchBack). h .rows) (p ∙ sym q), ap (λ (h : MarchBack). h .takings) (p ∙ sym q))
 
 pub akf-esdf-get-distance-determined : (κs : _) (a : _) (r r' : _) (s s' : _) → akf_esdf_get_distance.Post κs a r s → akf_esdf_get_distance.Post κs a r' s' → (r ≡ r') × (now (s .1 .1 .1 .1 .0) ≡ now (s' .1 .1 .1 .1 .0))
 akf-esdf-get-distance-determined κs a r r' s s' p q = (p .0 ∙ sym (q .0), p .1 ∙ sym (q .1))
@@ -98,7 +99,7 @@ pub akf-esdf-stats-determined : (κs : _) (a : _) (r r' : _) (s s' : _) → akf_
 akf-esdf-stats-determined κs a r r' s s' p q = (p .0 ∙ sym (q .0), p .1 .0 ∙ sym (q .1 .0), p .1 .1 .0 ∙ sym (q .1 .1 .0), p .1 .1 .1 .0 ∙ sym (q .1 .1 .1 .0), p .1 .1 .1 .1 .0 ∙ sym (q .1 .1 .1 .1 .0), p .1 .1 .1 .1 .1 ∙ sym (q .1 .1 .1 .1 .1))
 
 pub akf-extract-mesh-from-tsdf-determined : (κs : _) (a : _) (r r' : _) (s s' : _) → akf_extract_mesh_from_tsdf.Post κs a r s → akf_extract_mesh_from_tsdf.Post κs a r' s' → (r ≡ r') × (now (s .1 .1 .1 .1 .1 .1 .1 .1 .0) ≡ now (s' .1 .1 .1 .1 .1 .1 .1 .1 .0)) × (now (s .1 .1 .1 .1 .1 .1 .1 .1 .1 .0) ≡ now (s' .1 .1 .1 .1 .1 .1 .1 .1 .1 .0)) × (now (s .1 .1 .1 .1 .1 .1 .1 .1 .1 .1 .0) ≡ now (s' .1 .1 .1 .1 .1 .1 .1 .1 .1 .1 .0)) × (now (s .1 .1 .1 .1 .1 .1 .1 .1 .1 .1 .1 .0) ≡ now (s' .1 .1 .1 .1 .1 .1 .1 .1 .1 .1 .1 .0)) × (now (s .1 .1 .1 .1 .1 .1 .1 .1 .1 .1 .1 .1 .0) ≡ now (s' .1 .1 .1 .1 .1 .1 .1 .1 .1 .1 .1 .1 .0)) × (now (s .1 .1 .1 .1 .1 .1 .1 .1 .1 .1 .1 .1 .1 .0) ≡ now (s' .1 .1 .1 .1 .1 .1 .1 .1 .1 .1 .1 .1 .1 .0)) × (now (s .1 .1 .1 .1 .1 .1 .1 .1 .1 .1 .1 .1 .1 .1 .0) ≡ now (s' .1 .1 .1 .1 .1 .1 .1 .1 .1 .1 .1 .1 .1 .1 .0)) × (now (s .1 .1 .1 .1 .1 .1 .1 .1 .1 .1 .1 .1 .1 .1 .1 .0) ≡ now (s' .1 .1 .1 .1 .1 .1 .1 .1 .1 .1 .1 .1 .1 .1 .1 .0)) × (now (s .1 .1 .1 .1 .1 .1 .1 .1 .1 .1 .1 .1 .1 .1 .1 .1 .0) ≡ now (s' .1 .1 .1 .1 .1 .1 .1 .1 .1 .1 .1 .1 .1 .1 .1 .1 .0)) × (now (s .1 .1 .1 .1 .1 .1 .1 .1 .1 .1 .1 .1 .1 .1 .1 .1 .1 .0) ≡ now (s' .1 .1 .1 .1 .1 .1 .1 .1 .1 .1 .1 .1 .1 .1 .1 .1 .1 .0)) × (now (s .1 .1 .1 .1 .1 .1 .1 .1 .1 .1 .1 .1 .1 .1 .1 .1 .1 .1 .0) ≡ now (s' .1 .1 .1 .1 .1 .1 .1 .1 .1 .1 .1 .1 .1 .1 .1 .1 .1 .1 .0)) × (now (s .1 .1 .1 .1 .1 .1 .1 .1 .1 .1 .1 .1 .1 .1 .1 .1 .1 .1 .1 .0) ≡ now (s' .1 .1 .1 .1 .1 .1 .1 .1 .1 .1 .1 .1 .1 .1 .1 .1 .1 .1 .1 .0)) × (now (s .1 .1 .1 .1 .1 .1 .1 .1 .1 .1 .1 .1 .1 .1 .1 .1 .1 .1 .1 .1 .0) ≡ now (s' .1 .1 .1 .1 .1 .1 .1 .1 .1 .1 .1 .1 .1 .1 .1 .1 .1 .1 .1 .1 .0)) × (now (s .1 .1 .1 .1 .1 .1 .1 .1 .1 .1 .1 .1 .1 .1 .1 .1 .1 .1 .1 .1 .1 .0) ≡ now (s' .1 .1 .1 .1 .1 .1 .1 .1 .1 .1 .1 .1 .1 .1 .1 .1 .1 .1 .1 .1 .1 .0))
-akf-extract-mesh-from-tsdf-determined κs a r r' s s' p q = (p .0 ∙ sym (q .0), p .1 .0 .first ∙ sym (q .1 .0 .first), p .1 .0 .second ∙ sym (q .1 .0 .second), p .1 .0 .px ∙ sym (q .1 .0 .px), p .1 .0 .py ∙ sym (q .1 .0 .py), p .1 .0 .pz ∙ sym (q .1 .0 .pz), p .1 .0 .nx ∙ sym (q .1 .0 .nx), p .1 .0 .ny ∙ sym (q .1 .0 .ny), p .1 .0 .nz ∙ sym (q .1 .0 .nz), p .1 .0 .groups ∙ sym (q .1 .0 .groups), p .1 .0 .t0 ∙ sym (q .1 .0 .t0), p .1 .0 .t1 ∙ sym (q .1 .0 .t1), p .1 .0 .t2 ∙ sym (q .1 .0 .t2), p .1 .1 .0 ∙ sym (q .1 .1 .0), p .1 .1 .1 ∙ sym (q .1 .1 .1))
+akf-extract-mesh-from-tsdf-determined κs a r r' s s' p q = (p .answer ∙ sym (q .answer), p .lists .first ∙ sym (q .lists .first), p .lists .second ∙ sym (q .lists .second), p .lists .px ∙ sym (q .lists .px), p .lists .py ∙ sym (q .lists .py), p .lists .pz ∙ sym (q .lists .pz), p .lists .nx ∙ sym (q .lists .nx), p .lists .ny ∙ sym (q .lists .ny), p .lists .nz ∙ sym (q .lists .nz), p .lists .groups ∙ sym (q .lists .groups), p .lists .t0 ∙ sym (q .lists .t0), p .lists .t1 ∙ sym (q .lists .t1), p .lists .t2 ∙ sym (q .lists .t2), p .edge-count ∙ sym (q .edge-count), p .triangle-count ∙ sym (q .triangle-count))
 
 pub akf-cell-edges-determined : (κs : _) (a : _) (r r' : _) (s s' : _) → akf_cell_edges.Post κs a r s → akf_cell_edges.Post κs a r' s' → (now (s .1 .1 .1 .1 .1 .0) ≡ now (s' .1 .1 .1 .1 .1 .0)) × (now (s .1 .1 .1 .1 .1 .1 .0) ≡ now (s' .1 .1 .1 .1 .1 .1 .0))
 akf-cell-edges-determined κs a r r' s s' p q = (p .0 ∙ sym (q .0), p .1 ∙ sym (q .1))

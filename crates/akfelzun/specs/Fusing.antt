@@ -1,6 +1,10 @@
--- The settings and readings that a host's numbers stand for.
+-- The settings and readings that a host's numbers stand for, and what fusing hands back.
+use Prim.Native.Nat.{ℕ}
 use lib.Ieee.{Float}
+use Rattle.table.specs.Table.{Table}
 use Rattle.table.specs.declared.Settings.{Settings}
+use Rattle.tsdf.specs.Fusing.{Outcome, fusedNumber}
+use Rattle.tsdf.specs.Batches.{BatchOutcome, batchedNumber, batchedAt}
 use Rattle.tsdf.specs.declared.Reading.{Reading}
 use Rattle.tsdf.specs.declared.Reading.the-variants.{Direct, Ray}
 
@@ -22,3 +26,26 @@ directReading distance confidence = Direct (record { 0 = distance }) confidence
 abbrev pub rayReading : Float → Float → Float → Float → Float → Reading
 rayReading x y z depth confidence =
     Ray (record { 0 = x }) (record { 0 = y }) (record { 0 = z }) (record { 0 = depth }) confidence
+
+-- what a reading hands back: its number, and the table as it is left
+pub record FuseBack : Type 0 where
+  pub number : ℕ
+  pub left : Table
+
+abbrev pub fuseBack : ℕ → Table → FuseBack
+fuseBack number left = record { number = number; left = left }
+
+abbrev pub fuseHanded : Outcome → FuseBack
+fuseHanded o = fuseBack (fusedNumber (o .answer)) (o .left)
+
+-- what a batch hands back: the same, and the reading that a refusal names
+pub record BatchBack : Type 0 where
+  pub number : ℕ
+  pub left : Table
+  pub at : ℕ
+
+abbrev pub batchBack : ℕ → Table → ℕ → BatchBack
+batchBack number left at = record { number = number; left = left; at = at }
+
+abbrev pub batchHanded : BatchOutcome → BatchBack
+batchHanded o = batchBack (batchedNumber (o .answer)) (o .left) (batchedAt (o .answer))

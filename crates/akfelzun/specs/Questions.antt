@@ -1,4 +1,4 @@
--- What questions about a table hand back: 0 unless the answer is 0.
+-- What questions about a table hand back: nothing, which is 0, unless the answer is 0.
 use Prim.Native.Nat.{ℕ}
 use lib.Ieee.{Float}
 use Rattle.floats.specs.Floats.{zero32}
@@ -11,7 +11,7 @@ use Rattle.tsdf_questions.specs.declared.Surface.the-variants as surface
 use Rattle.tsdf_questions.specs.declared.TsdfStats.{TsdfStats}
 use Rattle.tsdf_questions.specs.declared.Statistics.{Statistics}
 use Rattle.tsdf_questions.specs.declared.Statistics.the-variants as statistics
-use Rattle.akfelzun.specs.Keys.{oneIf}
+use Rattle.akfelzun.specs.Keys.{nothing, oneIf}
 
 -- a cell's distance
 abbrev pub distanceFound : Distance → Float
@@ -28,15 +28,15 @@ weightFound (weight.Refused why) = zero32
 -- 1 where a cell is near the surface
 abbrev pub surfaceFound : Surface → ℕ
 surfaceFound (surface.Answer near) = oneIf near
-surfaceFound (surface.Refused why) = 0
+surfaceFound (surface.Refused why) = nothing
 
 -- the statistics
 abbrev pub statsFound : Statistics → TsdfStats
 statsFound (statistics.Of s) = s
 statsFound (statistics.Refused why) =
     record {
-      «voxel_count» = 0;
-      «surface_voxel_count» = 0;
+      «voxel_count» = nothing;
+      «surface_voxel_count» = nothing;
       «min_distance» = record { 0 = zero32 };
       «max_distance» = record { 0 = zero32 };
       «average_weight» = zero32;

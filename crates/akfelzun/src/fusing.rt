@@ -9,7 +9,7 @@ ghost use mathlib.Core.Path.{_≡_};
 ghost use Rattle.table.specs.Table.{table};
 ghost use Rattle.tsdf.specs.Fusing.{fuse, fusedNumber};
 ghost use Rattle.tsdf.specs.Batches.{batch, batchedNumber, batchedAt};
-ghost use Rattle.akfelzun.specs.Fusing.{settingsOf, directReading, rayReading};
+ghost use Rattle.akfelzun.specs.Fusing.{settingsOf, directReading, rayReading, fuseBack, fuseHanded, batchBack, batchHanded};
 
 fn fused_number(fused: Fused) -> u32
     ensures { λ r. ⌜ r ≡ fusedNumber fused ⌝ }
@@ -35,9 +35,8 @@ pub extern "C" fn akf_update_from_depth(
     distance: f32,
     confidence: f32,
 ) -> u32
-    ensures { λ r. ⌜ r ≡ fusedNumber (fuse (settingsOf truncation «max_weight» «voxel_size» «max_distance») (table (now (keys .entry)) (now (distances .entry)) (now (weights .entry)) (now (count .entry))) key (directReading distance confidence) .answer) ⌝ }
-    ensures { λ _. ⌜ table (now (keys .exit)) (now (distances .exit)) (now (weights .exit)) (now (count .exit))
-        ≡ fuse (settingsOf truncation «max_weight» «voxel_size» «max_distance») (table (now (keys .entry)) (now (distances .entry)) (now (weights .entry)) (now (count .entry))) key (directReading distance confidence) .left ⌝ }
+    ensures { λ r. ⌜ fuseBack r (table (now (keys .exit)) (now (distances .exit)) (now (weights .exit)) (now (count .exit)))
+        ≡ fuseHanded (fuse (settingsOf truncation «max_weight» «voxel_size» «max_distance») (table (now (keys .entry)) (now (distances .entry)) (now (weights .entry)) (now (count .entry))) key (directReading distance confidence)) ⌝ }
 {
     let settings = Settings {
         truncation: Metres(truncation),
@@ -75,9 +74,8 @@ pub extern "C" fn akf_update_from_depth_ray(
     depth: f32,
     confidence: f32,
 ) -> u32
-    ensures { λ r. ⌜ r ≡ fusedNumber (fuse (settingsOf truncation «max_weight» «voxel_size» «max_distance») (table (now (keys .entry)) (now (distances .entry)) (now (weights .entry)) (now (count .entry))) key (rayReading «sensor_x» «sensor_y» «sensor_z» depth confidence) .answer) ⌝ }
-    ensures { λ _. ⌜ table (now (keys .exit)) (now (distances .exit)) (now (weights .exit)) (now (count .exit))
-        ≡ fuse (settingsOf truncation «max_weight» «voxel_size» «max_distance») (table (now (keys .entry)) (now (distances .entry)) (now (weights .entry)) (now (count .entry))) key (rayReading «sensor_x» «sensor_y» «sensor_z» depth confidence) .left ⌝ }
+    ensures { λ r. ⌜ fuseBack r (table (now (keys .exit)) (now (distances .exit)) (now (weights .exit)) (now (count .exit)))
+        ≡ fuseHanded (fuse (settingsOf truncation «max_weight» «voxel_size» «max_distance») (table (now (keys .entry)) (now (distances .entry)) (now (weights .entry)) (now (count .entry))) key (rayReading «sensor_x» «sensor_y» «sensor_z» depth confidence)) ⌝ }
 {
     let settings = Settings {
         truncation: Metres(truncation),
@@ -101,21 +99,25 @@ pub extern "C" fn akf_update_from_depth_ray(
     fused_number(fused)
 }
 
-fn batched_number(batched: Batched) -> u32
-    ensures { λ r. ⌜ r ≡ batchedNumber batched ⌝ }
-{
-    match batched {
-        Batched::Done => DONE,
-        Batched::Refused(why, _) => refusals::number(why),
-    }
+// The number of a batch's answer, and the reading that it names.
+struct BatchBack {
+    number: u32,
+    at: usize,
 }
 
-fn batched_at(batched: Batched) -> usize
-    ensures { λ r. ⌜ r ≡ batchedAt batched ⌝ }
+fn batch_back(batched: Batched) -> BatchBack
+    ensures { λ r. ⌜ r .number ≡ batchedNumber batched ⌝ }
+    ensures { λ r. ⌜ r .at ≡ batchedAt batched ⌝ }
 {
     match batched {
-        Batched::Done => 0,
-        Batched::Refused(_, at) => at,
+        Batched::Done => BatchBack {
+            number: DONE,
+            at: 0,
+        },
+        Batched::Refused(why, at) => BatchBack {
+            number: refusals::number(why),
+            at,
+        },
     }
 }
 
@@ -134,10 +136,8 @@ pub extern "C" fn akf_batch_update(
     batch_confidences: &[f32],
     at: &mut usize,
 ) -> u32
-    ensures { λ r. ⌜ r ≡ batchedNumber (batch (settingsOf truncation «max_weight» «voxel_size» «max_distance») (table (now (keys .entry)) (now (distances .entry)) (now (weights .entry)) (now (count .entry))) (now («batch_keys» .entry)) (now («batch_distances» .entry)) (now («batch_confidences» .entry)) .answer) ⌝ }
-    ensures { λ _. ⌜ table (now (keys .exit)) (now (distances .exit)) (now (weights .exit)) (now (count .exit))
-        ≡ batch (settingsOf truncation «max_weight» «voxel_size» «max_distance») (table (now (keys .entry)) (now (distances .entry)) (now (weights .entry)) (now (count .entry))) (now («batch_keys» .entry)) (now («batch_distances» .entry)) (now («batch_confidences» .entry)) .left ⌝ }
-    ensures { λ _. ⌜ now (at .exit) ≡ batchedAt (batch (settingsOf truncation «max_weight» «voxel_size» «max_distance») (table (now (keys .entry)) (now (distances .entry)) (now (weights .entry)) (now (count .entry))) (now («batch_keys» .entry)) (now («batch_distances» .entry)) (now («batch_confidences» .entry)) .answer) ⌝ }
+    ensures { λ r. ⌜ batchBack r (table (now (keys .exit)) (now (distances .exit)) (now (weights .exit)) (now (count .exit))) (now (at .exit))
+        ≡ batchHanded (batch (settingsOf truncation «max_weight» «voxel_size» «max_distance») (table (now (keys .entry)) (now (distances .entry)) (now (weights .entry)) (now (count .entry))) (now («batch_keys» .entry)) (now («batch_distances» .entry)) (now («batch_confidences» .entry))) ⌝ }
 {
     let settings = Settings {
         truncation: Metres(truncation),
@@ -155,6 +155,7 @@ pub extern "C" fn akf_batch_update(
         batch_distances,
         batch_confidences,
     );
-    *at = batched_at(batched);
-    batched_number(batched)
+    let back = batch_back(batched);
+    *at = back.at;
+    back.number
 }

@@ -1,5 +1,7 @@
 // Keys, neighbours, the root and snapping.
 use crate::DONE;
+use crate::LengthBack;
+use crate::NOTHING;
 use bcc_utils::Snapped;
 use bcc_utils::WideCells;
 use floats::Metres;
@@ -35,21 +37,22 @@ pub(crate) fn listed_number(listed: Listed) -> u32
     }
 }
 
-fn made_number(made: Made) -> u32
-    ensures { λ r. ⌜ r ≡ madeNumber made ⌝ }
-{
-    match made {
-        Made::Key(_) => DONE,
-        Made::Refused(why) => refusals::number(why),
-    }
+// The number of an answer, and a key.
+struct KeyBack {
+    number: u32,
+    key: u64,
 }
 
-fn key_made(made: Made) -> u64
-    ensures { λ r. ⌜ r ≡ keyMade made ⌝ }
+fn key_back(made: Made) -> KeyBack
+    ensures { λ r. ⌜ r .number ≡ madeNumber made ⌝ }
+    ensures { λ r. ⌜ r .key ≡ keyMade made ⌝ }
 {
     match made {
-        Made::Key(key) => key,
-        Made::Refused(_) => 0,
+        Made::Key(key) => KeyBack { number: DONE, key },
+        Made::Refused(why) => KeyBack {
+            number: refusals::number(why),
+            key: 0,
+        },
     }
 }
 
@@ -59,43 +62,38 @@ pub extern "C" fn akf_index64_new(head: u16, x: u16, y: u16, z: u16, key: &mut u
     ensures { λ _. ⌜ now (key .exit) ≡ keyMade (madeOf head x y z) ⌝ }
 {
     let made = ids::new(head, Cells(x), Cells(y), Cells(z));
-    *key = key_made(made);
-    made_number(made)
+    let back = key_back(made);
+    *key = back.key;
+    back.number
 }
 
-fn decoded_number(decoded: Decoded) -> u32
-    ensures { λ r. ⌜ r ≡ decodedNumber decoded ⌝ }
-{
-    match decoded {
-        Decoded::At(_, _, _) => DONE,
-        Decoded::Refused(why) => refusals::number(why),
-    }
+// The number of an answer, and coordinates.
+struct PlaceBack {
+    number: u32,
+    x: u16,
+    y: u16,
+    z: u16,
 }
 
-fn x_decoded(decoded: Decoded) -> u16
-    ensures { λ r. ⌜ r ≡ placeDecoded decoded .0 ⌝ }
+fn place_back(decoded: Decoded) -> PlaceBack
+    ensures { λ r. ⌜ r .number ≡ decodedNumber decoded ⌝ }
+    ensures { λ r. ⌜ r .x ≡ placeDecoded decoded .0 ⌝ }
+    ensures { λ r. ⌜ r .y ≡ placeDecoded decoded .1 ⌝ }
+    ensures { λ r. ⌜ r .z ≡ placeDecoded decoded .2 ⌝ }
 {
     match decoded {
-        Decoded::At(x, _, _) => x.0,
-        Decoded::Refused(_) => 0,
-    }
-}
-
-fn y_decoded(decoded: Decoded) -> u16
-    ensures { λ r. ⌜ r ≡ placeDecoded decoded .1 ⌝ }
-{
-    match decoded {
-        Decoded::At(_, y, _) => y.0,
-        Decoded::Refused(_) => 0,
-    }
-}
-
-fn z_decoded(decoded: Decoded) -> u16
-    ensures { λ r. ⌜ r ≡ placeDecoded decoded .2 ⌝ }
-{
-    match decoded {
-        Decoded::At(_, _, z) => z.0,
-        Decoded::Refused(_) => 0,
+        Decoded::At(x, y, z) => PlaceBack {
+            number: DONE,
+            x: x.0,
+            y: y.0,
+            z: z.0,
+        },
+        Decoded::Refused(why) => PlaceBack {
+            number: refusals::number(why),
+            x: 0,
+            y: 0,
+            z: 0,
+        },
     }
 }
 
@@ -107,10 +105,11 @@ pub extern "C" fn akf_decode_coords(key: u64, x: &mut u16, y: &mut u16, z: &mut 
     ensures { λ _. ⌜ now (z .exit) ≡ placeDecoded (decodedOf key) .2 ⌝ }
 {
     let decoded = ids::decode_coords(key);
-    *x = x_decoded(decoded);
-    *y = y_decoded(decoded);
-    *z = z_decoded(decoded);
-    decoded_number(decoded)
+    let back = place_back(decoded);
+    *x = back.x;
+    *y = back.y;
+    *z = back.z;
+    back.number
 }
 
 #[no_mangle]
@@ -124,21 +123,19 @@ pub extern "C" fn akf_neighbors_index64(key: u64, out: &mut [u64], listed: &mut 
     listed_number(answer)
 }
 
-fn root_number(rooted: Rooted) -> u32
-    ensures { λ r. ⌜ r ≡ rootNumber rooted ⌝ }
+fn root_back(rooted: Rooted) -> LengthBack
+    ensures { λ r. ⌜ r .number ≡ rootNumber rooted ⌝ }
+    ensures { λ r. ⌜ r .value ≡ rootGiven rooted ⌝ }
 {
     match rooted {
-        Rooted::Root(_) => DONE,
-        Rooted::Refused(why) => refusals::number(why),
-    }
-}
-
-fn root_given(rooted: Rooted) -> f32
-    ensures { λ r. ⌜ r ≡ rootGiven rooted ⌝ }
-{
-    match rooted {
-        Rooted::Root(r) => r,
-        Rooted::Refused(_) => 0.0,
+        Rooted::Root(root) => LengthBack {
+            number: DONE,
+            value: root,
+        },
+        Rooted::Refused(why) => LengthBack {
+            number: refusals::number(why),
+            value: NOTHING,
+        },
     }
 }
 
@@ -148,8 +145,9 @@ pub extern "C" fn akf_root(x: f32, root: &mut f32) -> u32
     ensures { λ _. ⌜ now (root .exit) ≡ rootGiven (rootAnswer x) ⌝ }
 {
     let rooted = root::root(x);
-    *root = root_given(rooted);
-    root_number(rooted)
+    let back = root_back(rooted);
+    *root = back.value;
+    back.number
 }
 
 fn snapped_number(snapped: Snapped) -> u32

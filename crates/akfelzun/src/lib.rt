@@ -12,3 +12,23 @@ pub const DONE: u32 = 0;
 pub const FAR: u32 = 100;
 
 pub const ABSENT: u32 = 101;
+
+// What is handed back in place of a length that there is not.
+pub const NOTHING: f32 = 0.0;
+
+// What calls hand back: the answer's number, and a length, yes or no as 1 or 0, or two counts.
+pub struct LengthBack {
+    pub number: u32,
+    pub value: f32,
+}
+
+pub struct YesBack {
+    pub number: u32,
+    pub yes: u32,
+}
+
+pub struct CountsBack {
+    pub number: u32,
+    pub first: usize,
+    pub second: usize,
+}

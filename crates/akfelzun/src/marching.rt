@@ -1,6 +1,10 @@
 // The march, and questions about a marched table.
 use crate::ABSENT;
+use crate::CountsBack;
 use crate::DONE;
+use crate::LengthBack;
+use crate::NOTHING;
+use crate::YesBack;
 use crate::keys::listed_number;
 use crate::keys::one_if;
 use esdf::Marched;
@@ -17,37 +21,30 @@ ghost use Rattle.lists.specs.Listing.{countOf, listedNumber};
 ghost use Rattle.table.specs.Table.{table};
 ghost use Rattle.esdf.specs.Compute.{computed, places, marchedNumber, rowsMarched, takingsMarched};
 ghost use Rattle.esdf_questions.specs.Marched.{marchedTable};
-ghost use Rattle.esdf_questions.specs.Lookups.{getDistance, isFreeSpace, freeNumber};
-ghost use Rattle.esdf_questions.specs.Gradient.{getGradient};
+ghost use Rattle.esdf_questions.specs.Lookups.{getDistance, distanceNumber, isFreeSpace, freeNumber};
+ghost use Rattle.esdf_questions.specs.Gradient.{getGradient, gradientNumber};
 ghost use Rattle.esdf_questions.specs.Within.{withinListed, withinKeys, withinDistances};
 ghost use Rattle.esdf_questions.specs.Statistics.{getStats, statisticsNumber};
 ghost use Rattle.akfelzun.specs.Fusing.{settingsOf};
-ghost use Rattle.akfelzun.specs.Marching.{marchedDistanceNumber, marchedDistance, freeFound, slopeNumber, slopeFound, marchedStats};
+ghost use Rattle.akfelzun.specs.Marching.{marchBack, marchHanded, marchedDistance, freeFound, slopeFound, marchedStats};
 
-fn marched_number(marched: Marched) -> u32
-    ensures { λ r. ⌜ r ≡ marchedNumber marched ⌝ }
+// The number of a march's answer, its rows and its takings.
+fn march_back(marched: Marched) -> CountsBack
+    ensures { λ r. ⌜ r .number ≡ marchedNumber marched ⌝ }
+    ensures { λ r. ⌜ r .first ≡ rowsMarched marched ⌝ }
+    ensures { λ r. ⌜ r .second ≡ takingsMarched marched ⌝ }
 {
     match marched {
-        Marched::Done(_, _) => DONE,
-        Marched::Refused(why) => refusals::number(why),
-    }
-}
-
-fn rows_marched(marched: Marched) -> usize
-    ensures { λ r. ⌜ r ≡ rowsMarched marched ⌝ }
-{
-    match marched {
-        Marched::Done(rows, _) => rows,
-        Marched::Refused(_) => 0,
-    }
-}
-
-fn takings_marched(marched: Marched) -> usize
-    ensures { λ r. ⌜ r ≡ takingsMarched marched ⌝ }
-{
-    match marched {
-        Marched::Done(_, takings) => takings,
-        Marched::Refused(_) => 0,
+        Marched::Done(rows, takings) => CountsBack {
+            number: DONE,
+            first: rows,
+            second: takings,
+        },
+        Marched::Refused(why) => CountsBack {
+            number: refusals::number(why),
+            first: 0,
+            second: 0,
+        },
     }
 }
 
@@ -69,13 +66,8 @@ pub extern "C" fn akf_compute_from_tsdf(
     rows: &mut usize,
     takings: &mut usize,
 ) -> u32
-    ensures { λ r. ⌜ r ≡ marchedNumber (computed (settingsOf truncation «max_weight» «voxel_size» «max_distance») (table (now (keys .entry)) (now (distances .entry)) (now (weights .entry)) count) threshold (places (length (now («marched_keys» .entry))) (length (now («marched_distances» .entry))) (length (now («waiting_estimates» .entry))) (length (now («waiting_keys» .entry)))) .answer) ⌝ }
-    ensures { λ _. ⌜ now («marched_keys» .exit) ≡ computed (settingsOf truncation «max_weight» «voxel_size» «max_distance») (table (now (keys .entry)) (now (distances .entry)) (now (weights .entry)) count) threshold (places (length (now («marched_keys» .entry))) (length (now («marched_distances» .entry))) (length (now («waiting_estimates» .entry))) (length (now («waiting_keys» .entry)))) .keys ⌝ }
-    ensures { λ _. ⌜ now («marched_distances» .exit) ≡ computed (settingsOf truncation «max_weight» «voxel_size» «max_distance») (table (now (keys .entry)) (now (distances .entry)) (now (weights .entry)) count) threshold (places (length (now («marched_keys» .entry))) (length (now («marched_distances» .entry))) (length (now («waiting_estimates» .entry))) (length (now («waiting_keys» .entry)))) .distances ⌝ }
-    ensures { λ _. ⌜ now («waiting_estimates» .exit) ≡ computed (settingsOf truncation «max_weight» «voxel_size» «max_distance») (table (now (keys .entry)) (now (distances .entry)) (now (weights .entry)) count) threshold (places (length (now («marched_keys» .entry))) (length (now («marched_distances» .entry))) (length (now («waiting_estimates» .entry))) (length (now («waiting_keys» .entry)))) .estimates ⌝ }
-    ensures { λ _. ⌜ now («waiting_keys» .exit) ≡ computed (settingsOf truncation «max_weight» «voxel_size» «max_distance») (table (now (keys .entry)) (now (distances .entry)) (now (weights .entry)) count) threshold (places (length (now («marched_keys» .entry))) (length (now («marched_distances» .entry))) (length (now («waiting_estimates» .entry))) (length (now («waiting_keys» .entry)))) .cells ⌝ }
-    ensures { λ _. ⌜ now (rows .exit) ≡ rowsMarched (computed (settingsOf truncation «max_weight» «voxel_size» «max_distance») (table (now (keys .entry)) (now (distances .entry)) (now (weights .entry)) count) threshold (places (length (now («marched_keys» .entry))) (length (now («marched_distances» .entry))) (length (now («waiting_estimates» .entry))) (length (now («waiting_keys» .entry)))) .answer) ⌝ }
-    ensures { λ _. ⌜ now (takings .exit) ≡ takingsMarched (computed (settingsOf truncation «max_weight» «voxel_size» «max_distance») (table (now (keys .entry)) (now (distances .entry)) (now (weights .entry)) count) threshold (places (length (now («marched_keys» .entry))) (length (now («marched_distances» .entry))) (length (now («waiting_estimates» .entry))) (length (now («waiting_keys» .entry)))) .answer) ⌝ }
+    ensures { λ r. ⌜ marchBack r (now («marched_keys» .exit)) (now («marched_distances» .exit)) (now («waiting_estimates» .exit)) (now («waiting_keys» .exit)) (now (rows .exit)) (now (takings .exit))
+        ≡ marchHanded (computed (settingsOf truncation «max_weight» «voxel_size» «max_distance») (table (now (keys .entry)) (now (distances .entry)) (now (weights .entry)) count) threshold (places (length (now («marched_keys» .entry))) (length (now («marched_distances» .entry))) (length (now («waiting_estimates» .entry))) (length (now («waiting_keys» .entry))))) ⌝ }
 {
     let settings = Settings {
         truncation: Metres(truncation),
@@ -95,28 +87,29 @@ pub extern "C" fn akf_compute_from_tsdf(
         waiting_estimates,
         waiting_keys,
     );
-    *rows = rows_marched(marched);
-    *takings = takings_marched(marched);
-    marched_number(marched)
+    let back = march_back(marched);
+    *rows = back.first;
+    *takings = back.second;
+    back.number
 }
 
-fn distance_number(distance: Distance) -> u32
-    ensures { λ r. ⌜ r ≡ marchedDistanceNumber distance ⌝ }
+fn distance_back(distance: Distance) -> LengthBack
+    ensures { λ r. ⌜ r .number ≡ distanceNumber distance ⌝ }
+    ensures { λ r. ⌜ r .value ≡ marchedDistance distance ⌝ }
 {
     match distance {
-        Distance::Of(_) => DONE,
-        Distance::Absent => ABSENT,
-        Distance::Refused(why) => refusals::number(why),
-    }
-}
-
-fn distance_found(distance: Distance) -> f32
-    ensures { λ r. ⌜ r ≡ marchedDistance distance ⌝ }
-{
-    match distance {
-        Distance::Of(d) => d,
-        Distance::Absent => 0.0,
-        Distance::Refused(_) => 0.0,
+        Distance::Of(d) => LengthBack {
+            number: DONE,
+            value: d,
+        },
+        Distance::Absent => LengthBack {
+            number: ABSENT,
+            value: NOTHING,
+        },
+        Distance::Refused(why) => LengthBack {
+            number: refusals::number(why),
+            value: NOTHING,
+        },
     }
 }
 
@@ -128,29 +121,28 @@ pub extern "C" fn akf_esdf_get_distance(
     key: u64,
     distance: &mut f32,
 ) -> u32
-    ensures { λ r. ⌜ r ≡ marchedDistanceNumber (getDistance (marchedTable (now (keys .entry)) (now (distances .entry)) count) key) ⌝ }
+    ensures { λ r. ⌜ r ≡ distanceNumber (getDistance (marchedTable (now (keys .entry)) (now (distances .entry)) count) key) ⌝ }
     ensures { λ _. ⌜ now (distance .exit) ≡ marchedDistance (getDistance (marchedTable (now (keys .entry)) (now (distances .entry)) count) key) ⌝ }
 {
     let found = esdf_questions::get_distance(keys, distances, count, key);
-    *distance = distance_found(found);
-    distance_number(found)
+    let back = distance_back(found);
+    *distance = back.value;
+    back.number
 }
 
-fn free_number(free: Free) -> u32
-    ensures { λ r. ⌜ r ≡ freeNumber free ⌝ }
+fn free_back(free: Free) -> YesBack
+    ensures { λ r. ⌜ r .number ≡ freeNumber free ⌝ }
+    ensures { λ r. ⌜ r .yes ≡ freeFound free ⌝ }
 {
     match free {
-        Free::Answer(_) => DONE,
-        Free::Refused(why) => refusals::number(why),
-    }
-}
-
-fn free_found(free: Free) -> u32
-    ensures { λ r. ⌜ r ≡ freeFound free ⌝ }
-{
-    match free {
-        Free::Answer(yes) => one_if(yes),
-        Free::Refused(_) => 0,
+        Free::Answer(yes) => YesBack {
+            number: DONE,
+            yes: one_if(yes),
+        },
+        Free::Refused(why) => YesBack {
+            number: refusals::number(why),
+            yes: 0,
+        },
     }
 }
 
@@ -167,47 +159,44 @@ pub extern "C" fn akf_is_free_space(
     ensures { λ _. ⌜ now (yes .exit) ≡ freeFound (isFreeSpace (marchedTable (now (keys .entry)) (now (distances .entry)) count) key threshold) ⌝ }
 {
     let found = esdf_questions::is_free_space(keys, distances, count, key, threshold);
-    *yes = free_found(found);
-    free_number(found)
+    let back = free_back(found);
+    *yes = back.yes;
+    back.number
 }
 
-fn slope_number(gradient: Gradient) -> u32
-    ensures { λ r. ⌜ r ≡ slopeNumber gradient ⌝ }
-{
-    match gradient {
-        Gradient::Of(_, _, _) => DONE,
-        Gradient::Absent => ABSENT,
-        Gradient::Refused(why) => refusals::number(why),
-    }
+// The number of an answer, and a direction.
+struct SlopeBack {
+    number: u32,
+    x: f32,
+    y: f32,
+    z: f32,
 }
 
-fn x_slope(gradient: Gradient) -> f32
-    ensures { λ r. ⌜ r ≡ slopeFound gradient .0 ⌝ }
+fn slope_back(gradient: Gradient) -> SlopeBack
+    ensures { λ r. ⌜ r .number ≡ gradientNumber gradient ⌝ }
+    ensures { λ r. ⌜ r .x ≡ slopeFound gradient .0 ⌝ }
+    ensures { λ r. ⌜ r .y ≡ slopeFound gradient .1 ⌝ }
+    ensures { λ r. ⌜ r .z ≡ slopeFound gradient .2 ⌝ }
 {
     match gradient {
-        Gradient::Of(x, _, _) => x,
-        Gradient::Absent => 0.0,
-        Gradient::Refused(_) => 0.0,
-    }
-}
-
-fn y_slope(gradient: Gradient) -> f32
-    ensures { λ r. ⌜ r ≡ slopeFound gradient .1 ⌝ }
-{
-    match gradient {
-        Gradient::Of(_, y, _) => y,
-        Gradient::Absent => 0.0,
-        Gradient::Refused(_) => 0.0,
-    }
-}
-
-fn z_slope(gradient: Gradient) -> f32
-    ensures { λ r. ⌜ r ≡ slopeFound gradient .2 ⌝ }
-{
-    match gradient {
-        Gradient::Of(_, _, z) => z,
-        Gradient::Absent => 0.0,
-        Gradient::Refused(_) => 0.0,
+        Gradient::Of(x, y, z) => SlopeBack {
+            number: DONE,
+            x,
+            y,
+            z,
+        },
+        Gradient::Absent => SlopeBack {
+            number: ABSENT,
+            x: NOTHING,
+            y: NOTHING,
+            z: NOTHING,
+        },
+        Gradient::Refused(why) => SlopeBack {
+            number: refusals::number(why),
+            x: NOTHING,
+            y: NOTHING,
+            z: NOTHING,
+        },
     }
 }
 
@@ -221,16 +210,17 @@ pub extern "C" fn akf_get_gradient(
     gy: &mut f32,
     gz: &mut f32,
 ) -> u32
-    ensures { λ r. ⌜ r ≡ slopeNumber (getGradient (marchedTable (now (keys .entry)) (now (distances .entry)) count) key) ⌝ }
+    ensures { λ r. ⌜ r ≡ gradientNumber (getGradient (marchedTable (now (keys .entry)) (now (distances .entry)) count) key) ⌝ }
     ensures { λ _. ⌜ now (gx .exit) ≡ slopeFound (getGradient (marchedTable (now (keys .entry)) (now (distances .entry)) count) key) .0 ⌝ }
     ensures { λ _. ⌜ now (gy .exit) ≡ slopeFound (getGradient (marchedTable (now (keys .entry)) (now (distances .entry)) count) key) .1 ⌝ }
     ensures { λ _. ⌜ now (gz .exit) ≡ slopeFound (getGradient (marchedTable (now (keys .entry)) (now (distances .entry)) count) key) .2 ⌝ }
 {
     let gradient = esdf_questions::get_gradient(keys, distances, count, key);
-    *gx = x_slope(gradient);
-    *gy = y_slope(gradient);
-    *gz = z_slope(gradient);
-    slope_number(gradient)
+    let back = slope_back(gradient);
+    *gx = back.x;
+    *gy = back.y;
+    *gz = back.z;
+    back.number
 }
 
 #[no_mangle]
@@ -278,8 +268,8 @@ fn stats_found(statistics: Statistics) -> EsdfStats
             voxel_count: 0,
             obstacle_voxel_count: 0,
             free_voxel_count: 0,
-            min_distance: 0.0,
-            max_distance: 0.0,
+            min_distance: NOTHING,
+            max_distance: NOTHING,
         },
     }
 }

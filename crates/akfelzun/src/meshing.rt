@@ -1,6 +1,10 @@
 // The mesh of a table, a cell's edge numbers, area, box and statistics.
 use crate::ABSENT;
+use crate::CountsBack;
 use crate::DONE;
+use crate::LengthBack;
+use crate::NOTHING;
+use crate::YesBack;
 use crate::keys::one_if;
 use floats::Metres;
 use groups::Span;
@@ -13,39 +17,32 @@ use vertices::Vertex;
 ghost use mathlib.Core.Path.{_≡_};
 ghost use lib.ListN;
 ghost use Rattle.table.specs.Table.{table};
-ghost use Rattle.mesh.specs.Mesh.{rooms, meshAnswer, meshedNumber, IsMesh};
+ghost use Rattle.mesh.specs.Mesh.{rooms, meshedNumber};
 ghost use Rattle.groups.specs.CellEdges.{cellSpan};
 ghost use Rattle.surfaces.specs.Areas.{areaAnswer, areaNumber, areaValue};
-ghost use Rattle.surfaces.specs.Boxes.{boxAnswer};
+ghost use Rattle.surfaces.specs.Boxes.{boxAnswer, boxNumber};
 ghost use Rattle.surfaces.specs.Stats.{statsAnswer, statsNumber, statsValue};
 ghost use Rattle.akfelzun.specs.Fusing.{settingsOf};
 ghost use Rattle.akfelzun.specs.Keys.{oneIf};
-ghost use Rattle.akfelzun.specs.Meshing.{edgesMeshed, trianglesMeshed, spanStart, spanLength, boundsNumber, noCorner, lowCorner, highCorner};
+ghost use Rattle.akfelzun.specs.Meshing.{edgesMeshed, trianglesMeshed, MeshBack, spanStart, spanLength, noCorner, lowCorner, highCorner};
 
-fn meshed_number(meshed: Meshed) -> u32
-    ensures { λ r. ⌜ r ≡ meshedNumber meshed ⌝ }
+// The number of a mesh's answer, its edges and its triangles.
+fn mesh_back(meshed: Meshed) -> CountsBack
+    ensures { λ r. ⌜ r .number ≡ meshedNumber meshed ⌝ }
+    ensures { λ r. ⌜ r .first ≡ edgesMeshed meshed ⌝ }
+    ensures { λ r. ⌜ r .second ≡ trianglesMeshed meshed ⌝ }
 {
     match meshed {
-        Meshed::Done(_, _) => DONE,
-        Meshed::Refused(why) => refusals::number(why),
-    }
-}
-
-fn edges_meshed(meshed: Meshed) -> usize
-    ensures { λ r. ⌜ r ≡ edgesMeshed meshed ⌝ }
-{
-    match meshed {
-        Meshed::Done(edges, _) => edges,
-        Meshed::Refused(_) => 0,
-    }
-}
-
-fn triangles_meshed(meshed: Meshed) -> usize
-    ensures { λ r. ⌜ r ≡ trianglesMeshed meshed ⌝ }
-{
-    match meshed {
-        Meshed::Done(_, triangles) => triangles,
-        Meshed::Refused(_) => 0,
+        Meshed::Done(edges, triangles) => CountsBack {
+            number: DONE,
+            first: edges,
+            second: triangles,
+        },
+        Meshed::Refused(why) => CountsBack {
+            number: refusals::number(why),
+            first: 0,
+            second: 0,
+        },
     }
 }
 
@@ -74,13 +71,10 @@ pub extern "C" fn akf_extract_mesh_from_tsdf(
     edges: &mut usize,
     triangles: &mut usize,
 ) -> u32
-    ensures { λ r. ⌜ r ≡ meshedNumber (meshAnswer (settingsOf truncation «max_weight» «voxel_size» «max_distance») (table (now (keys .entry)) (now (distances .entry)) (now (weights .entry)) count) (rooms (ListN.length (now (first .entry))) (ListN.length (now (second .entry))) (ListN.length (now (px .entry))) (ListN.length (now (py .entry))) (ListN.length (now (pz .entry))) (ListN.length (now (nx .entry))) (ListN.length (now (ny .entry))) (ListN.length (now (nz .entry))) (ListN.length (now (groups .entry))) (ListN.length (now (t0 .entry))) (ListN.length (now (t1 .entry))) (ListN.length (now (t2 .entry))))) ⌝ }
-    ensures { λ _. ⌜ IsMesh (settingsOf truncation «max_weight» «voxel_size» «max_distance») (table (now (keys .entry)) (now (distances .entry)) (now (weights .entry)) count)
+    ensures { λ r. ⌜ MeshBack (settingsOf truncation «max_weight» «voxel_size» «max_distance») (table (now (keys .entry)) (now (distances .entry)) (now (weights .entry)) count)
         (rooms (ListN.length (now (first .entry))) (ListN.length (now (second .entry))) (ListN.length (now (px .entry))) (ListN.length (now (py .entry))) (ListN.length (now (pz .entry))) (ListN.length (now (nx .entry))) (ListN.length (now (ny .entry))) (ListN.length (now (nz .entry))) (ListN.length (now (groups .entry))) (ListN.length (now (t0 .entry))) (ListN.length (now (t1 .entry))) (ListN.length (now (t2 .entry))))
-        (meshAnswer (settingsOf truncation «max_weight» «voxel_size» «max_distance») (table (now (keys .entry)) (now (distances .entry)) (now (weights .entry)) count) (rooms (ListN.length (now (first .entry))) (ListN.length (now (second .entry))) (ListN.length (now (px .entry))) (ListN.length (now (py .entry))) (ListN.length (now (pz .entry))) (ListN.length (now (nx .entry))) (ListN.length (now (ny .entry))) (ListN.length (now (nz .entry))) (ListN.length (now (groups .entry))) (ListN.length (now (t0 .entry))) (ListN.length (now (t1 .entry))) (ListN.length (now (t2 .entry)))))
+        r (now (edges .exit)) (now (triangles .exit))
         (now (first .exit)) (now (second .exit)) (now (px .exit)) (now (py .exit)) (now (pz .exit)) (now (nx .exit)) (now (ny .exit)) (now (nz .exit)) (now (groups .exit)) (now (t0 .exit)) (now (t1 .exit)) (now (t2 .exit)) ⌝ }
-    ensures { λ _. ⌜ now (edges .exit) ≡ edgesMeshed (meshAnswer (settingsOf truncation «max_weight» «voxel_size» «max_distance») (table (now (keys .entry)) (now (distances .entry)) (now (weights .entry)) count) (rooms (ListN.length (now (first .entry))) (ListN.length (now (second .entry))) (ListN.length (now (px .entry))) (ListN.length (now (py .entry))) (ListN.length (now (pz .entry))) (ListN.length (now (nx .entry))) (ListN.length (now (ny .entry))) (ListN.length (now (nz .entry))) (ListN.length (now (groups .entry))) (ListN.length (now (t0 .entry))) (ListN.length (now (t1 .entry))) (ListN.length (now (t2 .entry))))) ⌝ }
-    ensures { λ _. ⌜ now (triangles .exit) ≡ trianglesMeshed (meshAnswer (settingsOf truncation «max_weight» «voxel_size» «max_distance») (table (now (keys .entry)) (now (distances .entry)) (now (weights .entry)) count) (rooms (ListN.length (now (first .entry))) (ListN.length (now (second .entry))) (ListN.length (now (px .entry))) (ListN.length (now (py .entry))) (ListN.length (now (pz .entry))) (ListN.length (now (nx .entry))) (ListN.length (now (ny .entry))) (ListN.length (now (nz .entry))) (ListN.length (now (groups .entry))) (ListN.length (now (t0 .entry))) (ListN.length (now (t1 .entry))) (ListN.length (now (t2 .entry))))) ⌝ }
 {
     let settings = Settings {
         truncation: Metres(truncation),
@@ -107,9 +101,10 @@ pub extern "C" fn akf_extract_mesh_from_tsdf(
         t1,
         t2,
     );
-    *edges = edges_meshed(meshed);
-    *triangles = triangles_meshed(meshed);
-    meshed_number(meshed)
+    let back = mesh_back(meshed);
+    *edges = back.first;
+    *triangles = back.second;
+    back.number
 }
 
 fn span_start(span: Span) -> usize
@@ -146,21 +141,19 @@ pub extern "C" fn akf_cell_edges(
     *length = span_length(span);
 }
 
-fn area_number(area: Area) -> u32
-    ensures { λ r. ⌜ r ≡ areaNumber area ⌝ }
+fn area_back(area: Area) -> LengthBack
+    ensures { λ r. ⌜ r .number ≡ areaNumber area ⌝ }
+    ensures { λ r. ⌜ r .value ≡ areaValue area ⌝ }
 {
     match area {
-        Area::Square(_) => DONE,
-        Area::Refused(why) => refusals::number(why),
-    }
-}
-
-fn area_found(area: Area) -> f32
-    ensures { λ r. ⌜ r ≡ areaValue area ⌝ }
-{
-    match area {
-        Area::Square(square) => square,
-        Area::Refused(_) => 0.0,
+        Area::Square(square) => LengthBack {
+            number: DONE,
+            value: square,
+        },
+        Area::Refused(why) => LengthBack {
+            number: refusals::number(why),
+            value: NOTHING,
+        },
     }
 }
 
@@ -180,12 +173,13 @@ pub extern "C" fn akf_surface_area(
     ensures { λ _. ⌜ now (area .exit) ≡ areaValue (areaAnswer (now (px .entry)) (now (py .entry)) (now (pz .entry)) vertices (now (t0 .entry)) (now (t1 .entry)) (now (t2 .entry)) triangles) ⌝ }
 {
     let answer = surfaces::surface_area(px, py, pz, vertices, t0, t1, t2, triangles);
-    *area = area_found(answer);
-    area_number(answer)
+    let back = area_back(answer);
+    *area = back.value;
+    back.number
 }
 
 fn box_number(bounds: Bounds) -> u32
-    ensures { λ r. ⌜ r ≡ boundsNumber bounds ⌝ }
+    ensures { λ r. ⌜ r ≡ boxNumber bounds ⌝ }
 {
     match bounds {
         Bounds::Corners(_, _) => DONE,
@@ -198,9 +192,9 @@ fn no_corner() -> Vertex
     ensures { λ r. ⌜ r ≡ noCorner ⌝ }
 {
     Vertex {
-        x: Metres(0.0),
-        y: Metres(0.0),
-        z: Metres(0.0),
+        x: Metres(NOTHING),
+        y: Metres(NOTHING),
+        z: Metres(NOTHING),
     }
 }
 
@@ -237,7 +231,7 @@ pub extern "C" fn akf_bounding_box(
     max_y: &mut f32,
     max_z: &mut f32,
 ) -> u32
-    ensures { λ r. ⌜ r ≡ boundsNumber (boxAnswer (now (px .entry)) (now (py .entry)) (now (pz .entry)) vertices) ⌝ }
+    ensures { λ r. ⌜ r ≡ boxNumber (boxAnswer (now (px .entry)) (now (py .entry)) (now (pz .entry)) vertices) ⌝ }
     ensures { λ _. ⌜ now («min_x» .exit) ≡ lowCorner (boxAnswer (now (px .entry)) (now (py .entry)) (now (pz .entry)) vertices) .x .0 ⌝ }
     ensures { λ _. ⌜ now («min_y» .exit) ≡ lowCorner (boxAnswer (now (px .entry)) (now (py .entry)) (now (pz .entry)) vertices) .y .0 ⌝ }
     ensures { λ _. ⌜ now («min_z» .exit) ≡ lowCorner (boxAnswer (now (px .entry)) (now (py .entry)) (now (pz .entry)) vertices) .z .0 ⌝ }
@@ -257,21 +251,19 @@ pub extern "C" fn akf_bounding_box(
     box_number(bounds)
 }
 
-fn mesh_stats_number(stats: MeshStats) -> u32
-    ensures { λ r. ⌜ r ≡ statsNumber stats ⌝ }
+fn normals_back(stats: MeshStats) -> YesBack
+    ensures { λ r. ⌜ r .number ≡ statsNumber stats ⌝ }
+    ensures { λ r. ⌜ r .yes ≡ oneIf (statsValue stats) ⌝ }
 {
     match stats {
-        MeshStats::HasNormals(_) => DONE,
-        MeshStats::Refused(why) => refusals::number(why),
-    }
-}
-
-fn normals_found(stats: MeshStats) -> u32
-    ensures { λ r. ⌜ r ≡ oneIf (statsValue stats) ⌝ }
-{
-    match stats {
-        MeshStats::HasNormals(yes) => one_if(yes),
-        MeshStats::Refused(_) => 0,
+        MeshStats::HasNormals(yes) => YesBack {
+            number: DONE,
+            yes: one_if(yes),
+        },
+        MeshStats::Refused(why) => YesBack {
+            number: refusals::number(why),
+            yes: 0,
+        },
     }
 }
 
@@ -287,6 +279,7 @@ pub extern "C" fn akf_mesh_stats(
     ensures { λ _. ⌜ now («has_normals» .exit) ≡ oneIf (statsValue (statsAnswer (now (nx .entry)) (now (ny .entry)) (now (nz .entry)) vertices)) ⌝ }
 {
     let stats = surfaces::mesh_stats(nx, ny, nz, vertices);
-    *has_normals = normals_found(stats);
-    mesh_stats_number(stats)
+    let back = normals_back(stats);
+    *has_normals = back.yes;
+    back.number
 }

@@ -1,6 +1,9 @@
 // Questions about a table, and lists from it.
 use crate::ABSENT;
 use crate::DONE;
+use crate::LengthBack;
+use crate::NOTHING;
+use crate::YesBack;
 use crate::keys::listed_number;
 use crate::keys::one_if;
 use floats::Metres;
@@ -21,23 +24,23 @@ ghost use Rattle.edges.specs.Listing.{edgesAnswer, firstsHeld, secondsHeld};
 ghost use Rattle.akfelzun.specs.Fusing.{settingsOf};
 ghost use Rattle.akfelzun.specs.Questions.{distanceFound, weightFound, surfaceFound, statsFound};
 
-fn distance_number(distance: Distance) -> u32
-    ensures { λ r. ⌜ r ≡ distanceNumber distance ⌝ }
+fn distance_back(distance: Distance) -> LengthBack
+    ensures { λ r. ⌜ r .number ≡ distanceNumber distance ⌝ }
+    ensures { λ r. ⌜ r .value ≡ distanceFound distance ⌝ }
 {
     match distance {
-        Distance::Of(_) => DONE,
-        Distance::Absent => ABSENT,
-        Distance::Refused(why) => refusals::number(why),
-    }
-}
-
-fn distance_found(distance: Distance) -> f32
-    ensures { λ r. ⌜ r ≡ distanceFound distance ⌝ }
-{
-    match distance {
-        Distance::Of(metres) => metres.0,
-        Distance::Absent => 0.0,
-        Distance::Refused(_) => 0.0,
+        Distance::Of(metres) => LengthBack {
+            number: DONE,
+            value: metres.0,
+        },
+        Distance::Absent => LengthBack {
+            number: ABSENT,
+            value: NOTHING,
+        },
+        Distance::Refused(why) => LengthBack {
+            number: refusals::number(why),
+            value: NOTHING,
+        },
     }
 }
 
@@ -64,27 +67,28 @@ pub extern "C" fn akf_tsdf_get_distance(
         max_distance: Metres(max_distance),
     };
     let found = tsdf_questions::get_distance(settings, keys, distances, weights, count, key);
-    *distance = distance_found(found);
-    distance_number(found)
+    let back = distance_back(found);
+    *distance = back.value;
+    back.number
 }
 
-fn weight_number(weight: Weight) -> u32
-    ensures { λ r. ⌜ r ≡ weightNumber weight ⌝ }
+fn weight_back(weight: Weight) -> LengthBack
+    ensures { λ r. ⌜ r .number ≡ weightNumber weight ⌝ }
+    ensures { λ r. ⌜ r .value ≡ weightFound weight ⌝ }
 {
     match weight {
-        Weight::Of(_) => DONE,
-        Weight::Absent => ABSENT,
-        Weight::Refused(why) => refusals::number(why),
-    }
-}
-
-fn weight_found(weight: Weight) -> f32
-    ensures { λ r. ⌜ r ≡ weightFound weight ⌝ }
-{
-    match weight {
-        Weight::Of(w) => w,
-        Weight::Absent => 0.0,
-        Weight::Refused(_) => 0.0,
+        Weight::Of(w) => LengthBack {
+            number: DONE,
+            value: w,
+        },
+        Weight::Absent => LengthBack {
+            number: ABSENT,
+            value: NOTHING,
+        },
+        Weight::Refused(why) => LengthBack {
+            number: refusals::number(why),
+            value: NOTHING,
+        },
     }
 }
 
@@ -111,25 +115,24 @@ pub extern "C" fn akf_tsdf_get_weight(
         max_distance: Metres(max_distance),
     };
     let found = tsdf_questions::get_weight(settings, keys, distances, weights, count, key);
-    *weight = weight_found(found);
-    weight_number(found)
+    let back = weight_back(found);
+    *weight = back.value;
+    back.number
 }
 
-fn surface_number(surface: Surface) -> u32
-    ensures { λ r. ⌜ r ≡ surfaceNumber surface ⌝ }
+fn surface_back(surface: Surface) -> YesBack
+    ensures { λ r. ⌜ r .number ≡ surfaceNumber surface ⌝ }
+    ensures { λ r. ⌜ r .yes ≡ surfaceFound surface ⌝ }
 {
     match surface {
-        Surface::Answer(_) => DONE,
-        Surface::Refused(why) => refusals::number(why),
-    }
-}
-
-fn surface_found(surface: Surface) -> u32
-    ensures { λ r. ⌜ r ≡ surfaceFound surface ⌝ }
-{
-    match surface {
-        Surface::Answer(near) => one_if(near),
-        Surface::Refused(_) => 0,
+        Surface::Answer(near) => YesBack {
+            number: DONE,
+            yes: one_if(near),
+        },
+        Surface::Refused(why) => YesBack {
+            number: refusals::number(why),
+            yes: 0,
+        },
     }
 }
 
@@ -165,8 +168,9 @@ pub extern "C" fn akf_is_surface_voxel(
         key,
         Metres(threshold),
     );
-    *yes = surface_found(found);
-    surface_number(found)
+    let back = surface_back(found);
+    *yes = back.yes;
+    back.number
 }
 
 fn stats_number(statistics: Statistics) -> u32
@@ -186,9 +190,9 @@ fn stats_found(statistics: Statistics) -> TsdfStats
         Statistics::Refused(_) => TsdfStats {
             voxel_count: 0,
             surface_voxel_count: 0,
-            min_distance: Metres(0.0),
-            max_distance: Metres(0.0),
-            average_weight: 0.0,
+            min_distance: Metres(NOTHING),
+            max_distance: Metres(NOTHING),
+            average_weight: NOTHING,
         },
     }
 }

@@ -1,7 +1,5 @@
--- Each number follows from what the call answers: the answer, then what is handed back of it.
--- Assumes nothing.
-use mathlib.Core.Path.{_∙_, ap}
-use Rattle.tsdf.specs.Batches.{BatchOutcome, batchedNumber, batchedAt}
+-- What is handed back is read off what the call below answers. Assumes nothing.
+use Rattle.akfelzun.proofs.BackLaws.{batch-back}
 use borrow.Author.Needs.{needs}
 use Rattle.akfelzun.proofs.fusing.akf_batch_update.Statement.{statement}
 use Rattle.akfelzun.proofs.fusing.akf_batch_update.Tie as tie
@@ -9,11 +7,8 @@ use Rattle.akfelzun.proofs.fusing.akf_batch_update.Tie as tie
 batch-update-requires : tie.Need-batch-update-requires
 batch-update-requires c κs = search needs
 
-batched-at-requires : tie.Need-batched-at-requires
-batched-at-requires c κs = search needs
-
-batched-number-requires : tie.Need-batched-number-requires
-batched-number-requires c κs = search needs
+batch-back-requires : tie.Need-batch-back-requires
+batch-back-requires c κs = search needs
 
 same-length : tie.Need-same-length
 same-length c = search needs
@@ -26,8 +21,7 @@ same-length-3 c = search needs
 
 returns : tie.Need-returns
 returns c =
-    let e = c .before .before .before .before .before .before .before .before .batch-update .ensures in
-    (c .batched-number .ensures ∙ ap (λ (o : BatchOutcome). batchedNumber (o .answer)) e, (ap (λ (o : BatchOutcome). o .left) e, c .before .batched-at .ensures ∙ ap (λ (o : BatchOutcome). batchedAt (o .answer)) e))
+    batch-back (c .before .before .before .before .before .before .before .batch-update .ensures) (c .batch-back .ensures)
 
 pub akf-batch-update-spec : {M : Type 1} → statement M
-akf-batch-update-spec = tie.close (tie.spec batch-update-requires batched-at-requires batched-number-requires same-length same-length-2 same-length-3 returns)
+akf-batch-update-spec = tie.close (tie.spec batch-update-requires batch-back-requires same-length same-length-2 same-length-3 returns)

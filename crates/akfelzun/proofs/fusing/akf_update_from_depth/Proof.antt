@@ -1,7 +1,5 @@
--- Each number follows from what the call answers: the answer, then what is handed back of it.
--- Assumes nothing.
-use mathlib.Core.Path.{_∙_, ap}
-use Rattle.tsdf.specs.Fusing.{Outcome, fusedNumber}
+-- What is handed back is read off what the call below answers. Assumes nothing.
+use Rattle.akfelzun.proofs.BackLaws.{fuse-back}
 use borrow.Author.Needs.{needs}
 use Rattle.akfelzun.proofs.fusing.akf_update_from_depth.Statement.{statement}
 use Rattle.akfelzun.proofs.fusing.akf_update_from_depth.Tie as tie
@@ -23,8 +21,7 @@ same-length-3 c = search needs
 
 returns : tie.Need-returns
 returns c =
-    let e = c .before .before .before .before .before .before .before .update-from-depth .ensures in
-    (c .fused-number .ensures ∙ ap (λ (o : Outcome). fusedNumber (o .answer)) e, ap (λ (o : Outcome). o .left) e)
+    fuse-back (c .before .before .before .before .before .before .before .update-from-depth .ensures) (c .fused-number .ensures)
 
 pub akf-update-from-depth-spec : {M : Type 1} → statement M
 akf-update-from-depth-spec = tie.close (tie.spec update-from-depth-requires fused-number-requires same-length same-length-2 same-length-3 returns)

@@ -1,8 +1,7 @@
--- Each number follows from what the call answers: the answer, then what is handed back of it.
--- Assumes nothing.
-use mathlib.Core.Path.{_∙_, ap}
+-- What is handed back is read off what the call below answers. Assumes nothing.
 use Rattle.root.specs.Root.{rootNumber}
 use Rattle.akfelzun.specs.Keys.{rootGiven}
+use Rattle.akfelzun.proofs.BackLaws.{both}
 use borrow.Author.Needs.{needs}
 use Rattle.akfelzun.proofs.keys.akf_root.Statement.{statement}
 use Rattle.akfelzun.proofs.keys.akf_root.Tie as tie
@@ -10,15 +9,12 @@ use Rattle.akfelzun.proofs.keys.akf_root.Tie as tie
 root-requires : tie.Need-root-requires
 root-requires c κs = search needs
 
-root-given-requires : tie.Need-root-given-requires
-root-given-requires c κs = search needs
-
-root-number-requires : tie.Need-root-number-requires
-root-number-requires c κs = search needs
+root-back-requires : tie.Need-root-back-requires
+root-back-requires c κs = search needs
 
 returns : tie.Need-returns
 returns c =
-    let e = c .before .before .root .ensures in (c .root-number .ensures ∙ ap rootNumber e, c .before .root-given .ensures ∙ ap rootGiven e)
+    both rootNumber rootGiven (c .before .root .ensures) (c .root-back .ensures)
 
 pub akf-root-spec : {M : Type 1} → statement M
-akf-root-spec = tie.close (tie.spec root-requires root-given-requires root-number-requires returns)
+akf-root-spec = tie.close (tie.spec root-requires root-back-requires returns)

@@ -1,7 +1,7 @@
--- Each number follows from what the call answers: the answer, then what is handed back of it.
--- Assumes nothing.
+-- What is handed back is read off what the call below answers. Assumes nothing.
 use mathlib.Core.Path.{_∙_, ap}
-use Rattle.akfelzun.specs.Marching.{slopeNumber, slopeFound}
+use Rattle.esdf_questions.specs.Gradient.{gradientNumber}
+use Rattle.akfelzun.specs.Marching.{slopeFound}
 use borrow.Author.Needs.{needs}
 use Rattle.akfelzun.proofs.marching.akf_get_gradient.Statement.{statement}
 use Rattle.akfelzun.proofs.marching.akf_get_gradient.Tie as tie
@@ -9,22 +9,14 @@ use Rattle.akfelzun.proofs.marching.akf_get_gradient.Tie as tie
 get-gradient-requires : tie.Need-get-gradient-requires
 get-gradient-requires c κs = search needs
 
-x-slope-requires : tie.Need-x-slope-requires
-x-slope-requires c κs = search needs
-
-y-slope-requires : tie.Need-y-slope-requires
-y-slope-requires c κs = search needs
-
-z-slope-requires : tie.Need-z-slope-requires
-z-slope-requires c κs = search needs
-
-slope-number-requires : tie.Need-slope-number-requires
-slope-number-requires c κs = search needs
+slope-back-requires : tie.Need-slope-back-requires
+slope-back-requires c κs = search needs
 
 returns : tie.Need-returns
 returns c =
-    let e = c .before .before .before .before .get-gradient .ensures in
-    (c .slope-number .ensures ∙ ap slopeNumber e, (c .before .before .before .x-slope .ensures ∙ ap (λ g. slopeFound g .0) e, (c .before .before .y-slope .ensures ∙ ap (λ g. slopeFound g .1) e, c .before .z-slope .ensures ∙ ap (λ g. slopeFound g .2) e)))
+    let e = c .before .get-gradient .ensures in
+    let b = c .slope-back .ensures in
+    (b .0 ∙ ap gradientNumber e, (b .1 .0 ∙ ap (λ g. slopeFound g .0) e, (b .1 .1 .0 ∙ ap (λ g. slopeFound g .1) e, b .1 .1 .1 ∙ ap (λ g. slopeFound g .2) e)))
 
 pub akf-get-gradient-spec : {M : Type 1} → statement M
-akf-get-gradient-spec = tie.close (tie.spec get-gradient-requires x-slope-requires y-slope-requires z-slope-requires slope-number-requires returns)
+akf-get-gradient-spec = tie.close (tie.spec get-gradient-requires slope-back-requires returns)

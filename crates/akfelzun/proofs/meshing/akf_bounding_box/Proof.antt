@@ -2,7 +2,8 @@
 -- Assumes nothing.
 use mathlib.Core.Path.{_∙_, ap}
 use Rattle.vertices.specs.declared.Vertex.{Vertex}
-use Rattle.akfelzun.specs.Meshing.{boundsNumber, lowCorner, highCorner}
+use Rattle.surfaces.specs.Boxes.{boxNumber}
+use Rattle.akfelzun.specs.Meshing.{lowCorner, highCorner}
 use borrow.Author.Needs.{needs}
 use Rattle.akfelzun.proofs.meshing.akf_bounding_box.Statement.{statement}
 use Rattle.akfelzun.proofs.meshing.akf_bounding_box.Tie as tie
@@ -22,7 +23,7 @@ box-number-requires c κs = search needs
 returns : tie.Need-returns
 returns c =
     let e = c .before .before .before .bounding-box .ensures in
-    (c .box-number .ensures ∙ ap boundsNumber e, (ap (λ (v : Vertex). v .x .0) (c .before .before .low-corner .ensures ∙ ap lowCorner e), (ap (λ (v : Vertex). v .y .0) (c .before .before .low-corner .ensures ∙ ap lowCorner e), (ap (λ (v : Vertex). v .z .0) (c .before .before .low-corner .ensures ∙ ap lowCorner e), (ap (λ (v : Vertex). v .x .0) (c .before .high-corner .ensures ∙ ap highCorner e), (ap (λ (v : Vertex). v .y .0) (c .before .high-corner .ensures ∙ ap highCorner e), ap (λ (v : Vertex). v .z .0) (c .before .high-corner .ensures ∙ ap highCorner e)))))))
+    (c .box-number .ensures ∙ ap boxNumber e, (ap (λ (v : Vertex). v .x .0) (c .before .before .low-corner .ensures ∙ ap lowCorner e), (ap (λ (v : Vertex). v .y .0) (c .before .before .low-corner .ensures ∙ ap lowCorner e), (ap (λ (v : Vertex). v .z .0) (c .before .before .low-corner .ensures ∙ ap lowCorner e), (ap (λ (v : Vertex). v .x .0) (c .before .high-corner .ensures ∙ ap highCorner e), (ap (λ (v : Vertex). v .y .0) (c .before .high-corner .ensures ∙ ap highCorner e), ap (λ (v : Vertex). v .z .0) (c .before .high-corner .ensures ∙ ap highCorner e)))))))
 
 pub akf-bounding-box-spec : {M : Type 1} → statement M
 akf-bounding-box-spec = tie.close (tie.spec bounding-box-requires low-corner-requires high-corner-requires box-number-requires returns)

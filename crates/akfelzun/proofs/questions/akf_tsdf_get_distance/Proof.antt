@@ -1,8 +1,7 @@
--- Each number follows from what the call answers: the answer, then what is handed back of it.
--- Assumes nothing.
-use mathlib.Core.Path.{_∙_, ap}
+-- What is handed back is read off what the call below answers. Assumes nothing.
 use Rattle.tsdf_questions.specs.Lookups.{distanceNumber}
 use Rattle.akfelzun.specs.Questions.{distanceFound}
+use Rattle.akfelzun.proofs.BackLaws.{both}
 use borrow.Author.Needs.{needs}
 use Rattle.akfelzun.proofs.questions.akf_tsdf_get_distance.Statement.{statement}
 use Rattle.akfelzun.proofs.questions.akf_tsdf_get_distance.Tie as tie
@@ -10,16 +9,12 @@ use Rattle.akfelzun.proofs.questions.akf_tsdf_get_distance.Tie as tie
 get-distance-requires : tie.Need-get-distance-requires
 get-distance-requires c κs = search needs
 
-distance-found-requires : tie.Need-distance-found-requires
-distance-found-requires c κs = search needs
-
-distance-number-requires : tie.Need-distance-number-requires
-distance-number-requires c κs = search needs
+distance-back-requires : tie.Need-distance-back-requires
+distance-back-requires c κs = search needs
 
 returns : tie.Need-returns
 returns c =
-    let e = c .before .before .get-distance .ensures in
-    (c .distance-number .ensures ∙ ap distanceNumber e, c .before .distance-found .ensures ∙ ap distanceFound e)
+    both distanceNumber distanceFound (c .before .get-distance .ensures) (c .distance-back .ensures)
 
 pub akf-tsdf-get-distance-spec : {M : Type 1} → statement M
-akf-tsdf-get-distance-spec = tie.close (tie.spec get-distance-requires distance-found-requires distance-number-requires returns)
+akf-tsdf-get-distance-spec = tie.close (tie.spec get-distance-requires distance-back-requires returns)
