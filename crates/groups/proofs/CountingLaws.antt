@@ -4,15 +4,15 @@ use Prim.Native.Nat.{ℕ, zero, suc, _+_, _-_, _≤_, _<_}
 use native.Mathlib.Nat.{not-suc-le-zero, le-of-suc-le-suc, suc-ne-zero, suc-inj, add-sub-cancel-left}
 use native.Mathlib.Numerals.{add-one}
 use native.Mathlib.Omega.{arith}
-use mathlib.Core.Path.{_≡_, refl, sym, ap, _∙_}
+use mathlib.Core.Path.{_≡_, refl, sym, ap}
 use mathlib.Core.Bool.{Bool, true, false, cond, _&&_}
-use mathlib.Core.List.{List, [], _∷_, _++_, map}
+use mathlib.Core.List.{List, [], _∷_, _++_}
 use lib.Dec.{ltb, eqb, leb}
 use lib.ListN.{length, getD, take, drop, length-take, drop-of-length-le}
 use Rattle.edges.specs.Edges.{Edge, edge}
 use Rattle.edges.specs.Listing.{firsts, seconds}
 use Rattle.groups.specs.Groups.{touches, one, startOf, countOf, partOf}
-use Rattle.groups.specs.CellEdges.{paired, edgesIn, pairsOk, edgeListsOk, spanIn, cellSpan, cellEdges}
+use Rattle.groups.specs.CellEdges.{paired, edgesIn, pairsOk, edgeListsOk, cellSpan, cellEdges}
 use Rattle.groups.specs.Steps.{Pairs}
 use Rattle.ids.specs.Key.{onLattice}
 use Rattle.groups.specs.declared.Span.{Span}

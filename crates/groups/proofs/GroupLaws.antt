@@ -1,20 +1,20 @@
 -- A cell's group: the numbers of its edges, ascending.
 -- Assumes nothing.
-use Prim.Native.Nat.{ℕ, zero, suc, _+_, _≤_, _<_}
+use Prim.Native.Nat.{ℕ, zero, suc, _+_, _<_}
 use native.Mathlib.Nat.{eq-or-lt-of-le, zero-lt-suc, zero-add, add-zero, suc-add, add-suc, le-of-suc-le-suc, not-suc-le-zero}
 use native.Mathlib.Omega.{arith}
 use mathlib.Core.Path.{_≡_, refl, sym, ap, _∙_}
 use mathlib.Core.Logic.{_⊎_, inl, inr, ⊎-elim}
-use mathlib.Core.Bool.{Bool, true, false, cond, _||_, or-true}
-use mathlib.Core.List.{List, [], _∷_, List·Memᴰ·head, List·Memᴰ·tail, List·Memᴰ·not-nil, List·Memᴰ·cases-cons, Memᴰ·cast}
+use mathlib.Core.Bool.{Bool, true, false, cond, or-true}
+use mathlib.Core.List.{List, [], _∷_, List·Memᴰ·not-nil, Memᴰ·cast}
 use lib.Dec.{eqb}
-use lib.ListN.{length, getD}
+use lib.ListN.{length}
 use borrow.Author.Tests.{eqb-true, eq-eqb}
 use Rattle.floats.proofs.Values.{le-or-lt}
 use Rattle.lists.specs.Lists.{_∈_, Ordered}
 use Rattle.lists.proofs.ListLaws.{front-in, in-front, in-behind, front-ordered}
 use Rattle.lists.proofs.Bools.{or-cases}
-use Rattle.edges.specs.Edges.{Edge, edge}
+use Rattle.edges.specs.Edges.{Edge}
 use Rattle.groups.specs.Groups.{touches, numbersFrom, groupOf, one, countOf}
 use Rattle.groups.specs.Groups.{edgeAt, EndsAt}
 

@@ -3,9 +3,9 @@
 -- Assumes nothing.
 use Prim.Native.Nat.{ℕ, _<_, _+_}
 use native.Mathlib.Omega.{arith}
-use mathlib.Core.Path.{_≡_, refl, sym, ap, _∙_}
+use mathlib.Core.Path.{_≡_, ap}
 use mathlib.Core.Logic.{_⊎_, inl, inr, _↔_}
-use mathlib.Core.Bool.{Bool, true, _&&_}
+use mathlib.Core.Bool.{Bool, true}
 use mathlib.Core.List.{List, _++_, Memᴰ·cast}
 use lib.ListN.{length}
 use Rattle.ids.specs.Key.{onLattice}
@@ -16,18 +16,18 @@ use Rattle.table.specs.Keys.{ascending}
 use Rattle.table.specs.Table.{Row}
 use Rattle.edges.specs.Rows.{keysOf}
 use Rattle.edges.specs.Edges.{Edge}
-use Rattle.edges.specs.EdgeList.{pairOf, SamePair, Neighbourhood, IsEdgeList}
+use Rattle.edges.specs.EdgeList.{pairOf, SamePair, IsEdgeList}
 use Rattle.edges.specs.Listing.{firsts, seconds}
 use Rattle.edges.specs.ZeroCrossing.{crossesZero, zeroCrossingEdges}
 use Rattle.edges.proofs.RowLaws.{ascending-keys}
 use Rattle.edges.proofs.ZeroCrossingLaws.{lattice, demand-3-edges}
-use Rattle.groups.specs.Groups.{EndsAt, groupOf, groups, partOf}
-use Rattle.groups.specs.CellEdges.{paired, edgesIn, edgeListsOk, cellEdges}
+use Rattle.groups.specs.Groups.{EndsAt, groupOf, groups}
+use Rattle.groups.specs.CellEdges.{edgeListsOk, cellEdges}
 use Rattle.groups.specs.Near.{nearGroup}
 use Rattle.groups.proofs.GroupLaws.{compared, group-in, in-group, group-ordered}
 use Rattle.groups.proofs.PartLaws.{Covers, groups-length, group-part}
 use Rattle.groups.proofs.CountingLaws.{edges-back}
-use Rattle.groups.proofs.Neighbourhoods.{gathered-is-group, group-small}
+use Rattle.groups.proofs.Neighbourhoods.{gathered-is-group}
 
 -- both keys of a pair are among the keys, where its two keys are
 pair-in : (a b : ℕ) (ks : List ℕ) → a ∈ ks → b ∈ ks → (pairOf a b .first ∈ ks) × (pairOf a b .second ∈ ks)

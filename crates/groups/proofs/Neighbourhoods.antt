@@ -4,8 +4,8 @@ use Prim.Native.Nat.{ℕ, suc, _-_, _<_, _≤_, min, max}
 use native.Mathlib.Omega.{arith}
 use mathlib.Core.Path.{_≡_, refl, sym, ap, _∙_}
 use mathlib.Core.Logic.{_⊎_, inl, inr, ⊎-elim}
-use mathlib.Core.Bool.{Bool, true, cond}
-use mathlib.Core.List.{List, [], _∷_, Memᴰ·cast, List·Memᴰ·head, List·Memᴰ·tail, List·Memᴰ·not-nil, List·Memᴰ·cases-cons}
+use mathlib.Core.Bool.{Bool, cond}
+use mathlib.Core.List.{List, [], _∷_, List·Memᴰ·head, List·Memᴰ·tail, List·Memᴰ·not-nil, List·Memᴰ·cases-cons}
 use lib.ListN.{length, getD, drop, replicate, length-drop, drop-of-length-le}
 use lib.Seq.{drop-cons}
 use Rattle.lists.specs.Lists.{_∈_, Ordered, Distinct}

@@ -7,16 +7,15 @@ use native.Mathlib.Numerals.{add-one}
 use native.Mathlib.Omega.{arith}
 use mathlib.Core.Path.{_≡_, refl, sym, ap, _∙_}
 use mathlib.Core.Bool.{Bool, true, false, cond}
-use mathlib.Core.List.{List, [], _∷_, map}
+use mathlib.Core.List.{List, [], _∷_}
 use lib.Dec.{ltb, eqb}
 use lib.ListN.{length, getD, take, drop, length-drop, length-map}
 use lib.Seq.{getD-drop}
 use borrow.Author.Tests.{lt-ltb, ltb-true, ltb-false, eqb-true, ne-eqb, eq-eqb}
-use Rattle.lists.specs.Lists.{_∈_, Ordered}
+use Rattle.lists.specs.Lists.{Ordered}
 use Rattle.lists.proofs.Bools.{cases}
 use Rattle.lists.proofs.ListLaws.{at-in, ordered-at}
 use Rattle.table.specs.Keys.{placeOf, halving, halved}
-use Rattle.table.specs.declared.Found.{Found}
 use Rattle.table.specs.declared.Found.the-variants.{At, Absent}
 use Rattle.table.proofs.KeyLaws.{place-le, place-length, mid, halfway}
 use Rattle.edges.specs.Edges.{Edge, edge}

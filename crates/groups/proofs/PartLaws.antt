@@ -1,20 +1,20 @@
 -- Where a cell's group stands in the list of groups: at as many places as there are edge ends with a smaller key.
 -- Assumes nothing.
-use Prim.Native.Nat.{ℕ, zero, suc, _+_, _≤_, _<_}
-use native.Mathlib.Nat.{lt-irrefl, zero-add}
+use Prim.Native.Nat.{ℕ, suc, _+_, _≤_, _<_}
+use native.Mathlib.Nat.{zero-add}
 use native.Mathlib.Omega.{arith}
-use mathlib.Core.Path.{_≡_, refl, sym, ap, ap₂, _∙_}
+use mathlib.Core.Path.{_≡_, refl, sym, ap, _∙_}
 use mathlib.Core.Logic.{_⊎_, inl, inr, ⊎-elim}
 use mathlib.Core.Bool.{Bool, true, false, cond, _||_}
-use mathlib.Core.List.{List, [], _∷_, _++_, append-assoc, append-nil, List·Memᴰ·head, List·Memᴰ·tail, List·Memᴰ·not-nil, List·Memᴰ·cases-cons}
-use lib.Dec.{eqb, ltb, leb}
-use lib.ListN.{length, getD, take, drop, length-append}
+use mathlib.Core.List.{List, [], _∷_, _++_, append-assoc, List·Memᴰ·head, List·Memᴰ·tail, List·Memᴰ·not-nil, List·Memᴰ·cases-cons}
+use lib.Dec.{eqb, ltb}
+use lib.ListN.{length, length-append}
 use lib.Seq.{take-at, drop-at}
 use borrow.Author.Tests.{lt-ltb, le-ltb, eq-eqb, ne-eqb, le-leb, eqb-true}
 use Rattle.lists.specs.Lists.{_∈_, Ordered, joined}
 use Rattle.lists.proofs.ListLaws.{at-in}
 use Rattle.edges.specs.Edges.{Edge, edge}
-use Rattle.groups.specs.Groups.{touches, numbersFrom, groupOf, groups, one, startOf, countOf, partOf}
+use Rattle.groups.specs.Groups.{touches, groupOf, groups, one, startOf, countOf, partOf}
 use Rattle.groups.specs.Groups.{edgeAt, EndsAt}
 use Rattle.groups.proofs.GroupLaws.{compared, numbers-length, group-in}
 

@@ -31,6 +31,7 @@ edgeListsOk groups first second count = leb groups 1048576 && pairsOk first seco
 abbrev pub spanIn : ℕ → ℕ → ℕ → Span
 spanIn start count room = cond (leb (start + count) room) (record { start = start; end = start + count }) (record { start = 0; end = 0 })
 
+-- the same of two lists of edges; nowhere where 2 or 4 would refuse
 unfoldable pub cellSpan : ℕ → List ℕ → List ℕ → ℕ → ℕ → Span
 unfolding startOf countOf paired
 cellSpan groups first second count cell =

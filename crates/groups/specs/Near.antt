@@ -1,4 +1,4 @@
--- A cell's group worked out from its own neighbourhood, on any edge list. On the edge list of a table it is the group (`near-is-group` of proofs/NearLaws.antt).
+-- A cell's group worked out from its own neighbourhood, on any edge list. On the edge list of a table it is the group (`near-is-group` of proofs/Handed.antt).
 use Prim.Native.Nat.{ℕ, suc, min, max}
 use mathlib.Core.Bool.{cond}
 use mathlib.Core.List.{List, [], _∷_}
@@ -33,6 +33,7 @@ unfoldable pub placedIn : ℕ → List ℕ → List ℕ
 placedIn x [] = x ∷ []
 placedIn x (y ∷ ys) = min x y ∷ placedIn (max x y) ys
 
+-- what was found put in, where there is an edge
 unfoldable pub withNumber : Found → List ℕ → List ℕ
 unfolding placedIn
 withNumber (At i) numbers = placedIn i numbers

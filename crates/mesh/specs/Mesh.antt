@@ -1,5 +1,5 @@
 -- The mesh of a table: edges, vertices with normals, groups and triangles, in twelve lent lists.
-use Prim.Native.Nat.{ℕ, _+_}
+use Prim.Native.Nat.{ℕ}
 use mathlib.Core.Path.{_≡_}
 use mathlib.Core.Bool.{Bool, cond, _&&_}
 use mathlib.Core.List.{List, map}

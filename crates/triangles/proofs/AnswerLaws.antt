@@ -1,21 +1,20 @@
 -- The answer to building, and what the four lists then hold: what was found, in its room, or zeros.
 -- Assumes nothing.
-use Prim.Native.Nat.{ℕ, _≤_, _<_}
+use Prim.Native.Nat.{ℕ, _≤_}
 use native.Mathlib.Omega.{arith}
 use mathlib.Core.Path.{_≡_, refl, sym, ap, _∙_}
-use mathlib.Core.Bool.{Bool, true, false, cond, _&&_, false≢true}
-use mathlib.Core.List.{List, [], _∷_, _++_, map}
+use mathlib.Core.Bool.{Bool, true, false, cond, _&&_}
+use mathlib.Core.List.{List, map}
 use lib.Dec.{eqb, leb}
 use lib.ListN.{length, take, replicate, length-map}
 use lib.Seq.{sets, length-sets}
 use borrow.Author.Tests.{eqb-true, leb-true}
 use Rattle.lists.specs.Places.{clearedFrom}
 use Rattle.lists.specs.Padding.{padded}
-use Rattle.lists.specs.Lists.{joined}
 use Rattle.lists.specs.Listing.{countOf, heldFor}
 use Rattle.lists.specs.declared.Listed.{Listed}
 use Rattle.lists.specs.declared.Listed.the-variants.{Count, Refused}
-use Rattle.lists.proofs.Bools.{cases, and-first, and-second}
+use Rattle.lists.proofs.Bools.{and-first, and-second}
 use Rattle.lists.proofs.Writing.{sets-front, cleared-whole}
 use Rattle.refusals.specs.declared.Refusal.{Refusal}
 use Rattle.refusals.specs.declared.Refusal.the-variants.{Lengths, NoPlace}

@@ -11,7 +11,6 @@ use Rattle.lists.specs.Lists.{joined}
 use Rattle.lists.proofs.PaddingLaws.{padded-front, padded-length}
 use Rattle.groups.specs.declared.Group.{Group}
 use Rattle.groups.specs.Near.{held}
-use Rattle.triangles.specs.declared.Filled.{Filled}
 use Rattle.triangles.specs.Threes.{Three, threes, threesOf, column0, column1, column2}
 use Rattle.triangles.specs.Building.{Source, groupAt, groupsAt, trianglesAt}
 use Rattle.triangles.specs.Steps.{filledWith}

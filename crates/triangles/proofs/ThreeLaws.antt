@@ -1,14 +1,14 @@
 -- Laws of every three of an ascending list of numbers.
 -- Assumes nothing.
-use Prim.Native.Nat.{ℕ, zero, suc, _+_, _<_}
+use Prim.Native.Nat.{ℕ, suc, _+_, _<_}
 use native.Mathlib.Omega.{arith}
-use mathlib.Core.Path.{_≡_, refl, sym, ap, ap₂, _∙_}
+use mathlib.Core.Path.{_≡_, refl, ap, ap₂, _∙_}
 use mathlib.Core.Logic.{_⊎_, inl, inr, ⊎-elim}
-use mathlib.Core.List.{List, [], _∷_, _++_, List·Memᴰ·head, List·Memᴰ·tail, List·Memᴰ·not-nil, List·Memᴰ·cases-cons, List·Memᴰ·append-cases, Memᴰ·append-left, Memᴰ·append-right, Memᴰ·cast}
+use mathlib.Core.List.{List, [], _∷_, List·Memᴰ·head, List·Memᴰ·tail, List·Memᴰ·not-nil, List·Memᴰ·cases-cons, List·Memᴰ·append-cases, Memᴰ·append-left, Memᴰ·append-right, Memᴰ·cast}
 use lib.ListN.{length, length-append}
 use Rattle.lists.specs.Lists.{_∈_, Ordered}
 use Rattle.triangles.specs.Threes.{Three, three, Dictionary, withThird, withTwo, threes, twosOf, threesOf}
-use Rattle.lists.proofs.ListLaws.{append-ordered, ordered-weaken}
+use Rattle.lists.proofs.ListLaws.{append-ordered}
 
 -- ---- how many
 

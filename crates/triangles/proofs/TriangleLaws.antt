@@ -1,18 +1,18 @@
 -- Demand 3 of the triangle list: it holds every three edges that meet in one cell, each three once, in document 01's order, and no other; and
 -- it is the only list that does.
 -- Assumes nothing.
-use Prim.Native.Nat.{ℕ, zero, suc, _+_, _<_}
+use Prim.Native.Nat.{ℕ, _+_, _<_}
 use native.Mathlib.Omega.{arith}
 use mathlib.Core.Path.{_≡_, refl, sym, ap, ap₂, _∙_}
 use mathlib.Core.Logic.{_⊎_, inl, inr, ⊎-elim}
-use mathlib.Core.List.{List, [], _∷_, _++_}
-use lib.ListN.{length, getD, length-append}
+use mathlib.Core.List.{List, [], _∷_}
+use lib.ListN.{length, length-append}
 use Rattle.lists.specs.Lists.{_∈_, Ordered, Distinct, joined}
 use Rattle.lists.proofs.ListLaws.{at-in, ordered-at, ordered-weaken, joined-in, in-joined, joined-ordered, one-order}
-use Rattle.triangles.specs.Threes.{Three, threes, threesOf, Dictionary}
+use Rattle.triangles.specs.Threes.{Three, threesOf, Dictionary}
 use Rattle.triangles.proofs.ThreeLaws.{length-threes, threes-in, in-threes, threes-ordered, dictionary-asym}
 use Rattle.edges.specs.Edges.{Edge, edge}
-use Rattle.groups.specs.Groups.{edgeAt, groupOf, countOf}
+use Rattle.groups.specs.Groups.{edgeAt, groupOf}
 use Rattle.triangles.specs.Triangles.{trianglesAt, triangles, trianglesOf}
 use Rattle.triangles.specs.TriangleList.{Meet, Before, IsTriangleList}
 use Rattle.groups.proofs.GroupLaws.{compared, numbers-length, group-in, in-group, group-ordered}

@@ -38,6 +38,7 @@ rooms g x y z = record { groups = g; t0 = x; t1 = y; t2 = z }
 abbrev pub groupAt : Source → ℕ → List ℕ
 groupAt s cell = groupIn (s .first) (s .second) (s .edges) cell
 
+-- its triangles
 abbrev pub threesAt : Source → ℕ → List (Three ℕ)
 threesAt s cell = threes (groupAt s cell)
 
@@ -58,6 +59,7 @@ lengthsOk keys rows first second edges groups t0 t1 t2 =
     (leb keys 65536 && leb rows keys)
     && (pairsOk first second edges && (leb groups 1048576 && ((eqb t0 t1 && eqb t0 t2) && leb t0 1048576)))
 
+-- the same of a source and its rooms
 unfoldable pub sizesOk : Source → Rooms → Bool
 sizesOk s r =
     lengthsOk (length (s .keys)) (s .rows) (length (s .first)) (length (s .second)) (s .edges) (r .groups) (r .t0) (r .t1) (r .t2)

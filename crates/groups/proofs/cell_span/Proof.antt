@@ -1,9 +1,7 @@
 -- `groups::cell_span` meets its contract.
 -- Assumes nothing.
-use Prim.Native.Nat.{_≤_}
-use mathlib.Core.Path.{_≡_, ap, _∙_}
+use mathlib.Core.Path.{ap, _∙_}
 use native.Mathlib.Omega.{arith}
-use lib.ListN.{length}
 use Rattle.lists.proofs.Bools.{yes, no}
 use Rattle.groups.specs.CellEdges.{spanIn, cellSpan}
 use Rattle.groups.specs.Steps.{Pairs}

@@ -1,9 +1,9 @@
 -- `groups::count_ends` meets its contract: what is left of the edges says what all of them say.
 -- Assumes nothing.
 use Prim.Native.Nat.{_+_, _-_, _≤_}
-use mathlib.Core.Path.{_≡_, refl, sym, ap, _∙_}
+use mathlib.Core.Path.{_≡_, sym, _∙_}
 use native.Mathlib.Omega.{arith}
-use lib.ListN.{length, drop}
+use lib.ListN.{drop}
 use Rattle.groups.specs.Groups.{startOf, countOf}
 use Rattle.groups.specs.CellEdges.{edgesIn}
 use Rattle.groups.proofs.CountingLaws.{start-next, count-next, none-left}

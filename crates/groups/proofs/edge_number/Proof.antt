@@ -1,7 +1,6 @@
 -- `groups::edge_number` meets its contract: the edges from a place on say what all of them say.
 -- Assumes nothing.
 use Prim.Native.Nat.{_-_}
-use native.Mathlib.Omega.{arith}
 use mathlib.Core.Path.{_≡_, sym, _∙_}
 use lib.ListN.{drop}
 use Rattle.groups.specs.CellEdges.{edgesIn}
