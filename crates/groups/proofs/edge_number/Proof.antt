@@ -11,21 +11,17 @@ use Rattle.groups.proofs.edge_number.Statement.{statement}
 use Rattle.groups.proofs.edge_number.Tie as tie
 
 abbrev Inv-loop : tie.InvT-loop
-Inv-loop first second count a b i₀ i =
+Inv-loop first second count place a b i₀ i =
     let es = edgesIn first second count in
     numberBy a b es ≡ scanned i a b (drop i es)
 
 abbrev μ-loop : tie.MeasureT-loop
-μ-loop first second count a b i₀ i = count - i
-
-place-of-requires : tie.Need-place-of-requires Inv-loop μ-loop
-place-of-requires c κs = search needs
+μ-loop first second count place a b i₀ i = count - i
 
 loop-holds : tie.Need-loop-holds Inv-loop μ-loop
 loop-holds c =
-    let s = c .before .before .before in
-    let a = s .args in
-    rw (c .place-of .ensures) (number-started (a .first .now) (a .second .now) (a .count) (a .a) (a .b) (s .pre .equal))
+    let a = c .args in
+    rw (c .pre .1) (number-started (a .first .now) (a .second .now) (a .count) (a .a) (a .b) (c .pre .0 .equal))
 
 mul-if1 : tie.Need-mul-if1 Inv-loop μ-loop
 mul-if1 c = search needs
@@ -36,10 +32,10 @@ shared-slice-read-if1 c = search needs
 returns : tie.Need-returns Inv-loop μ-loop
 returns c =
     let l = c .before .before .before in
-    let s = l .before .before .before .before in
+    let s = l .before in
     let a = s .args in
     let t = c .before .before .loop-test .taken in
-    (number-gone (a .first .now) (a .second .now) (a .count) (a .a) (a .b) (s .pre .equal) (s .pre .fits) (l .loop .i) t (c .if1 .taken) ∙ sym (l .loop .inv), tt)
+    (number-gone (a .first .now) (a .second .now) (a .count) (a .a) (a .b) (s .pre .0 .equal) (s .pre .0 .fits) (l .loop .i) t (c .if1 .taken) ∙ sym (l .loop .inv), tt)
 
 mul-if2 : tie.Need-mul-if2 Inv-loop μ-loop
 mul-if2 c = search needs
@@ -50,10 +46,10 @@ shared-slice-read-if2 c = search needs
 returns-2 : tie.Need-returns-2 Inv-loop μ-loop
 returns-2 c =
     let l = c .before .before .before .before .before in
-    let s = l .before .before .before .before in
+    let s = l .before in
     let a = s .args in
     let t = c .before .before .before .before .loop-test .taken in
-    (number-here (a .first .now) (a .second .now) (a .count) (a .a) (a .b) (s .pre .equal) (s .pre .fits) (l .loop .i) t (c .before .before .if1 .left) (c .if2 .taken) ∙ sym (l .loop .inv), t)
+    (number-here (a .first .now) (a .second .now) (a .count) (a .a) (a .b) (s .pre .0 .equal) (s .pre .0 .fits) (l .loop .i) t (c .before .before .if1 .left) (c .if2 .taken) ∙ sym (l .loop .inv), t)
 
 add-i : tie.Need-add-i Inv-loop μ-loop
 add-i c = search needs
@@ -64,17 +60,17 @@ loop-less c = search needs
 loop-again : tie.Need-loop-again Inv-loop μ-loop
 loop-again c =
     let l = c .before .before .before .before .before in
-    let s = l .before .before .before .before in
+    let s = l .before in
     let a = s .args in
     let t = c .before .before .before .before .loop-test .taken in
-    l .loop .inv ∙ number-next (a .first .now) (a .second .now) (a .count) (a .a) (a .b) (s .pre .equal) (s .pre .fits) (l .loop .i) t (c .before .before .if1 .left) (c .if2 .left)
+    l .loop .inv ∙ number-next (a .first .now) (a .second .now) (a .count) (a .a) (a .b) (s .pre .0 .equal) (s .pre .0 .fits) (l .loop .i) t (c .before .before .if1 .left) (c .if2 .left)
 
 returns-3 : tie.Need-returns-3 Inv-loop μ-loop
 returns-3 c =
     let l = c .before in
-    let s = l .before .before .before .before in
+    let s = l .before in
     let a = s .args in
-    (number-ended (a .first .now) (a .second .now) (a .count) (a .a) (a .b) (s .pre .equal) (l .loop .i) (c .loop-test .left) ∙ sym (l .loop .inv), tt)
+    (number-ended (a .first .now) (a .second .now) (a .count) (a .a) (a .b) (s .pre .0 .equal) (l .loop .i) (c .loop-test .left) ∙ sym (l .loop .inv), tt)
 
 pub edge-number-spec : {M : Type 1} → statement M
 edge-number-spec =
@@ -82,7 +78,6 @@ edge-number-spec =
     (tie.spec
     Inv-loop
     μ-loop
-    place-of-requires
     loop-holds
     mul-if1
     shared-slice-read-if1

@@ -8,6 +8,9 @@ use Rattle.groups.proofs.pair_number.Tie as tie
 edge-number-requires : tie.Need-edge-number-requires
 edge-number-requires c κs = search needs
 
+place-of-requires : tie.Need-place-of-requires
+place-of-requires c κs = search needs
+
 edge-number-requires-2 : tie.Need-edge-number-requires-2
 edge-number-requires-2 c κs = search needs
 
@@ -18,9 +21,9 @@ returns c =
 
 returns-2 : tie.Need-returns-2
 returns-2 c =
-    let l = c .before .if1 .left in
+    let l = c .before .before .if1 .left in
     (rw (min-eq-right l, max-eq-left l) (c .edge-number2 .ensures .0), c .edge-number2 .ensures .1)
 
 pub pair-number-spec : {M : Type 1} → statement M
 pair-number-spec =
-    tie.close (tie.spec edge-number-requires edge-number-requires-2 returns returns-2)
+    tie.close (tie.spec edge-number-requires place-of-requires edge-number-requires-2 returns returns-2)
