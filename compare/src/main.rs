@@ -9,6 +9,7 @@ use compare::shrink::{show, shrink};
 use compare::table::{judge, Compared, Judged, COMPARED};
 use std::collections::BTreeMap;
 use std::process::ExitCode;
+use std::time::Instant;
 
 // The sides that are held to the plain reading.
 #[derive(Clone, Copy, PartialEq)]
@@ -105,16 +106,18 @@ fn compare(seed: u64, cases: usize, only: &[String]) -> ExitCode {
     let mut differences = samples();
     #[cfg(rust)]
     if only.is_empty() {
-        differences += compare::vectors::check(std::path::Path::new("compare/vectors"));
+        differences += compare::vectors::check(std::path::Path::new("crates"));
     }
     println!("seed {seed}; the plain reading of document 01 beside the Rust with ordered tables, and beside the C face");
-    println!("{:31}{:>8} | {:>10} {:>7} {:>7} | {:>10} {:>7} {:>7} | answers", "call", "cases", "the Rust", "stated", "differ", "the face", "", "differ");
+    println!("{:31}{:>8} | {:>10} {:>7} {:>7} | {:>10} {:>7} {:>7} | seconds, answers", "call", "cases", "the Rust", "stated", "differ", "the face", "", "differ");
+    let begun = Instant::now();
     for c in COMPARED.iter().filter(|c| only.is_empty() || only.iter().any(|n| n == c.name || c.name[4..] == *n)) {
         let mut answers = BTreeMap::new();
         let cases = cases * c.times;
+        let start = Instant::now();
         let (rust, face) = run(c, seed, cases, &mut answers);
         let told: Vec<String> = answers.iter().map(|(a, n)| format!("{a}:{n}")).collect();
-        println!("{:31}{:>8} | {} | {} | {}", c.name, cases, rust.shown(), face.shown(), told.join(" "));
+        println!("{:31}{:>8} | {} | {} | {:.1} s, {}", c.name, cases, rust.shown(), face.shown(), start.elapsed().as_secs_f64(), told.join(" "));
         rust.explain(c, Beside::Rust);
         face.explain(c, Beside::Face);
         differences += rust.differences + face.differences;
@@ -123,41 +126,51 @@ fn compare(seed: u64, cases: usize, only: &[String]) -> ExitCode {
     if only.is_empty() && cases >= 100_000 {
         differences += compare::large::run();
     }
-    println!("differences: {differences}");
+    println!("differences: {differences}, in {:.0} s", begun.elapsed().as_secs_f64());
     ExitCode::from((differences > 0) as u8)
 }
 
-// How many of the cases show that a side misreads: to the Rust, and to the plain reading of document 01.
+// How a side that misreads differs from the plain reading; one that fails outright shows itself too.
 #[cfg(misread)]
-fn misread(seed: u64, cases: usize) -> ExitCode {
+fn mistaken(c: &Compared, side: &compare::calls::Side, case: &Case) -> Option<(String, Option<compare::case::Outcome>)> {
+    use std::panic::{catch_unwind, AssertUnwindSafe};
+    let Ok(wrong) = catch_unwind(AssertUnwindSafe(|| (c.ask)(side, case))) else { return Some(("it panics".to_string(), None)) };
+    match judge(&(c.ask)(&PLAIN, case), &wrong, false) {
+        Judged::Differs(what) => Some((what, Some(wrong))),
+        _ => None,
+    }
+}
+
+// How many of the cases show that a side misreads: to the Rust, and to the plain reading of document 01. Of those that are named, the smallest input
+// that shows it.
+#[cfg(misread)]
+fn misread(seed: u64, cases: usize, named: &[String]) -> ExitCode {
     use compare::misread::MISREAD;
-    use std::panic::{catch_unwind, set_hook, AssertUnwindSafe};
-    // one that fails outright shows itself too
-    set_hook(Box::new(|_| {}));
+    std::panic::set_hook(Box::new(|_| {}));
     println!("seed {seed}; each misreading of document 01, and how many of {cases} cases of a call show it");
     println!("{:28}{:31}{:>10}{:>10}  what is misread", "misreading", "call", "the Rust", "plain");
-    let mut unseen = 0;
-    for (name, why, side) in MISREAD {
+    let (mut asked, mut unseen) = (0, 0);
+    for (name, why, side) in MISREAD.iter().filter(|m| named.is_empty() || named.iter().any(|n| n == m.0)) {
+        asked += 1;
         let mut seen = false;
         for c in COMPARED {
             let mut r = Rng::new(seed, c.name);
-            let (mut rust, mut plain) = (0, 0);
+            let (mut rust, mut plain, mut first) = (0, 0, None);
             for _ in 0..cases {
                 let case = (c.make)(&mut r);
-                let Ok(wrong) = catch_unwind(AssertUnwindSafe(|| (c.ask)(side, &case))) else {
-                    plain += 1;
-                    continue;
-                };
-                let right = (c.ask)(&PLAIN, &case);
-                if matches!(judge(&right, &wrong, false), Judged::Differs(_)) {
-                    plain += 1;
-                    let beside = c.rust.and_then(|rust| rust(&case));
-                    rust += beside.is_some_and(|b| matches!(judge(&wrong, &b, true), Judged::Differs(_))) as usize;
-                }
+                let Some((_, wrong)) = mistaken(c, side, &case) else { continue };
+                plain += 1;
+                let beside = wrong.and_then(|w| c.rust.and_then(|rust| rust(&case)).map(|b| (w, b)));
+                rust += beside.is_some_and(|(w, b)| matches!(judge(&w, &b, true), Judged::Differs(_))) as usize;
+                first.get_or_insert(case);
             }
             if plain > 0 {
                 println!("{name:28}{:31}{rust:>10}{plain:>10}  {}", c.name, if seen { "" } else { why });
                 seen = true;
+            }
+            if let Some(case) = first.filter(|_| !named.is_empty()) {
+                let small = shrink(case, &|case| mistaken(c, side, case).is_some());
+                println!("  {}: {}\n{}", c.name, mistaken(c, side, &small).unwrap().0, show(&small));
             }
         }
         if !seen {
@@ -165,12 +178,12 @@ fn misread(seed: u64, cases: usize) -> ExitCode {
             unseen += 1;
         }
     }
-    println!("misreadings: {}, not seen: {unseen}", MISREAD.len());
-    ExitCode::from((unseen > 0) as u8)
+    println!("misreadings: {asked}, not seen: {unseen}");
+    ExitCode::from((unseen > 0 || asked == 0) as u8)
 }
 
 #[cfg(not(misread))]
-fn misread(_: u64, _: usize) -> ExitCode {
+fn misread(_: u64, _: usize, _: &[String]) -> ExitCode {
     println!("built without the misreadings: use compare/run misread");
     ExitCode::FAILURE
 }
@@ -182,7 +195,7 @@ fn main() -> ExitCode {
         return ExitCode::SUCCESS;
     }
     if arguments.first().is_some_and(|a| a == "misread") {
-        return misread(1, arguments.get(1).map_or(3_000, |n| n.parse().expect("a number")));
+        return misread(1, arguments.get(1).map_or(3_000, |n| n.parse().expect("a number")), arguments.get(2..).unwrap_or(&[]));
     }
     #[cfg(rust)]
     if arguments.first().is_some_and(|a| a == "partings") {
@@ -191,7 +204,7 @@ fn main() -> ExitCode {
     }
     #[cfg(rust)]
     if arguments.first().is_some_and(|a| a == "vectors") {
-        let folder = arguments.get(1).map_or("compare/vectors", |s| s);
+        let folder = arguments.get(1).map_or("crates", |s| s);
         compare::vectors::write(std::path::Path::new(folder)).expect("a folder to write to");
         return ExitCode::SUCCESS;
     }

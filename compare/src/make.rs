@@ -510,7 +510,8 @@ pub fn for_batch(r: &mut Rng) -> Case {
     if stored.is_empty() {
         pool.extend(clump(r));
     }
-    let n = r.pick(&[0, 1, 3, 10, 40, 120]);
+    // one in a hundred comes back to its keys a thousand times and more
+    let n = if r.one_in(100) { 1_000 + r.below(2_000) } else { r.pick(&[0, 1, 3, 10, 40, 120]) };
     for _ in 0..n {
         c.batch_keys.push(r.pick(&pool));
         c.batch_distances.push(reading(r, &c));

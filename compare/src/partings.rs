@@ -11,6 +11,7 @@ use crate::ordered::Index64;
 use crate::rng::Rng;
 use crate::shrink::{show, shrink};
 use crate::table::{judge, Judged, COMPARED};
+use std::collections::BTreeSet;
 use std::panic::{catch_unwind, set_hook, AssertUnwindSafe};
 
 fn said<T: std::fmt::Debug>(what: &str, run: impl FnOnce() -> T) {
@@ -76,6 +77,24 @@ pub fn print() {
         }
     }
 
+    let two = Case {
+        settings: [1.0, 1.0, 1.0, 0.0],
+        keys: vec![key(0, 2, 0).raw(), key(4, 2, 0).raw()],
+        distances: vec![1.0, -0.0],
+        weights: vec![1.0; 2],
+        count: 2,
+        reals: [2.0, 0.0, 0.0, 0.0, 0.0],
+        ..Case::default()
+    };
+    let at = key(1, 1, 1).raw();
+    let signs: BTreeSet<u32> = (0..200).flat_map(|_| hashed_march(&two)).filter(|row| row.0 == at).map(|row| row.1).collect();
+    println!("rows (0,2,0) at 1 and (4,2,0) at -0, threshold 2, maximum distance 0: in 200 runs (1,1,1) got {signs:x?}");
+
+    println!("-- header bits: heads other than 8000 to BFFF");
+    said("Index64::new(0, 0, 0, 0, 0, 0); here head 0 gives key 0", || format!("{:x}", key(0, 0, 0).raw()));
+    said("Index64::from_value(0) is an error", || Index64::from_value(0).is_err());
+    said("the first neighbour of key 0, made without that test; here 7", || format!("{:x}", neighbors_index64(Index64 { value: 0 })[0].raw()));
+
     println!("-- what document 01 refuses: the Rust's own answer");
     said("snap (i32::MAX, 0, 0), refused 9", || snap_to_nearest_bcc(i32::MAX, 0, 0));
     said("snap (i32::MIN, 1, 0), refused 9", || snap_to_nearest_bcc(i32::MIN, 1, 0));
@@ -90,6 +109,8 @@ pub fn print() {
         }
         (l.get_distance(key(10, 10, 10)), l.get_weight(key(10, 10, 10)))
     };
+    said("the root of -1 and of a NaN, refused 5", || ((-1.0f32).sqrt(), f32::NAN.sqrt()));
+    said("a question about a key off the lattice, (1, 0, 0), refused 4", || TSDFLayer::with_params(1.0, 100.0, 1.0).get_distance(key(1, 0, 0)));
     said("reading NaN, refused 5", || fused(1.0, 100.0, &[(f32::NAN, 1.0)]));
     said("confidence 2, refused 5", || fused(1.0, 100.0, &[(0.5, 2.0)]));
     said("confidence -1, refused 5", || fused(1.0, 100.0, &[(0.5, -1.0)]));
@@ -97,12 +118,16 @@ pub fn print() {
     said("truncation NaN, reading 0, refused 1", || fused(f32::NAN, 100.0, &[(0.0, 1.0)]));
     said("maximum weight 1e-38, truncation 10, reading 10 twice, refused 7", || fused(10.0, 1e-38, &[(10.0, 1.0), (10.0, 1.0)]));
     said("maximum weight 1, reading 0.5 twice (the capped weight divides; the head comment's formula gives 0.5)", || fused(1.0, 1.0, &[(0.5, 1.0), (0.5, 1.0)]));
-    said("maximum distance -1, a march of one row 0, refused 1", || {
+    said("maximum weight 0, reading 0.5, refused 1", || fused(1.0, 0.0, &[(0.5, 1.0)]));
+    let marched = |max_distance: f32, threshold: f32| {
         let mut l = TSDFLayer::with_params(1.0, 100.0, 1.0);
         l.update_from_depth(key(10, 10, 10), 0.0, 1.0).unwrap();
-        let mut e = ESDFLayer::new(1.0, -1.0);
-        e.compute_from_tsdf(&l, 0.5).map(|()| e.voxels.len())
-    });
+        let mut e = ESDFLayer::new(1.0, max_distance);
+        e.compute_from_tsdf(&l, threshold).map(|()| e.voxels.len())
+    };
+    said("maximum distance -1, a march of one row 0, refused 1", || marched(-1.0, 0.5));
+    said("maximum distance -0, a march of one row 0, refused 1: rows", || marched(-0.0, 0.5));
+    said("threshold NaN, a march of one row 0, refused 5: rows", || marched(1.0, f32::NAN));
     said("area of a triangle (0, 0, 1) over one vertex, refused 10", || {
         let mut m = Mesh::new();
         m.add_vertex(Vertex::new(0.0, 0.0, 0.0));
@@ -163,5 +188,5 @@ pub fn print() {
     said("neighbours of (0,0,0): the axial one is among the first eight places, so the march takes the root of 3 for it", || {
         neighbors_index64(key(0, 0, 0)).iter().map(|k| k.decode_coords()).collect::<Vec<_>>()
     });
-    said("a key with header bits 00 is no Index64 of the Rust's", || Index64::from_value(0).is_err());
+    said("one marched row -1, threshold -2: free space, though its comment asks for a positive distance", || esdf(&[(key(10, 10, 10), -1.0)]).is_free_space(key(10, 10, 10), -2.0));
 }

@@ -1,5 +1,5 @@
 // Vectors: the Rust's answers to a fixed small sample of cases, as lines of text that a program without a heap can read.
-// Every answer is the Rust's own, on document 01's domain; compare/vectors/README.md has the format.
+// Every answer is the Rust's own, on document 01's domain; compare/VECTORS.md has the format.
 use crate::beside::{self, updated};
 use crate::case::{Case, Outcome};
 use crate::make;
@@ -93,7 +93,7 @@ fn keys(seed: u64) -> String {
 
 fn neighbors(seed: u64) -> String {
     let mut t = String::new();
-    for (c, o) in cases("akf_neighbors_index64", seed, 200, |_, o| done(o), |c| c.rooms = vec![14]) {
+    for (c, o) in cases("akf_neighbors_index64", seed, 150, |_, o| done(o), |c| c.rooms = vec![14]) {
         let n = o.numbers[0].1 as usize;
         line(&mut t, 'A', &[vec![c.key, n as u64], o.lists[0].1[..n].to_vec()].concat());
     }
@@ -218,8 +218,10 @@ fn esdf(seed: u64) -> String {
 
 fn mesh(seed: u64) -> String {
     let mut t = String::new();
-    let small = |_: &Case, o: &Outcome| done(o) && o.numbers[0].1 > 0 && o.numbers[0].1 <= 12;
-    for (c, o) in cases("akf_extract_mesh_from_tsdf", seed, 40, small, few(7)) {
+    let small = |_: &Case, o: &Outcome| done(o) && (1..=12).contains(&o.numbers[0].1) && o.numbers[1].1 <= 16;
+    let with_triangles = |c: &Case, o: &Outcome| small(c, o) && o.numbers[1].1 > 0;
+    let call = "akf_extract_mesh_from_tsdf";
+    for (c, o) in cases(call, seed, 15, small, few(7)).into_iter().chain(cases(call, seed + 1, 30, with_triangles, few(8))) {
         table(&mut t, &c);
         let (edges, triangles) = (o.numbers[0].1 as usize, o.numbers[1].1 as usize);
         line(&mut t, 'H', &numbers(&o));
@@ -255,39 +257,47 @@ fn root(seed: u64) -> String {
     t
 }
 
-const FILES: [(&str, fn(u64) -> String); 8] = [
-    ("ids", keys),
-    ("neighbors", neighbors),
-    ("root", root),
-    ("bcc_utils", bcc_utils),
-    ("tsdf", tsdf),
-    ("edges", edges),
-    ("esdf", esdf),
-    ("mesh", mesh),
+// The programs that replay them, and what each is handed.
+const PROGRAMS: [(&str, &[fn(u64) -> String]); 4] = [
+    ("key_vectors", &[keys, neighbors, root, bcc_utils]),
+    ("field_vectors", &[tsdf, edges]),
+    ("march_vectors", &[esdf]),
+    ("mesh_vectors", &[mesh]),
 ];
 const SEED: u64 = 1;
+// what a program reads
+const LONGEST: usize = 65_536;
 
-pub fn write(folder: &Path) -> std::io::Result<()> {
-    std::fs::create_dir_all(folder)?;
-    for (name, make) in FILES {
-        let text = make(SEED);
-        println!("{name}.txt: {} lines, {} bytes", text.lines().count(), text.len());
-        std::fs::write(folder.join(format!("{name}.txt")), text)?;
+// A program's standard input, and what it prints where every answer comes out again.
+fn files(parts: &[fn(u64) -> String]) -> [(&'static str, String); 2] {
+    let lines: String = parts.iter().map(|make| make(SEED)).collect();
+    assert!(lines.len() <= LONGEST, "{} bytes are more than a program reads", lines.len());
+    let asked = lines.lines().filter(|l| !l.starts_with(['S', 'R'])).count();
+    [("stdin", lines), ("stdout", format!("answers of the Rust {asked}, given again {asked}\n"))]
+}
+
+pub fn write(crates: &Path) -> std::io::Result<()> {
+    for (program, parts) in PROGRAMS {
+        std::fs::create_dir_all(crates.join(program))?;
+        for (name, text) in files(parts) {
+            println!("{program}/{name}: {} lines, {} bytes", text.lines().count(), text.len());
+            std::fs::write(crates.join(program).join(name), text)?;
+        }
     }
     Ok(())
 }
 
 // How many of the stored files are not what the Rust gives today.
-pub fn check(folder: &Path) -> usize {
-    let stale = |(name, make): &(&str, fn(u64) -> String)| {
-        let stored = std::fs::read_to_string(folder.join(format!("{name}.txt"))).unwrap_or_default();
-        let differs = stored != make(SEED);
-        if differs {
-            println!("  {name}.txt is not what compare/run vectors writes");
+pub fn check(crates: &Path) -> usize {
+    let mut differ = 0;
+    for (program, parts) in PROGRAMS {
+        for (name, text) in files(parts) {
+            if std::fs::read_to_string(crates.join(program).join(name)).unwrap_or_default() != text {
+                println!("  crates/{program}/{name} is not what compare/run vectors writes");
+                differ += 1;
+            }
         }
-        differs
-    };
-    let differ = FILES.iter().filter(|f| stale(f)).count();
-    println!("vectors: {} files, {differ} differ", FILES.len());
+    }
+    println!("vectors: {} programs, {differ} files differ", PROGRAMS.len());
     differ
 }

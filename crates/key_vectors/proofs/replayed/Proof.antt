@@ -1,0 +1,52 @@
+-- `key_vectors::replayed` is safe and ends: each line leaves fewer bytes. Assumes nothing.
+use Prim.Native.Nat.{_-_}
+use lib.ListN.{length}
+use native.Mathlib.Omega.{arith}
+use borrow.Author.Needs.{needs}
+use Rattle.key_vectors.proofs.replayed.Statement.{statement}
+use Rattle.key_vectors.proofs.replayed.Tie as tie
+
+abbrev Inv-loop : tie.InvT-loop
+Inv-loop bytes score₀ place₀ score place = Unit {0}
+
+abbrev μ-loop : tie.MeasureT-loop
+μ-loop bytes score₀ place₀ score place = length bytes - place
+
+unscored-requires : tie.Need-unscored-requires Inv-loop μ-loop
+unscored-requires c κs = search needs
+
+loop-holds : tie.Need-loop-holds Inv-loop μ-loop
+loop-holds c = tt
+
+line-from-requires : tie.Need-line-from-requires Inv-loop μ-loop
+line-from-requires c κs = search needs
+
+again-requires : tie.Need-again-requires Inv-loop μ-loop
+again-requires c κs = search needs
+
+scored-requires : tie.Need-scored-requires Inv-loop μ-loop
+scored-requires c κs = search needs
+
+loop-less : tie.Need-loop-less Inv-loop μ-loop
+loop-less c = omega (arith, c .before .before .before .line-from .ensures (omega arith))
+
+loop-again : tie.Need-loop-again Inv-loop μ-loop
+loop-again c = tt
+
+returns : tie.Need-returns Inv-loop μ-loop
+returns c = search needs
+
+pub replayed-spec : {M : Type 1} → statement M
+replayed-spec =
+    tie.close
+    (tie.spec
+    Inv-loop
+    μ-loop
+    unscored-requires
+    loop-holds
+    line-from-requires
+    again-requires
+    scored-requires
+    loop-less
+    loop-again
+    returns)

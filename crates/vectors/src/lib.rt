@@ -1,0 +1,239 @@
+// Stored answers of the Rust, as lines of text: a letter, then words in hexadecimal, a space before each (compare/VECTORS.md).
+// What the programs that replay them share: a line out of the bytes, a field out of lines, and the score.
+use floats::Metres;
+use table::Settings;
+ghost use mathlib.Core.Path.{_≡_};
+ghost use mathlib.Core.Bool.{false};
+ghost use Prim.Native.Nat.{_≤_, _<_, _%_, _/_};
+ghost use lib.Dec.{eqb};
+ghost use lib.ListN.{length};
+
+// A line as far as it was read: its letter, 0 before it, and its words.
+pub struct Line {
+    pub letter: u8,
+    pub words: [u64; 16],
+    pub count: usize,
+}
+
+// A line, and the place where the next one begins.
+pub struct Taken {
+    pub line: Line,
+    pub next: usize,
+}
+
+// A fused table or a marched one, under its settings.
+pub struct Field {
+    pub settings: Settings,
+    pub keys: [u64; 32],
+    pub distances: [f32; 32],
+    pub weights: [f32; 32],
+    pub rows: usize,
+}
+
+// How many answers were asked for, and how many came out again.
+pub struct Score {
+    pub asked: u64,
+    pub again: u64,
+}
+
+fn blank() -> Line {
+    Line {
+        letter: 0,
+        words: [0; 16],
+        count: 0,
+    }
+}
+
+// A digit's value; 0 for another byte.
+fn digit(byte: u8) -> u64 {
+    if byte >= b'a' {
+        if byte <= b'f' {
+            return (byte - b'a') as u64 + 10;
+        }
+    }
+    if byte >= b'0' {
+        if byte <= b'9' {
+            return (byte - b'0') as u64;
+        }
+    }
+    0
+}
+
+// The line with one byte more: its letter, a space before a word, or a digit.
+fn longer(line: Line, byte: u8) -> Line {
+    let mut words = line.words;
+    let count = line.count;
+    if line.letter == 0 {
+        return Line {
+            letter: byte,
+            words: words,
+            count: 0,
+        };
+    }
+    if byte == b' ' {
+        if count < 16 {
+            words[count] = 0;
+            return Line {
+                letter: line.letter,
+                words: words,
+                count: count + 1,
+            };
+        }
+        return line;
+    }
+    if count > 0 {
+        if count <= 16 {
+            let at = count - 1;
+            words[at] = (words[at] << 4) | digit(byte);
+        }
+    }
+    Line {
+        letter: line.letter,
+        words: words,
+        count: count,
+    }
+}
+
+// The line that begins at a place.
+pub fn line_from(bytes: &[u8], start: usize) -> Taken
+    ensures { λ r. ⌜ (start < length (now (bytes .entry)) → start < r .next) ⌝ }
+{
+    let mut line = blank();
+    let mut i = start;
+    while i < bytes.len() {
+        let byte = bytes[i];
+        i += 1;
+        if byte == b'\n' {
+            return Taken {
+                line: line,
+                next: i,
+            };
+        }
+        line = longer(line, byte);
+    }
+    Taken {
+        line: line,
+        next: i,
+    }
+}
+
+pub fn low16(word: u64) -> u16 {
+    (word % 0x1_0000) as u16
+}
+
+// -size
+fn minus(size: u64) -> i32
+    requires { ⌜ size ≤ 0x8000_0000 ⌝ }
+{
+    (0 - (size as i64)) as i32
+}
+
+// The i32 of 32 bits.
+pub fn signed(word: u64) -> i32 {
+    let low = word % 0x1_0000_0000;
+    if low < 0x8000_0000 {
+        low as i32
+    } else {
+        minus(0x1_0000_0000 - low)
+    }
+}
+
+// The f32 of a pattern that is no NaN's.
+fn float_of(bits: u32) -> f32
+    requires { ⌜ eqb (bits % 0x8000_0000 / 0x80_0000) 255 ≡ false ⌝ }
+{
+    f32::from_bits(bits)
+}
+
+// The f32 of 32 bits; 0 for those of an infinity or a NaN, of which no vector has one.
+pub fn float(word: u64) -> f32 {
+    let bits = (word % 0x1_0000_0000) as u32;
+    if bits % 0x8000_0000 / 0x80_0000 == 255 {
+        0.0
+    } else {
+        float_of(bits)
+    }
+}
+
+// The same float, zeros by their sign too.
+pub fn same(a: f32, b: f32) -> bool {
+    (a == b) & (floats::sign(a) == floats::sign(b))
+}
+
+// A field without rows, under the settings of a line.
+pub fn empty(words: [u64; 16]) -> Field {
+    let settings = Settings {
+        truncation: Metres(float(words[0])),
+        max_weight: float(words[1]),
+        voxel_size: Metres(float(words[2])),
+        max_distance: Metres(float(words[3])),
+    };
+    Field {
+        settings: settings,
+        keys: [0; 32],
+        distances: [0.0; 32],
+        weights: [0.0; 32],
+        rows: 0,
+    }
+}
+
+// One row more.
+fn with_row(field: Field, words: [u64; 16]) -> Field {
+    let settings = field.settings;
+    let mut keys = field.keys;
+    let mut distances = field.distances;
+    let mut weights = field.weights;
+    let rows = field.rows;
+    if rows < 32 {
+        keys[rows] = words[0];
+        distances[rows] = float(words[1]);
+        weights[rows] = float(words[2]);
+        return Field {
+            settings: settings,
+            keys: keys,
+            distances: distances,
+            weights: weights,
+            rows: rows + 1,
+        };
+    }
+    field
+}
+
+// The field after a line of settings or of a row; any other leaves it.
+pub fn field_after(field: Field, line: Line) -> Field {
+    let words = line.words;
+    let letter = line.letter;
+    match letter {
+        b'S' => empty(words),
+        b'R' => with_row(field, words),
+        _ => field,
+    }
+}
+
+pub fn unscored() -> Score {
+    Score { asked: 0, again: 0 }
+}
+
+// The score after a line: settings and rows ask for nothing.
+pub fn scored(score: Score, letter: u8, good: bool) -> Score {
+    if letter == b'S' {
+        return score;
+    }
+    if letter == b'R' {
+        return score;
+    }
+    let one = if good { 1 } else { 0 };
+    Score {
+        asked: std::num::wrapping_add_u64(score.asked, 1),
+        again: std::num::wrapping_add_u64(score.again, one),
+    }
+}
+
+// What a program prints.
+pub fn say(score: Score) {
+    io::write_all(1, b"answers of the Rust ");
+    io::print_decimal(1, score.asked);
+    io::write_all(1, b", given again ");
+    io::print_decimal(1, score.again);
+    io::write_all(1, b"\n");
+}
