@@ -1,1 +1,4 @@
 pub mod ReadingLaws
+pub mod LongLines
+pub mod Determined
+pub mod Samples

@@ -1,6 +1,6 @@
 -- The lines that `lastcheck` reads: bytes without the newline. Places are counted from 0; past the end stands 0, which no good line has.
 use Prim.Native.Nat.{ℕ, zero, suc, _+_, _-_, _*_}
-use mathlib.Core.Bool.{Bool, cond, _&&_}
+use mathlib.Core.Bool.{cond, _&&_}
 use mathlib.Core.List.{List}
 use lib.ListN.{length, getD}
 use lib.Dec.{leb, ltb, eqb}

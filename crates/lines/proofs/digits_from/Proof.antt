@@ -1,10 +1,10 @@
 -- `lines::digits_from` meets its contract. The loop's invariant: the digits that are left, after those read, say what all say.
 -- Assumes nothing.
-use Prim.Native.Nat.{_+_, _-_, _*_, _^_, _<_, _≤_}
+use Prim.Native.Nat.{_+_, _-_, _^_, _<_, _≤_}
 use native.Mathlib.Nat.{add-zero}
 use native.Mathlib.Numerals.{add-one}
 use native.Mathlib.Omega.{arith}
-use mathlib.Core.Path.{_≡_, refl, sym, ap, _∙_}
+use mathlib.Core.Path.{_≡_, sym, ap, _∙_}
 use lib.Dec.{lit<}
 use borrow.Author.Needs.{needs}
 use Rattle.lines.specs.Lines.{digitValue, digitsFrom}

@@ -1,6 +1,6 @@
 -- `lines::line_of` meets its contract.
 -- Assumes nothing.
-use mathlib.Core.Path.{_≡_, sym, _∙_}
+use mathlib.Core.Path.{sym, _∙_}
 use borrow.Author.Needs.{needs}
 use Rattle.lines.proofs.ReadingLaws.{settings-line, reading-line, mesh-line, long-line, no-line}
 use Rattle.lines.proofs.line_of.Statement.{statement}
