@@ -1,1 +1,3 @@
 pub mod WritingLaws
+pub mod Determined
+pub mod Samples

@@ -1,16 +1,16 @@
 -- Laws of texts written one after the other, and of their digits.
 -- Assumes nothing.
-use Prim.Native.Nat.{ℕ, zero, suc, _+_, _-_, _*_, _/_, _%_, _^_, _<_, _≤_}
+use Prim.Native.Nat.{ℕ, zero, suc, _+_, _-_, _/_, _%_, _^_, _<_, _≤_}
 use native.Mathlib.Nat.{zero-add, pow-suc}
 use native.Mathlib.Numerals.{add-one}
 use native.Mathlib.Omega.{arith}
 use mathlib.Core.Path.{_≡_, refl, sym, ap, subst, _∙_}
-use mathlib.Core.Bool.{true, false}
+use mathlib.Core.Bool.{true}
 use mathlib.Core.List.{List, [], _∷_, _++_}
 use lib.ListN.{length, getD, set, take, drop, length-append, length-set, length-drop}
 use lib.Seq.{sets, set-out, length-sets, length-take-le, take-suc, take-all, drop-cons, drop-set-lt, getD-set-same}
-use lib.Dec.{T, ltb}
-use lib.Ieee.{Float, nan, inf, fin, isNan, ne, toBits, binary32}
+use lib.Dec.{T}
+use lib.Ieee.{Float, ne, toBits, binary32}
 use lib.Ieee.Compare.{differs-from-itself}
 use borrow.Author.Tests.{lt-ltb, le-ltb}
 use Rattle.lists.proofs.Writing.{sets-append}

@@ -1,7 +1,7 @@
 -- `texts::bad_line` meets its contract, part by part.
 -- Assumes nothing.
 use Rattle.texts.specs.Texts.{badLine}
-use Rattle.texts.proofs.WritingLaws.{more, whole, wrote-length}
+use Rattle.texts.proofs.WritingLaws.{more, whole}
 use borrow.Author.Needs.{needs}
 use Rattle.texts.proofs.bad_line.Statement.{statement}
 use Rattle.texts.proofs.bad_line.Tie as tie

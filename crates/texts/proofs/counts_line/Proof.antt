@@ -1,7 +1,7 @@
 -- `texts::counts_line` meets its contract, part by part.
 -- Assumes nothing.
 use Rattle.texts.specs.Texts.{countsLine}
-use Rattle.texts.proofs.WritingLaws.{more, whole, wrote-length}
+use Rattle.texts.proofs.WritingLaws.{more, whole}
 use borrow.Author.Needs.{needs}
 use Rattle.texts.proofs.counts_line.Statement.{statement}
 use Rattle.texts.proofs.counts_line.Tie as tie

@@ -1,9 +1,9 @@
 -- `texts::put_decimal` meets its contract. The loop's invariant: the digits put in stand behind those that are left.
 -- Assumes nothing.
-use Prim.Native.Nat.{suc, _+_, _-_, _≤_, _<_, _^_}
-use mathlib.Core.Path.{_≡_, refl, sym, ap, _∙_}
+use Prim.Native.Nat.{suc, _-_, _<_, _^_}
+use mathlib.Core.Path.{_≡_, refl}
 use native.Mathlib.Omega.{arith}
-use lib.ListN.{length, drop, length-set, length-drop}
+use lib.ListN.{length, drop, length-set}
 use Rattle.texts.specs.Texts.{decimal, decimalFrom}
 use Rattle.texts.proofs.WritingLaws.{digit-again, digits-wrote, two-digits}
 use borrow.Author.Needs.{needs}

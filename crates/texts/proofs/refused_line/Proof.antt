@@ -1,7 +1,7 @@
 -- `texts::refused_line` meets its contract, part by part.
 -- Assumes nothing.
 use Rattle.texts.specs.Texts.{refusedLine}
-use Rattle.texts.proofs.WritingLaws.{more, whole, wrote-length}
+use Rattle.texts.proofs.WritingLaws.{more, whole}
 use borrow.Author.Needs.{needs}
 use Rattle.texts.proofs.refused_line.Statement.{statement}
 use Rattle.texts.proofs.refused_line.Tie as tie
