@@ -1,0 +1,2 @@
+pub mod Lastcheck
+pub mod Steps
