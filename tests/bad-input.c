@@ -1,5 +1,8 @@
-/* bad-input.c: what a host can get wrong, each with a clear answer: null pointers with length 0, lengths that differ, counts
- * past lengths, lists longer than the limits, NaNs everywhere. A refused list is zero throughout, and numbers handed back are 0. */
+/* bad-input.c: what a host can get wrong, each with a clear answer, by every call that it concerns: null pointers with length 0,
+ * lengths that differ, counts past lengths, lists longer than the limits, NaNs and infinities everywhere.
+ *
+ * All that calls are lent stands in one place. Each case makes it good, where every call answers AKF_DONE, spoils one thing, and asks
+ * the calls that take it: the answer's number is as said, numbers handed back are 0, and lists that are written are zero throughout. */
 #include "akfelzun.h"
 
 #include <math.h>
@@ -7,225 +10,359 @@
 #include <stdlib.h>
 #include <string.h>
 
-enum { TABLE_LIMIT = 65536, LIST_LIMIT = 1048576 };
+enum { TABLE_LIMIT = 65536, LIST_LIMIT = 1048576, ROOM = 128, ROWS = 3 };
 
 static int asked, wrong;
 
-static void expect(int holds, const char *what, int line) {
+static void expect(int holds, const char *what, const char *call, const char *spoilt) {
     asked++;
     if (!holds) {
         wrong++;
-        printf("bad-input.c:%d: %s\n", line, what);
+        printf("bad-input: %s: %s: %s\n", call, spoilt, what);
     }
 }
-#define EXPECT(e) expect((e), #e, __LINE__)
 
-#define SETTINGS 1.0f, 100.0f, 1.0f, 10.0f
-#define NO_TABLE NULL, 0, NULL, 0, NULL, 0
+/* ---- what is lent */
 
-/* numbers that a call hands back start as these */
-static size_t n, m, k;
-static float f[6];
-static uint32_t yes;
-static void spoil(void) {
-    n = m = k = 77;
-    yes = 77;
-    for (int i = 0; i < 6; i++) f[i] = 77.0f;
+enum {
+    KEYS, DISTANCES, WEIGHTS,
+    BATCH_KEYS, BATCH_DISTANCES, BATCH_CONFIDENCES,
+    MARCHED_KEYS, MARCHED_DISTANCES,
+    OUT,
+    FIRST, SECOND,
+    OUT_KEYS, OUT_DISTANCES,
+    ROW_KEYS, ROW_DISTANCES,
+    WAITING_ESTIMATES, WAITING_KEYS,
+    PX, PY, PZ, NX, NY, NZ,
+    GROUPS,
+    T0, T1, T2,
+    LISTS
+};
+
+/* lists that are lent together, and have one length */
+enum { TABLE, BATCH, MARCHED, SINGLE, EDGES, WITHIN, MARCH, WAITING, VERTICES, NORMALS, GROUP, TRIANGLES, SETS };
+static const struct {
+    const char *name;
+    int from, to;
+    size_t limit;
+} set[SETS] = {
+    {"the table", KEYS, WEIGHTS, TABLE_LIMIT},
+    {"the batch", BATCH_KEYS, BATCH_CONFIDENCES, TABLE_LIMIT},
+    {"the marched table", MARCHED_KEYS, MARCHED_DISTANCES, LIST_LIMIT},
+    {"the list", OUT, OUT, LIST_LIMIT},
+    {"the edges", FIRST, SECOND, LIST_LIMIT},
+    {"the cells within", OUT_KEYS, OUT_DISTANCES, LIST_LIMIT},
+    {"the march's rows", ROW_KEYS, ROW_DISTANCES, LIST_LIMIT},
+    {"the waiting cells", WAITING_ESTIMATES, WAITING_KEYS, LIST_LIMIT},
+    {"the vertices", PX, PZ, LIST_LIMIT},
+    {"the normals", NX, NZ, LIST_LIMIT},
+    {"the groups", GROUPS, GROUPS, LIST_LIMIT},
+    {"the triangles", T0, T2, LIST_LIMIT},
+};
+#define IN(s) (1u << (s))
+
+/* how many bytes an element of a list has */
+static size_t unit(int l) {
+    int wide = l == KEYS || l == BATCH_KEYS || l == MARCHED_KEYS || l == OUT || l == FIRST || l == SECOND || l == OUT_KEYS ||
+               l == ROW_KEYS || l == WAITING_KEYS;
+    return wide ? 8 : 4;
 }
 
-static int zeros(const void *list, size_t bytes) {
-    const unsigned char *b = list;
+static void *list[LISTS];
+static size_t len[LISTS], count, marched, edges, vertices, triangles;
+static float settings[4], reading, confidence, depth, sensor[3], threshold, position[3], size;
+static uint64_t cell[ROWS];
+
+/* what is handed back */
+static size_t n[3];
+static float f[6];
+static uint32_t yes;
+static int32_t snapped[3];
+
+static float *floats(int l) { return list[l]; }
+
+static void lend(int l, size_t places) {
+    free(list[l]);
+    list[l] = malloc(places * unit(l) + 1);
+    if (!list[l]) abort();
+    memset(list[l], 0x41, places * unit(l));
+    len[l] = places;
+}
+
+static void fill_floats(int l, float a, float b, float c) {
+    float *x = list[l];
+    x[0] = a, x[1] = b, x[2] = c;
+}
+
+static void fill_keys(int l) { memcpy(list[l], cell, sizeof cell); }
+
+static void good(void) {
+    static const float usual[4] = {1.0f, 100.0f, 1.0f, 2.0f};
+    memcpy(settings, usual, sizeof usual);
+    for (int i = 0; i < ROWS; i++) akf_index64_new(0, 10 + i, 10 + i, 10 + i, &cell[i]);
+    for (int l = 0; l < LISTS; l++)
+        if (len[l] != ROOM) lend(l, ROOM);
+    fill_keys(KEYS), fill_keys(BATCH_KEYS), fill_keys(MARCHED_KEYS);
+    fill_floats(DISTANCES, 0.5f, -0.5f, 0.5f), fill_floats(WEIGHTS, 1.0f, 1.0f, 1.0f);
+    for (int i = 0; i < ROOM; i++) { /* a batch is as long as its lists */
+        ((uint64_t *)list[BATCH_KEYS])[i] = cell[i % ROWS];
+        floats(BATCH_DISTANCES)[i] = 0.25f, floats(BATCH_CONFIDENCES)[i] = 0.5f;
+    }
+    fill_floats(MARCHED_DISTANCES, 0.5f, 1.0f, 1.5f);
+    memcpy(list[FIRST], cell, 16), memcpy(list[SECOND], cell + 1, 16);
+    static const uint32_t groups[4] = {0, 0, 1, 1}, corner[3] = {0, 1, 2};
+    memcpy(list[GROUPS], groups, sizeof groups);
+    for (int i = 0; i < 3; i++) {
+        memcpy(list[T0 + i], &corner[i], 4);
+        fill_floats(PX + i, 1.0f, 2.0f, i == 0 ? 4.0f : 3.0f), fill_floats(NX + i, 0.0f, 0.0f, 1.0f);
+    }
+    count = marched = vertices = ROWS, edges = 2, triangles = 1;
+    reading = 0.25f, confidence = 0.5f, depth = 1.0f, threshold = 1.0f, size = 1.0f;
+    for (int i = 0; i < 3; i++) sensor[i] = 11.0f, position[i] = 3.0f;
+}
+
+/* ---- the calls */
+
+static int zeros(const void *at, size_t bytes) {
+    const unsigned char *b = at;
     for (size_t i = 0; i < bytes; i++)
         if (b[i]) return 0;
     return 1;
 }
 
-static void *junk(size_t bytes) {
-    void *p = malloc(bytes);
-    if (!p) abort();
-    memset(p, 0x41, bytes);
-    return p;
+/* an answer; 99 in its place where it is no AKF_DONE and one of the numbers handed back (so many counts, lengths, yes or no) is not 0 */
+static uint32_t back(uint32_t answer, int counts, int lengths, int yesno) {
+    if (answer == AKF_DONE) return answer;
+    return zeros(n, counts * sizeof *n) && zeros(f, lengths * sizeof *f) && (!yesno || !yes) ? answer : 99;
 }
 
-static uint64_t key_of(uint16_t x, uint16_t y, uint16_t z) {
-    uint64_t key;
-    EXPECT(akf_index64_new(0, x, y, z, &key) == AKF_DONE);
-    return key;
+#define U64(l) (uint64_t *)list[l], len[l]
+#define F32(l) (float *)list[l], len[l]
+#define U32(l) (uint32_t *)list[l], len[l]
+#define THE_SETTINGS settings[0], settings[1], settings[2], settings[3]
+#define THE_TABLE U64(KEYS), F32(DISTANCES), F32(WEIGHTS)
+#define THE_MARCHED U64(MARCHED_KEYS), F32(MARCHED_DISTANCES), marched
+
+static uint32_t neighbors(void) { return back(akf_neighbors_index64(cell[1], U64(OUT), n), 1, 0, 0); }
+static uint32_t fuse(void) { return akf_update_from_depth(THE_SETTINGS, THE_TABLE, &count, cell[1], reading, confidence); }
+static uint32_t fuse_ray(void) {
+    return akf_update_from_depth_ray(THE_SETTINGS, THE_TABLE, &count, cell[1], sensor[0], sensor[1], sensor[2], depth, confidence);
+}
+static uint32_t batch(void) {
+    return akf_batch_update(THE_SETTINGS, THE_TABLE, &count, U64(BATCH_KEYS), F32(BATCH_DISTANCES), F32(BATCH_CONFIDENCES), n);
+}
+static uint32_t tsdf_distance(void) { return back(akf_tsdf_get_distance(THE_SETTINGS, THE_TABLE, count, cell[1], f), 0, 1, 0); }
+static uint32_t tsdf_weight(void) { return back(akf_tsdf_get_weight(THE_SETTINGS, THE_TABLE, count, cell[1], f), 0, 1, 0); }
+static uint32_t surface(void) { return back(akf_is_surface_voxel(THE_SETTINGS, THE_TABLE, count, cell[1], threshold, &yes), 0, 0, 1); }
+static uint32_t tsdf_stats(void) { return back(akf_tsdf_stats(THE_SETTINGS, THE_TABLE, count, n, n + 1, f, f + 1, f + 2), 2, 3, 0); }
+static uint32_t surface_list(void) { return back(akf_get_surface_voxels(THE_SETTINGS, THE_TABLE, count, threshold, U64(OUT), n), 1, 0, 0); }
+static uint32_t edge_list(void) { return back(akf_get_zero_crossing_edges(THE_SETTINGS, THE_TABLE, count, U64(FIRST), U64(SECOND), n), 1, 0, 0); }
+static uint32_t march(void) {
+    return back(akf_compute_from_tsdf(THE_SETTINGS, THE_TABLE, count, threshold, U64(ROW_KEYS), F32(ROW_DISTANCES),
+                                      F32(WAITING_ESTIMATES), U64(WAITING_KEYS), n, n + 1), 2, 0, 0);
+}
+static uint32_t esdf_distance(void) { return back(akf_esdf_get_distance(THE_MARCHED, cell[1], f), 0, 1, 0); }
+static uint32_t is_free(void) { return back(akf_is_free_space(THE_MARCHED, cell[1], threshold, &yes), 0, 0, 1); }
+static uint32_t gradient(void) { return back(akf_get_gradient(THE_MARCHED, cell[1], f, f + 1, f + 2), 0, 3, 0); }
+static uint32_t within(void) {
+    return back(akf_get_voxels_within_distance(THE_MARCHED, threshold, U64(OUT_KEYS), F32(OUT_DISTANCES), n), 1, 0, 0);
+}
+static uint32_t esdf_stats(void) { return back(akf_esdf_stats(THE_MARCHED, n, n + 1, n + 2, f, f + 1), 3, 2, 0); }
+static uint32_t mesh(void) {
+    return back(akf_extract_mesh_from_tsdf(THE_SETTINGS, THE_TABLE, count, U64(FIRST), U64(SECOND), F32(PX), F32(PY), F32(PZ), F32(NX),
+                                           F32(NY), F32(NZ), U32(GROUPS), U32(T0), U32(T1), U32(T2), n, n + 1), 2, 0, 0);
+}
+/* has no answer: 0 where it hands back a part of the groups, 2 where it hands back none */
+static uint32_t cell_edges(void) {
+    akf_cell_edges(U32(GROUPS), U64(FIRST), U64(SECOND), edges, cell[1], n, n + 1);
+    return n[0] == 1 && n[1] == 2 ? AKF_DONE : n[0] == 0 && n[1] == 0 ? 2 : 99;
+}
+static uint32_t area(void) {
+    return back(akf_surface_area(F32(PX), F32(PY), F32(PZ), vertices, U32(T0), U32(T1), U32(T2), triangles, f), 0, 1, 0);
+}
+static uint32_t box(void) { return back(akf_bounding_box(F32(PX), F32(PY), F32(PZ), vertices, f, f + 1, f + 2, f + 3, f + 4, f + 5), 0, 6, 0); }
+static uint32_t mesh_stats(void) { return back(akf_mesh_stats(F32(NX), F32(NY), F32(NZ), vertices, &yes), 0, 0, 1); }
+static uint32_t snap(void) {
+    uint32_t answer = akf_physical_to_bcc_voxel(position[0], position[1], position[2], size, snapped, snapped + 1, snapped + 2);
+    return answer == AKF_DONE || zeros(snapped, sizeof snapped) ? answer : 99;
 }
 
-static void nulls(void) {
-    uint64_t key = key_of(10, 10, 10);
-    size_t count = 0;
-    spoil();
-    EXPECT(akf_neighbors_index64(key, NULL, 0, &n) == 6 && n == 0);
-    EXPECT(akf_update_from_depth(SETTINGS, NO_TABLE, &count, key, 0.5f, 1.0f) == 6 && count == 0);
-    EXPECT(akf_update_from_depth_ray(SETTINGS, NO_TABLE, &count, key, 10.0f, 10.0f, 5.0f, 5.5f, 1.0f) == 6 && count == 0);
-    EXPECT(akf_batch_update(SETTINGS, NO_TABLE, &count, NULL, 0, NULL, 0, NULL, 0, &n) == AKF_DONE && n == 0);
-    spoil();
-    EXPECT(akf_tsdf_get_distance(SETTINGS, NO_TABLE, 0, key, &f[0]) == AKF_ABSENT && f[0] == 0.0f);
-    EXPECT(akf_tsdf_get_weight(SETTINGS, NO_TABLE, 0, key, &f[1]) == AKF_ABSENT && f[1] == 0.0f);
-    EXPECT(akf_is_surface_voxel(SETTINGS, NO_TABLE, 0, key, 0.5f, &yes) == AKF_DONE && yes == 0);
-    EXPECT(akf_tsdf_stats(SETTINGS, NO_TABLE, 0, &n, &m, &f[0], &f[1], &f[2]) == AKF_DONE && n == 0 && m == 0);
-    spoil();
-    EXPECT(akf_get_surface_voxels(SETTINGS, NO_TABLE, 0, 0.5f, NULL, 0, &n) == AKF_DONE && n == 0);
-    EXPECT(akf_get_zero_crossing_edges(SETTINGS, NO_TABLE, 0, NULL, 0, NULL, 0, &m) == AKF_DONE && m == 0);
-    spoil();
-    EXPECT(akf_compute_from_tsdf(SETTINGS, NO_TABLE, 0, 0.5f, NULL, 0, NULL, 0, NULL, 0, NULL, 0, &n, &m) == AKF_DONE &&
-           n == 0 && m == 0);
-    spoil();
-    EXPECT(akf_esdf_get_distance(NULL, 0, NULL, 0, 0, key, &f[0]) == AKF_ABSENT && f[0] == 0.0f);
-    EXPECT(akf_is_free_space(NULL, 0, NULL, 0, 0, key, 0.5f, &yes) == AKF_DONE && yes == 0);
-    EXPECT(akf_get_gradient(NULL, 0, NULL, 0, 0, key, &f[1], &f[2], &f[3]) == AKF_ABSENT && f[1] == 0.0f && f[2] == 0.0f &&
-           f[3] == 0.0f);
-    EXPECT(akf_get_voxels_within_distance(NULL, 0, NULL, 0, 0, 0.5f, NULL, 0, NULL, 0, &n) == AKF_DONE && n == 0);
-    EXPECT(akf_esdf_stats(NULL, 0, NULL, 0, 0, &n, &m, &k, &f[4], &f[5]) == AKF_DONE && n == 0 && m == 0 && k == 0);
-    spoil();
-    EXPECT(akf_extract_mesh_from_tsdf(SETTINGS, NO_TABLE, 0, NULL, 0, NULL, 0, NULL, 0, NULL, 0, NULL, 0, NULL, 0, NULL, 0,
-                                      NULL, 0, NULL, 0, NULL, 0, NULL, 0, NULL, 0, &n, &m) == AKF_DONE &&
-           n == 0 && m == 0);
-    spoil();
-    akf_cell_edges(NULL, 0, NULL, 0, NULL, 0, 0, key, &n, &m);
-    EXPECT(n == 0 && m == 0);
-    EXPECT(akf_surface_area(NULL, 0, NULL, 0, NULL, 0, 0, NULL, 0, NULL, 0, NULL, 0, 0, &f[0]) == AKF_DONE && f[0] == 0.0f);
-    EXPECT(akf_bounding_box(NULL, 0, NULL, 0, NULL, 0, 0, &f[0], &f[1], &f[2], &f[3], &f[4], &f[5]) == AKF_ABSENT &&
-           zeros(f, sizeof f));
-    EXPECT(akf_mesh_stats(NULL, 0, NULL, 0, NULL, 0, 0, &yes) == AKF_DONE && yes == 0);
+#define FUSED IN(TABLE) | SETTINGS
+enum { SETTINGS = 1 << SETS, THRESHOLD = 2 << SETS };
+static const struct {
+    const char *name;
+    uint32_t (*run)(void);
+    unsigned takes, writes;
+} call[] = {
+    {"neighbors_index64", neighbors, IN(SINGLE), IN(SINGLE)},
+    {"update_from_depth", fuse, FUSED, 0},
+    {"update_from_depth_ray", fuse_ray, FUSED, 0},
+    {"batch_update", batch, FUSED | IN(BATCH), 0},
+    {"tsdf_get_distance", tsdf_distance, FUSED, 0},
+    {"tsdf_get_weight", tsdf_weight, FUSED, 0},
+    {"is_surface_voxel", surface, FUSED | THRESHOLD, 0},
+    {"tsdf_stats", tsdf_stats, FUSED, 0},
+    {"get_surface_voxels", surface_list, FUSED | THRESHOLD | IN(SINGLE), IN(SINGLE)},
+    {"get_zero_crossing_edges", edge_list, FUSED | IN(EDGES), IN(EDGES)},
+    {"compute_from_tsdf", march, FUSED | THRESHOLD | IN(MARCH) | IN(WAITING), IN(MARCH) | IN(WAITING)},
+    {"esdf_get_distance", esdf_distance, IN(MARCHED), 0},
+    {"is_free_space", is_free, IN(MARCHED) | THRESHOLD, 0},
+    {"get_gradient", gradient, IN(MARCHED), 0},
+    {"get_voxels_within_distance", within, IN(MARCHED) | THRESHOLD | IN(WITHIN), IN(WITHIN)},
+    {"esdf_stats", esdf_stats, IN(MARCHED), 0},
+    {"extract_mesh_from_tsdf", mesh, FUSED | IN(EDGES) | IN(VERTICES) | IN(NORMALS) | IN(GROUP) | IN(TRIANGLES),
+     IN(EDGES) | IN(VERTICES) | IN(NORMALS) | IN(GROUP) | IN(TRIANGLES)},
+    {"cell_edges", cell_edges, IN(EDGES) | IN(GROUP), 0},
+    {"surface_area", area, IN(VERTICES) | IN(TRIANGLES), 0},
+    {"bounding_box", box, IN(VERTICES), 0},
+    {"mesh_stats", mesh_stats, IN(NORMALS), 0},
+};
+enum { CALLS = sizeof call / sizeof *call };
+
+/* a copy of the table, since no refusal may touch it */
+static void *table_then[3];
+static size_t count_then;
+static void remember(void) {
+    for (int l = KEYS; l <= WEIGHTS; l++) {
+        free(table_then[l]);
+        table_then[l] = malloc(len[l] * unit(l) + 1);
+        if (!table_then[l]) abort();
+        memcpy(table_then[l], list[l], len[l] * unit(l));
+    }
+    count_then = count;
+}
+static int table_as_then(void) {
+    for (int l = KEYS; l <= WEIGHTS; l++)
+        if (memcmp(table_then[l], list[l], len[l] * unit(l))) return 0;
+    return count == count_then;
 }
 
-/* lengths that differ and counts past lengths: 2, by every call that is lent lists */
+/* the call's answer to what is lent now; numbers handed back are spoilt before */
+static void ask(int i, uint32_t answer, const char *spoilt) {
+    n[0] = n[1] = n[2] = 77, yes = 77;
+    for (int k = 0; k < 6; k++) f[k] = 77.0f;
+    remember();
+    expect(call[i].run() == answer, "the answer is another, or a number handed back is not 0", call[i].name, spoilt);
+    if (answer == AKF_DONE) return;
+    expect(table_as_then(), "the table is touched", call[i].name, spoilt);
+    for (int s = 0; s < SETS; s++)
+        if (call[i].writes & IN(s))
+            for (int l = set[s].from; l <= set[s].to; l++)
+                expect(zeros(list[l], len[l] * unit(l)), "a list is not zero throughout", call[i].name, spoilt);
+}
+
+static void all_good(void) {
+    for (int i = 0; i < CALLS; i++) good(), ask(i, AKF_DONE, "nothing is spoilt");
+}
+
+/* each list in turn one place shorter than those that it is lent with: 2 */
 static void lengths(void) {
-    uint64_t keys[3] = {key_of(10, 10, 10), key_of(11, 11, 11), key_of(12, 12, 12)}, key = keys[0];
-    float d[3] = {0.5f, -0.5f, 0.5f}, w[3] = {1.0f, 1.0f, 1.0f};
-    uint64_t a[4], b[4];
-    float g[4];
-    size_t count = 2;
-    for (int past = 0; past < 2; past++) {
-        size_t len = past ? 3 : 2, rows = past ? 4 : 2; /* the keys' list is one longer, or one row too many is counted */
-#define UNEVEN keys, 3, d, len, w, 3
-        spoil();
-        count = rows;
-        EXPECT(akf_update_from_depth(SETTINGS, UNEVEN, &count, key, 0.5f, 1.0f) == 2 && count == rows);
-        EXPECT(akf_update_from_depth_ray(SETTINGS, UNEVEN, &count, key, 0, 0, 0, 1.0f, 1.0f) == 2 && count == rows);
-        EXPECT(akf_batch_update(SETTINGS, UNEVEN, &count, a, 0, g, 0, g, 0, &n) == 2 && n == 0 && count == rows);
-        EXPECT(akf_tsdf_get_distance(SETTINGS, UNEVEN, rows, key, &f[0]) == 2 && f[0] == 0.0f);
-        EXPECT(akf_tsdf_get_weight(SETTINGS, UNEVEN, rows, key, &f[1]) == 2 && f[1] == 0.0f);
-        EXPECT(akf_is_surface_voxel(SETTINGS, UNEVEN, rows, key, 0.5f, &yes) == 2 && yes == 0);
-        EXPECT(akf_tsdf_stats(SETTINGS, UNEVEN, rows, &n, &m, &f[0], &f[1], &f[2]) == 2 && n == 0 && m == 0 && f[0] == 0.0f &&
-               f[1] == 0.0f && f[2] == 0.0f);
-        memset(a, 0x41, sizeof a), memset(b, 0x41, sizeof b), spoil();
-        EXPECT(akf_get_surface_voxels(SETTINGS, UNEVEN, rows, 1.0f, a, 4, &n) == 2 && n == 0 && zeros(a, sizeof a));
-        memset(a, 0x41, sizeof a);
-        EXPECT(akf_get_zero_crossing_edges(SETTINGS, UNEVEN, rows, a, 4, b, 4, &m) == 2 && m == 0 && zeros(a, sizeof a) &&
-               zeros(b, sizeof b));
-        spoil();
-        EXPECT(akf_esdf_get_distance(keys, 3, d, len, rows, key, &f[0]) == 2 && f[0] == 0.0f);
-        EXPECT(akf_is_free_space(keys, 3, d, len, rows, key, 0.5f, &yes) == 2 && yes == 0);
-        EXPECT(akf_get_gradient(keys, 3, d, len, rows, key, &f[1], &f[2], &f[3]) == 2 && f[1] == 0.0f);
-        EXPECT(akf_esdf_stats(keys, 3, d, len, rows, &n, &m, &k, &f[4], &f[5]) == 2 && n == 0 && m == 0 && k == 0);
-        EXPECT(akf_bounding_box(d, 3, w, len, d, 3, rows, &f[0], &f[1], &f[2], &f[3], &f[4], &f[5]) == 2 && zeros(f, sizeof f));
-        spoil();
-        EXPECT(akf_mesh_stats(d, 3, w, len, d, 3, rows, &yes) == 2 && yes == 0);
-        EXPECT(akf_surface_area(d, 3, w, len, d, 3, rows, NULL, 0, NULL, 0, NULL, 0, 0, &f[0]) == 2 && f[0] == 0.0f);
-    }
-    /* outputs that differ in length are wiped, each over its own length */
-    memset(a, 0x41, sizeof a), memset(b, 0x41, sizeof b), memset(g, 0x41, sizeof g), spoil();
-    EXPECT(akf_get_zero_crossing_edges(SETTINGS, keys, 3, d, 3, w, 3, 3, a, 4, b, 3, &n) == 2 && n == 0 && zeros(a, sizeof a) &&
-           zeros(b, 3 * sizeof b[0]) && b[3] == 0x4141414141414141u);
-    memset(a, 0x41, sizeof a);
-    EXPECT(akf_get_voxels_within_distance(keys, 3, d, 3, 3, 1.0f, a, 4, g, 3, &m) == 2 && m == 0 && zeros(a, sizeof a) &&
-           zeros(g, 3 * sizeof g[0]));
-    memset(a, 0x41, sizeof a), memset(b, 0x41, sizeof b), memset(g, 0x41, sizeof g), spoil();
-    float e[4] = {9, 9, 9, 9};
-    EXPECT(akf_compute_from_tsdf(SETTINGS, keys, 3, d, 3, w, 3, 3, 1.0f, a, 4, g, 3, e, 4, b, 4, &n, &m) == 2 && n == 0 &&
-           m == 0 && zeros(a, sizeof a) && zeros(b, sizeof b) && zeros(e, sizeof e));
-    float p[6][4];
-    uint32_t t[4][4];
-    memset(a, 0x41, sizeof a), memset(b, 0x41, sizeof b), memset(p, 0x41, sizeof p), memset(t, 0x41, sizeof t), spoil();
-    EXPECT(akf_extract_mesh_from_tsdf(SETTINGS, keys, 3, d, 3, w, 3, 3, a, 4, b, 4, p[0], 4, p[1], 4, p[2], 4, p[3], 4, p[4], 4,
-                                      p[5], 3, t[0], 4, t[1], 4, t[2], 4, t[3], 4, &n, &m) == 2 &&
-           n == 0 && m == 0 && zeros(a, sizeof a) && zeros(b, sizeof b) && zeros(p, 23 * sizeof(float)) && zeros(t, sizeof t));
-    spoil();
-    akf_cell_edges(t[0], 4, a, 4, b, 4, 5, key, &n, &m);
-    EXPECT(n == 0 && m == 0);
-    EXPECT(akf_surface_area(d, 3, d, 3, d, 3, 3, t[0], 4, t[1], 4, t[2], 4, 5, &f[0]) == 2 && f[0] == 0.0f);
+    for (int i = 0; i < CALLS; i++)
+        for (int s = 0; s < SETS; s++)
+            if (call[i].takes & IN(s) && set[s].from < set[s].to)
+                for (int l = set[s].from; l <= set[s].to; l++) good(), len[l]--, ask(i, 2, set[s].name);
 }
 
+/* each count in turn one more than there are places: 2 */
+static void counts(void) {
+    static const struct {
+        size_t *count;
+        int set;
+    } counted[] = {{&count, TABLE}, {&marched, MARCHED}, {&vertices, VERTICES}, {&vertices, NORMALS}, {&triangles, TRIANGLES}, {&edges, EDGES}};
+    for (int i = 0; i < CALLS; i++)
+        for (int c = 0; c < 6; c++)
+            if (call[i].takes & IN(counted[c].set) && !(call[i].writes & IN(counted[c].set))) {
+                good(), *counted[c].count = ROOM + 1, ask(i, 2, set[counted[c].set].name);
+                good(), *counted[c].count = SIZE_MAX, ask(i, 2, set[counted[c].set].name);
+            }
+}
+
+/* lists one place longer than the limit: 2. The vertices' and the normals' limit is tested at once, since a mesh's have one length */
 static void limits(void) {
-    size_t rows = TABLE_LIMIT + 1, places = LIST_LIMIT + 1, count = 0;
-    uint64_t *keys = junk(rows * 8), *out = junk(places * 8), *out2 = junk(places * 8), key = key_of(10, 10, 10);
-    float *d = junk(rows * 4), *w = junk(rows * 4), *g = junk(places * 4);
-    spoil();
-    EXPECT(akf_update_from_depth(SETTINGS, keys, rows, d, rows, w, rows, &count, key, 0.5f, 1.0f) == 2 && count == 0);
-    EXPECT(akf_batch_update(SETTINGS, NO_TABLE, &count, keys, rows, d, rows, w, rows, &n) == 2 && n == 0);
-    EXPECT(akf_tsdf_get_distance(SETTINGS, keys, rows, d, rows, w, rows, 0, key, &f[0]) == 2 && f[0] == 0.0f);
-    spoil();
-    EXPECT(akf_neighbors_index64(key, out, places, &n) == 2 && n == 0 && zeros(out, places * 8));
-    memset(out, 0x41, places * 8), spoil();
-    EXPECT(akf_get_zero_crossing_edges(SETTINGS, NO_TABLE, 0, out, places, out2, places, &n) == 2 && n == 0 &&
-           zeros(out, places * 8) && zeros(out2, places * 8));
-    memset(out, 0x41, places * 8), spoil();
-    EXPECT(akf_get_surface_voxels(SETTINGS, NO_TABLE, 0, 0.5f, out, places, &n) == 2 && n == 0 && zeros(out, places * 8));
-    memset(out, 0x41, places * 8), spoil();
-    EXPECT(akf_compute_from_tsdf(SETTINGS, NO_TABLE, 0, 0.5f, out, places, g, places, NULL, 0, NULL, 0, &n, &m) == 2 && n == 0 &&
-           m == 0 && zeros(out, places * 8) && zeros(g, places * 4));
-    free(keys), free(out), free(out2), free(d), free(w), free(g);
+    for (int i = 0; i < CALLS; i++)
+        for (int s = 0; s < SETS; s++)
+            if (call[i].takes & IN(s)) {
+                good();
+                int from = s == NORMALS ? PX : set[s].from, to = s == VERTICES ? NZ : set[s].to;
+                for (int l = from; l <= to; l++) list[l] = realloc(list[l], (set[s].limit + 1) * unit(l)), len[l] = set[s].limit + 1;
+                for (int l = from; l <= to; l++)
+                    if (!list[l]) abort();
+                ask(i, 2, set[s].name);
+            }
+    good();
 }
 
+/* each float in turn no number, or not finite */
 static void nans(void) {
-    uint64_t keys[2] = {key_of(10, 10, 10), key_of(11, 11, 11)}, key = keys[0], out[14];
-    float d[2] = {0.5f, NAN}, w[2] = {1.0f, 1.0f}, ok[2] = {0.5f, -0.5f}, all[3] = {NAN, NAN, NAN};
-    int32_t x = 77, y = 77, z = 77;
-    uint32_t t[3] = {0, 1, 2};
-    size_t count = 0;
-#define GOOD keys, 2, ok, 2, w, 2
-    spoil();
-    EXPECT(akf_root(NAN, &f[0]) == 5 && f[0] == 0.0f);
-    EXPECT(akf_physical_to_bcc_voxel(NAN, 0.0f, 0.0f, 1.0f, &x, &y, &z) == 5 && x == 0 && y == 0 && z == 0);
-    EXPECT(akf_physical_to_bcc_voxel(0.0f, 0.0f, 0.0f, NAN, &x, &y, &z) == 1);
-    for (int i = 0; i < 4; i++) {
-        float s[4] = {1.0f, 100.0f, 1.0f, 10.0f};
-        s[i] = NAN;
-        spoil();
-        EXPECT(akf_update_from_depth(s[0], s[1], s[2], s[3], NO_TABLE, &count, key, 0.5f, 1.0f) == 1);
-        EXPECT(akf_tsdf_stats(s[0], s[1], s[2], s[3], NO_TABLE, 0, &n, &m, &f[0], &f[1], &f[2]) == 1 && n == 0);
-        memset(out, 0x41, sizeof out);
-        EXPECT(akf_get_surface_voxels(s[0], s[1], s[2], s[3], GOOD, 2, 1.0f, out, 14, &n) == 1 && n == 0 &&
-               zeros(out, sizeof out));
+    const float bad[3] = {NAN, INFINITY, -INFINITY};
+    for (int b = 0; b < 3; b++) {
+        float x = bad[b];
+        for (int i = 0; i < CALLS; i++) {
+            for (int s = 0; s < 4; s++)
+                if (call[i].takes & SETTINGS) good(), settings[s] = x, ask(i, 1, "a setting");
+            if (call[i].takes & IN(TABLE)) good(), floats(DISTANCES)[1] = x, ask(i, 3, "a distance"), good(), floats(WEIGHTS)[2] = x, ask(i, 3, "a weight");
+            if (call[i].takes & IN(MARCHED)) good(), floats(MARCHED_DISTANCES)[2] = x, ask(i, 3, "a marched distance");
+            if (call[i].takes & THRESHOLD) good(), threshold = x, ask(i, 5, "the threshold");
+            for (int l = PX; l <= PZ; l++)
+                if (call[i].run == area || call[i].run == box) good(), floats(l)[1] = x, ask(i, 10, "a position");
+            for (int l = NX; l <= NZ; l++)
+                if (call[i].run == mesh_stats) good(), floats(l)[1] = x, ask(i, AKF_DONE, "a normal"), expect(yes == 1, "no normal is seen", "mesh_stats", "a normal");
+            if (call[i].run == fuse) good(), reading = x, ask(i, 5, "the reading");
+            if (call[i].run == fuse_ray) {
+                good(), depth = x, ask(i, 5, "the depth");
+                for (int s = 0; s < 3; s++) good(), sensor[s] = x, ask(i, 5, "the sensor's place");
+            }
+            if (call[i].run == fuse || call[i].run == fuse_ray) good(), confidence = x, ask(i, 5, "the confidence");
+        }
+        /* a refused batch names the reading; the one before it stands */
+        for (int l = BATCH_DISTANCES; l <= BATCH_CONFIDENCES; l++) {
+            good(), floats(l)[1] = x, n[0] = 77;
+            expect(batch() == 5 && n[0] == 1 && count == ROWS && floats(DISTANCES)[0] < 0.5f && floats(DISTANCES)[1] == -0.5f, "not refused at reading 1", "batch_update", "a reading");
+        }
+        for (int p = 0; p < 3; p++) {
+            good(), position[p] = x, snapped[0] = snapped[1] = snapped[2] = 77;
+            expect(snap() == 5, "the answer is another", "physical_to_bcc_voxel", "a position");
+        }
+        good(), size = x;
+        expect(snap() == 1, "the answer is another", "physical_to_bcc_voxel", "the voxel size");
     }
-    spoil();
-    EXPECT(akf_tsdf_get_distance(SETTINGS, keys, 2, d, 2, w, 2, 2, key, &f[0]) == 3 && f[0] == 0.0f);
-    EXPECT(akf_tsdf_get_weight(SETTINGS, keys, 2, w, 2, d, 2, 2, key, &f[1]) == 3 && f[1] == 0.0f);
-    EXPECT(akf_esdf_get_distance(keys, 2, d, 2, 2, key, &f[2]) == 3 && f[2] == 0.0f);
-    count = 2;
-    EXPECT(akf_update_from_depth(SETTINGS, keys, 2, ok, 2, w, 2, &count, key, NAN, 1.0f) == 5 && count == 2);
-    EXPECT(akf_update_from_depth(SETTINGS, keys, 2, ok, 2, w, 2, &count, key, 0.5f, NAN) == 5 && count == 2);
-    EXPECT(akf_update_from_depth_ray(SETTINGS, keys, 2, ok, 2, w, 2, &count, key, 0, NAN, 0, 1.0f, 1.0f) == 5 && count == 2);
-    float readings[2] = {0.25f, NAN};
-    EXPECT(akf_batch_update(SETTINGS, keys, 2, ok, 2, w, 2, &count, keys, 2, readings, 2, w, 2, &n) == 5 && n == 1 &&
-           count == 2);
-    spoil();
-    EXPECT(akf_is_surface_voxel(SETTINGS, GOOD, 2, key, NAN, &yes) == 5 && yes == 0);
-    spoil();
-    EXPECT(akf_is_free_space(keys, 2, ok, 2, 2, key, NAN, &yes) == 5 && yes == 0);
-    memset(out, 0x41, sizeof out), spoil();
-    EXPECT(akf_get_surface_voxels(SETTINGS, GOOD, 2, NAN, out, 14, &n) == 5 && n == 0 && zeros(out, sizeof out));
-    float g[14], e[14];
-    uint64_t waiting[14];
-    memset(out, 0x41, sizeof out), memset(g, 0x41, sizeof g), memset(e, 0x41, sizeof e), memset(waiting, 0x41, sizeof waiting);
-    EXPECT(akf_get_voxels_within_distance(keys, 2, ok, 2, 2, NAN, out, 14, g, 14, &m) == 5 && m == 0 && zeros(out, sizeof out) &&
-           zeros(g, sizeof g));
-    memset(out, 0x41, sizeof out), memset(g, 0x41, sizeof g), spoil();
-    EXPECT(akf_compute_from_tsdf(SETTINGS, GOOD, 2, NAN, out, 14, g, 14, e, 14, waiting, 14, &n, &m) == 5 && n == 0 && m == 0 &&
-           zeros(out, sizeof out) && zeros(g, sizeof g) && zeros(e, sizeof e) && zeros(waiting, sizeof waiting));
-    spoil();
-    EXPECT(akf_surface_area(all, 3, all, 3, all, 3, 3, t, 3, t, 3, t, 3, 3, &f[0]) == 10 && f[0] == 0.0f);
-    EXPECT(akf_bounding_box(all, 3, all, 3, all, 3, 3, &f[0], &f[1], &f[2], &f[3], &f[4], &f[5]) == 10 && zeros(f, sizeof f));
-    EXPECT(akf_mesh_stats(all, 3, all, 3, all, 3, 3, &yes) == AKF_DONE && yes == 1);
+    f[0] = 77.0f;
+    expect(akf_root(NAN, f) == 5 && f[0] == 0.0f, "not refused", "root", "a NaN");
+    f[0] = 77.0f;
+    expect(akf_root(-INFINITY, f) == 5 && f[0] == 0.0f, "not refused", "root", "-inf");
+    expect(akf_root(INFINITY, f) == AKF_DONE && f[0] == INFINITY, "refused", "root", "+inf is taken");
+}
+
+/* null pointers with length 0, and counts of 0: each call's own answer to nothing */
+static void nulls(void) {
+    static const struct {
+        uint32_t (*run)(void);
+        uint32_t answer;
+    } other[] = {{neighbors, 6}, {fuse, 6}, {fuse_ray, 6}, {tsdf_distance, AKF_ABSENT}, {tsdf_weight, AKF_ABSENT},
+                 {esdf_distance, AKF_ABSENT}, {gradient, AKF_ABSENT}, {box, AKF_ABSENT}, {cell_edges, 2}};
+    for (int i = 0; i < CALLS; i++) {
+        good();
+        void *lent[LISTS];
+        memcpy(lent, list, sizeof lent);
+        memset(list, 0, sizeof list), memset(len, 0, sizeof len);
+        count = marched = edges = vertices = triangles = 0;
+        uint32_t answer = AKF_DONE;
+        for (size_t o = 0; o < sizeof other / sizeof *other; o++)
+            if (call[i].run == other[o].run) answer = other[o].answer;
+        n[0] = n[1] = n[2] = 77, yes = 77;
+        for (int k = 0; k < 6; k++) f[k] = 77.0f;
+        expect(call[i].run() == answer, "the answer is another, or a number handed back is not 0", call[i].name, "null pointers");
+        if (answer == AKF_DONE)
+            expect((n[0] == 0 || n[0] == 77) && (n[1] == 0 || n[1] == 77) && (yes == 0 || yes == 77) && count == 0, "something is counted", call[i].name, "null pointers");
+        memcpy(list, lent, sizeof lent);
+    }
 }
 
 int main(void) {
+    all_good();
     nulls();
     lengths();
+    counts();
     limits();
     nans();
     printf("bad-input: %d answers, %d not as said\n", asked, wrong);
