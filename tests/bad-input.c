@@ -277,17 +277,23 @@ static void counts(void) {
             }
 }
 
-/* lists one place longer than the limit: 2. The vertices' and the normals' limit is tested at once, since a mesh's have one length */
+static void lengthen(int s, size_t places) {
+    /* a mesh's vertices and normals have one length */
+    int from = s == NORMALS ? PX : set[s].from, to = s == VERTICES ? NZ : set[s].to;
+    for (int l = from; l <= to; l++) {
+        list[l] = realloc(list[l], places * unit(l));
+        if (!list[l]) abort();
+        len[l] = places;
+    }
+}
+
+/* lists one place longer than the limit: 2. As long as the limit they are taken (of a batch every place is a reading, so that is not tried) */
 static void limits(void) {
     for (int i = 0; i < CALLS; i++)
         for (int s = 0; s < SETS; s++)
             if (call[i].takes & IN(s)) {
-                good();
-                int from = s == NORMALS ? PX : set[s].from, to = s == VERTICES ? NZ : set[s].to;
-                for (int l = from; l <= to; l++) list[l] = realloc(list[l], (set[s].limit + 1) * unit(l)), len[l] = set[s].limit + 1;
-                for (int l = from; l <= to; l++)
-                    if (!list[l]) abort();
-                ask(i, 2, set[s].name);
+                good(), lengthen(s, set[s].limit + 1), ask(i, 2, set[s].name);
+                if (s != BATCH) good(), lengthen(s, set[s].limit), ask(i, AKF_DONE, set[s].name);
             }
     good();
 }
