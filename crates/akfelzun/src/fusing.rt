@@ -1,4 +1,5 @@
 // Fusing a reading or a batch of readings into a table.
+use crate::CountBack;
 use crate::DONE;
 use crate::FAR;
 use floats::Metres;
@@ -100,23 +101,18 @@ pub extern "C" fn akf_update_from_depth_ray(
 }
 
 // The number of a batch's answer, and the reading that it names.
-struct BatchBack {
-    number: u32,
-    at: usize,
-}
-
-fn batch_back(batched: Batched) -> BatchBack
+fn batch_back(batched: Batched) -> CountBack
     ensures { λ r. ⌜ r .number ≡ batchedNumber batched ⌝ }
-    ensures { λ r. ⌜ r .at ≡ batchedAt batched ⌝ }
+    ensures { λ r. ⌜ r .count ≡ batchedAt batched ⌝ }
 {
     match batched {
-        Batched::Done => BatchBack {
+        Batched::Done => CountBack {
             number: DONE,
-            at: 0,
+            count: 0,
         },
-        Batched::Refused(why, at) => BatchBack {
+        Batched::Refused(why, at) => CountBack {
             number: refusals::number(why),
-            at,
+            count: at,
         },
     }
 }
@@ -156,6 +152,6 @@ pub extern "C" fn akf_batch_update(
         batch_confidences,
     );
     let back = batch_back(batched);
-    *at = back.at;
+    *at = back.count;
     back.number
 }

@@ -1,4 +1,5 @@
 // Keys, neighbours, the root and snapping.
+use crate::CountBack;
 use crate::DONE;
 use crate::LengthBack;
 use crate::NOTHING;
@@ -27,13 +28,20 @@ pub(crate) fn one_if(yes: bool) -> u32
     if yes { 1 } else { 0 }
 }
 
-// The number of an answer to a list.
-pub(crate) fn listed_number(listed: Listed) -> u32
-    ensures { λ r. ⌜ r ≡ listedNumber listed ⌝ }
+// The number of an answer to a list, and how many it says.
+pub(crate) fn list_back(listed: Listed) -> CountBack
+    ensures { λ r. ⌜ r .number ≡ listedNumber listed ⌝ }
+    ensures { λ r. ⌜ r .count ≡ countOf listed ⌝ }
 {
     match listed {
-        Listed::Count(_) => DONE,
-        Listed::Refused(why) => refusals::number(why),
+        Listed::Count(n) => CountBack {
+            number: DONE,
+            count: n,
+        },
+        Listed::Refused(why) => CountBack {
+            number: refusals::number(why),
+            count: 0,
+        },
     }
 }
 
@@ -119,8 +127,9 @@ pub extern "C" fn akf_neighbors_index64(key: u64, out: &mut [u64], listed: &mut 
     ensures { λ _. ⌜ now (listed .exit) ≡ countOf (listedOf key (length (now (out .entry)))) ⌝ }
 {
     let answer = neighbors::neighbors_index64(key, out);
-    *listed = lists::count_of(answer);
-    listed_number(answer)
+    let back = list_back(answer);
+    *listed = back.count;
+    back.number
 }
 
 fn root_back(rooted: Rooted) -> LengthBack

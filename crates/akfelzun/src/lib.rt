@@ -16,7 +16,7 @@ pub const ABSENT: u32 = 101;
 // What is handed back in place of a length that there is not.
 pub const NOTHING: f32 = 0.0;
 
-// What calls hand back: the answer's number, and a length, yes or no as 1 or 0, or two counts.
+// What calls hand back: the answer's number, and a length, yes or no as 1 or 0, a count, or two.
 pub struct LengthBack {
     pub number: u32,
     pub value: f32,
@@ -25,6 +25,11 @@ pub struct LengthBack {
 pub struct YesBack {
     pub number: u32,
     pub yes: u32,
+}
+
+pub struct CountBack {
+    pub number: u32,
+    pub count: usize,
 }
 
 pub struct CountsBack {

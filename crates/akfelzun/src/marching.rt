@@ -5,7 +5,7 @@ use crate::DONE;
 use crate::LengthBack;
 use crate::NOTHING;
 use crate::YesBack;
-use crate::keys::listed_number;
+use crate::keys::list_back;
 use crate::keys::one_if;
 use esdf::Marched;
 use esdf_questions::Distance;
@@ -246,8 +246,9 @@ pub extern "C" fn akf_get_voxels_within_distance(
         out_keys,
         out_distances,
     );
-    *listed = lists::count_of(answer);
-    listed_number(answer)
+    let back = list_back(answer);
+    *listed = back.count;
+    back.number
 }
 
 fn stats_number(statistics: Statistics) -> u32

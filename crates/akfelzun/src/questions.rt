@@ -4,7 +4,7 @@ use crate::DONE;
 use crate::LengthBack;
 use crate::NOTHING;
 use crate::YesBack;
-use crate::keys::listed_number;
+use crate::keys::list_back;
 use crate::keys::one_if;
 use floats::Metres;
 use table::Settings;
@@ -269,8 +269,9 @@ pub extern "C" fn akf_get_surface_voxels(
         Metres(threshold),
         out,
     );
-    *listed = lists::count_of(answer);
-    listed_number(answer)
+    let back = list_back(answer);
+    *listed = back.count;
+    back.number
 }
 
 #[no_mangle]
@@ -307,6 +308,7 @@ pub extern "C" fn akf_get_zero_crossing_edges(
         first,
         second,
     );
-    *listed = lists::count_of(answer);
-    listed_number(answer)
+    let back = list_back(answer);
+    *listed = back.count;
+    back.number
 }
