@@ -1,7 +1,8 @@
-// bench_last: one synthetic last of about 60,000 rows, and one of half as many: the Rust with its own hash tables and the C face in
-// one process on the same input. Prints the best of five runs of each, their ratio, and how each grows when the rows double.
+// bench_last [quick]: synthetic lasts of 16,384, 32,768 and 65,536 rows, the most that a table holds: the Rust with its own hash tables and the C face
+// in one process on the same input. Prints the best of five runs of each, their ratio, and how each grows when the rows double.
+// The march goes to about five times the rows, and to about sixteen times, the most that a marched list holds; `quick` leaves it out.
 use compare::face::{FACE, LANDED};
-use compare::last::{rows, shuffled, SIZE};
+use compare::last::{rows_nearest, shuffled, SIZE};
 use compare::rng::Rng;
 use compare::shape::{Lists, Settings, Table, TableMut};
 use std::hint::black_box;
@@ -12,18 +13,23 @@ use compare::hashed::{
     Index64,
 };
 
+// Rows, and how many cells far the march goes for about five and sixteen times as many.
+const SIZES: [(usize, [f32; 2]); 3] = [(16_384, [19.6, 41.8]), (32_768, [21.4, 48.8]), (65_536, [22.3, 56.3])];
+const LONGEST: usize = 1_048_576;
+
 struct Field {
     settings: Settings,
+    far: [f32; 2],
     threshold: f32,
     keys: Vec<u64>,
     distances: Vec<f32>,
     order: Vec<usize>,
 }
 
-fn field(scale: f64, truncation: f64, march: f64) -> Field {
-    let (keys, distances) = rows(scale, truncation);
-    let settings = Settings { truncation: 1.0, max_weight: 100.0, voxel_size: SIZE, max_distance: march as f32 * SIZE };
-    Field { settings, threshold: SIZE, order: shuffled(keys.len()), keys, distances }
+fn field(rows: usize, cells: [f32; 2]) -> Field {
+    let (keys, distances) = rows_nearest(rows);
+    let settings = Settings { truncation: 1.0, max_weight: 100.0, voxel_size: SIZE, max_distance: 0.0 };
+    Field { settings, far: cells.map(|c| c * SIZE), threshold: SIZE, order: shuffled(keys.len()), keys, distances }
 }
 
 // Milliseconds of this thread's own time, so that other work on the machine does not count.
@@ -57,14 +63,28 @@ fn best(mut run: impl FnMut()) -> f64 {
     least
 }
 
-// What one side takes for each piece of work, and the counts that it gave.
-#[derive(Default)]
-struct Times {
-    ms: [Option<f64>; 6],
-    counts: [usize; 4],
+// One piece of work by one side: milliseconds, and how many it gave (rows, edges, triangles).
+#[derive(Clone, Copy, Default)]
+struct Done {
+    ms: Option<f64>,
+    gave: usize,
 }
 
-const WORK: [&str; 6] = ["batch, ascending", "batch, shuffled", "edges", "mesh", "march", "root, a million"];
+fn done(ms: f64, gave: usize) -> Done {
+    Done { ms: Some(ms), gave }
+}
+
+const WORK: [(&str, &str); 7] = [
+    ("batch, keys ascending", "rows"),
+    ("batch, shuffled", "rows"),
+    ("edges", "edges"),
+    ("mesh", "triangles"),
+    ("march", "rows"),
+    ("march, farther", "rows"),
+    ("root, a million", ""),
+];
+const MARCH: usize = 4;
+const ROOT: usize = 6;
 
 fn roots() -> Vec<f32> {
     let mut r = Rng::new(1, "roots");
@@ -72,8 +92,7 @@ fn roots() -> Vec<f32> {
 }
 
 #[cfg(rust)]
-fn rust(f: &Field) -> Times {
-    let mut t = Times::default();
+fn rust(f: &Field) -> [Done; 7] {
     let readings: Vec<(Index64, f32, f32)> = (0..f.keys.len()).map(|i| (Index64::from_value(f.keys[i]).unwrap(), f.distances[i], 1.0)).collect();
     let shuffled: Vec<(Index64, f32, f32)> = f.order.iter().map(|&i| readings[i]).collect();
     let made = |readings: &[(Index64, f32, f32)]| {
@@ -81,30 +100,32 @@ fn rust(f: &Field) -> Times {
         l.batch_update(readings).unwrap();
         l
     };
-    t.ms[0] = Some(best(|| drop(black_box(made(&readings)))));
-    t.ms[1] = Some(best(|| drop(black_box(made(&shuffled)))));
+    let mut t = [Done::default(); 7];
+    t[0] = done(best(|| drop(black_box(made(&readings)))), readings.len());
+    t[1] = done(best(|| drop(black_box(made(&shuffled)))), readings.len());
     let l = made(&readings);
-    t.ms[2] = Some(best(|| t.counts[0] = black_box(l.get_zero_crossing_edges()).len()));
-    t.ms[3] = Some(best(|| {
-        let m = black_box(extract_mesh_from_tsdf(&l).unwrap());
-        t.counts[1] = m.vertices.len();
-        t.counts[2] = m.triangles.len();
-    }));
-    t.ms[4] = (!quick()).then(|| best(|| {
-        let mut e = ESDFLayer::new(f.settings.voxel_size, f.settings.max_distance);
-        e.compute_from_tsdf(&l, f.threshold).unwrap();
-        t.counts[3] = black_box(e).voxels.len();
-    }));
+    let mut gave = 0;
+    t[2] = done(best(|| gave = black_box(l.get_zero_crossing_edges()).len()), gave);
+    t[3] = done(best(|| gave = black_box(extract_mesh_from_tsdf(&l).unwrap()).triangles.len()), gave);
+    for (i, &far) in f.far.iter().enumerate().filter(|_| !quick()) {
+        let march = || {
+            let mut e = ESDFLayer::new(f.settings.voxel_size, far);
+            e.compute_from_tsdf(&l, f.threshold).unwrap();
+            gave = black_box(e).voxels.len();
+        };
+        t[MARCH + i] = done(best(march), gave);
+    }
     let xs = roots();
-    t.ms[5] = Some(best(|| {
+    let root = || {
         black_box(xs.iter().fold(0u32, |all, &x| all ^ black_box(x).sqrt().to_bits()));
-    }));
+    };
+    t[ROOT] = done(best(root), 0);
     t
 }
 
 #[cfg(not(rust))]
-fn rust(_: &Field) -> Times {
-    Times::default()
+fn rust(_: &Field) -> [Done; 7] {
+    Default::default()
 }
 
 fn landed(name: &str) -> bool {
@@ -116,96 +137,114 @@ fn quick() -> bool {
     std::env::args().any(|a| a == "quick")
 }
 
-fn table(f: &Field) -> Table<'_> {
-    Table { keys: &f.keys, distances: &f.distances, weights: &[], count: f.keys.len() }
-}
-
-fn face_batch(f: &Field, order: impl Iterator<Item = usize>) -> f64 {
+fn face_batch(f: &Field, order: impl Iterator<Item = usize>) -> Done {
     let (keys, distances): (Vec<u64>, Vec<f32>) = order.map(|i| (f.keys[i], f.distances[i])).unzip();
     let ones = vec![1.0; keys.len()];
-    best(|| {
-        let n = keys.len();
+    let n = keys.len();
+    let ms = best(|| {
         let (mut k, mut d, mut w, mut count, mut at) = (vec![0; n], vec![0.0; n], vec![0.0; n], 0, 0);
         let t = TableMut { keys: &mut k, distances: &mut d, weights: &mut w, count: &mut count };
         let answer = (FACE.batch_update)(f.settings, t, &keys, &distances, &ones, &mut at);
         assert!(answer == 0 && count == n, "batch: answer {answer} at {at}");
         assert!(k == f.keys && d == f.distances, "the batch gave another table");
-    })
+    });
+    done(ms, n)
 }
 
-fn face(f: &Field) -> Times {
-    let mut t = Times::default();
-    if landed("akf_batch_update") {
-        t.ms[0] = Some(face_batch(f, 0..f.keys.len()));
-        t.ms[1] = Some(face_batch(f, f.order.iter().copied()));
-    }
+fn face_edges(f: &Field, rows: Table) -> Done {
+    let (mut first, mut second, mut edges) = (vec![0; LONGEST], vec![0; LONGEST], 0);
+    let ms = best(|| {
+        let answer = (FACE.get_zero_crossing_edges)(f.settings, rows, &mut first, &mut second, &mut edges);
+        assert!(answer == 0, "edges: answer {answer}");
+    });
+    done(ms, edges)
+}
+
+fn face_mesh(f: &Field, rows: Table) -> Done {
+    let (mut first, mut second) = (vec![0; LONGEST], vec![0; LONGEST]);
+    let mut v: Vec<Vec<f32>> = (0..6).map(|_| vec![0.0; LONGEST]).collect();
+    let mut groups = vec![0; LONGEST];
+    let mut corners: Vec<Vec<u32>> = (0..3).map(|_| vec![0; LONGEST]).collect();
+    let (mut edges, mut triangles) = (0, 0);
+    let ms = best(|| {
+        let [px, py, pz, nx, ny, nz] = &mut v[..] else { unreachable!() };
+        let [t0, t1, t2] = &mut corners[..] else { unreachable!() };
+        let lists = Lists {
+            edges: [&mut first, &mut second],
+            places: [px, py, pz],
+            normals: [nx, ny, nz],
+            groups: &mut groups,
+            triangles: [t0, t1, t2],
+        };
+        let answer = (FACE.extract_mesh_from_tsdf)(f.settings, rows, lists, &mut edges, &mut triangles);
+        assert!(answer == 0, "mesh: answer {answer}");
+    });
+    done(ms, triangles)
+}
+
+fn face_march(f: &Field, rows: Table, far: f32) -> Done {
+    let (mut keys, mut distances) = (vec![0; LONGEST], vec![0.0; LONGEST]);
+    let (mut estimates, mut waiting) = (vec![0.0; LONGEST], vec![0; LONGEST]);
+    let (mut marched, mut takings) = (0, 0);
+    let settings = Settings { max_distance: far, ..f.settings };
+    let ms = best(|| {
+        let answer = (FACE.compute_from_tsdf)(
+            settings,
+            rows,
+            f.threshold,
+            &mut keys,
+            &mut distances,
+            &mut estimates,
+            &mut waiting,
+            &mut marched,
+            &mut takings,
+        );
+        assert!(answer == 0, "march: answer {answer}");
+    });
+    done(ms, marched)
+}
+
+fn face_root() -> Done {
+    let xs = roots();
+    let ms = best(|| {
+        let mut all = 0u32;
+        for &x in &xs {
+            let mut root = 0.0;
+            (FACE.root)(black_box(x), &mut root);
+            all ^= root.to_bits();
+        }
+        black_box(all);
+    });
+    done(ms, 0)
+}
+
+fn face(f: &Field) -> [Done; 7] {
+    let mut t = [Done::default(); 7];
     let ones = vec![1.0; f.keys.len()];
-    let rows = Table { weights: &ones, ..table(f) };
-    const ROOM: usize = 1_048_576;
+    let rows = Table { keys: &f.keys, distances: &f.distances, weights: &ones, count: f.keys.len() };
+    if landed("akf_batch_update") {
+        t[0] = face_batch(f, 0..f.keys.len());
+        t[1] = face_batch(f, f.order.iter().copied());
+    }
     if landed("akf_get_zero_crossing_edges") {
-        let (mut first, mut second) = (vec![0; ROOM / 2], vec![0; ROOM / 2]);
-        t.ms[2] = Some(best(|| {
-            let answer = (FACE.get_zero_crossing_edges)(f.settings, rows, &mut first, &mut second, &mut t.counts[0]);
-            assert!(answer == 0, "edges: answer {answer}");
-        }));
+        t[2] = face_edges(f, rows);
     }
     if landed("akf_extract_mesh_from_tsdf") {
-        let (mut first, mut second) = (vec![0; ROOM / 2], vec![0; ROOM / 2]);
-        let mut v: Vec<Vec<f32>> = (0..6).map(|_| vec![0.0; ROOM / 2]).collect();
-        let mut groups = vec![0; ROOM];
-        let mut corners: Vec<Vec<u32>> = (0..3).map(|_| vec![0; ROOM]).collect();
-        t.ms[3] = Some(best(|| {
-            let [px, py, pz, nx, ny, nz] = &mut v[..] else { unreachable!() };
-            let [t0, t1, t2] = &mut corners[..] else { unreachable!() };
-            let lists = Lists {
-                edges: [&mut first, &mut second],
-                places: [px, py, pz],
-                normals: [nx, ny, nz],
-                groups: &mut groups,
-                triangles: [t0, t1, t2],
-            };
-            let (mut edges, mut triangles) = (0, 0);
-            let answer = (FACE.extract_mesh_from_tsdf)(f.settings, rows, lists, &mut edges, &mut triangles);
-            assert!(answer == 0, "mesh: answer {answer}");
-            (t.counts[1], t.counts[2]) = (edges, triangles);
-        }));
+        t[3] = face_mesh(f, rows);
     }
     if landed("akf_compute_from_tsdf") && !quick() {
-        let (mut keys, mut distances) = (vec![0; ROOM / 2], vec![0.0; ROOM / 2]);
-        let (mut estimates, mut waiting) = (vec![0.0; ROOM / 2], vec![0; ROOM / 2]);
-        t.ms[4] = Some(best(|| {
-            let mut takings = 0;
-            let answer = (FACE.compute_from_tsdf)(
-                f.settings,
-                rows,
-                f.threshold,
-                &mut keys,
-                &mut distances,
-                &mut estimates,
-                &mut waiting,
-                &mut t.counts[3],
-                &mut takings,
-            );
-            assert!(answer == 0, "march: answer {answer}");
-        }));
+        for (i, &far) in f.far.iter().enumerate() {
+            t[MARCH + i] = face_march(f, rows, far);
+        }
     }
     if landed("akf_root") {
-        let xs = roots();
-        t.ms[5] = Some(best(|| {
-            let mut all = 0u32;
-            for &x in &xs {
-                let mut root = 0.0;
-                (FACE.root)(black_box(x), &mut root);
-                all ^= root.to_bits();
-            }
-            black_box(all);
-        }));
+        t[ROOT] = face_root();
     }
     t
 }
 
 fn shown(x: Option<f64>) -> String {
-    x.map_or("-".to_string(), |x| format!("{x:.2}"))
+    x.map_or("-".to_string(), |x| if x < 100.0 { format!("{x:.2}") } else { format!("{x:.0}") })
 }
 
 fn over(a: Option<f64>, b: Option<f64>) -> String {
@@ -216,19 +255,29 @@ fn main() {
     if !cfg!(rust) {
         println!("The Rust isn't at ../shared/docs/src beside this repository: only the C face is measured.");
     }
-    let (whole, half) = (field(1.0, 4.6, 23.5), field(0.707, 4.6, 22.0));
-    let (rust, rust_half, face, face_half) = (rust(&whole), rust(&half), face(&whole), face(&half));
-    for (name, f, t) in [("whole", &whole, [&rust, &face]), ("half", &half, [&rust_half, &face_half])] {
-        for (side, t) in [("the Rust", t[0]), ("the face", t[1])] {
-            let [edges, vertices, triangles, marched] = t.counts;
-            println!("{name}, {side}: {} rows, {edges} edges, {vertices} vertices, {triangles} triangles, {marched} marched", f.keys.len());
+    let measured: Vec<(usize, [Done; 7], [Done; 7])> = SIZES
+        .iter()
+        .map(|&(rows, cells)| {
+            let f = field(rows, cells);
+            (rows, rust(&f), face(&f))
+        })
+        .collect();
+    println!("milliseconds of the thread's own time, the best of five runs; growth is over the line above, of half as many rows");
+    println!("| work | rows | gives | the Rust, ms | the face, ms | face / Rust | the Rust grows by | the face grows by |");
+    println!("|---|---|---|---|---|---|---|---|");
+    for (i, (work, unit)) in WORK.iter().enumerate() {
+        for (n, (rows, rust, face)) in measured.iter().enumerate() {
+            // a million roots are a million whatever the rows
+            if i == ROOT && n > 0 || rust[i].ms.is_none() && face[i].ms.is_none() {
+                continue;
+            }
+            let grows = |of: fn(&(usize, [Done; 7], [Done; 7])) -> &[Done; 7]| {
+                if n == 0 { "-".to_string() } else { over(of(&measured[n])[i].ms, of(&measured[n - 1])[i].ms) }
+            };
+            let gives = if i == ROOT { "-".to_string() } else { format!("{} {unit}", if face[i].ms.is_some() { face[i].gave } else { rust[i].gave }) };
+            let rows = if i == ROOT { "-".to_string() } else { rows.to_string() };
+            let (r, f) = (rust[i].ms, face[i].ms);
+            println!("| {work} | {rows} | {gives} | {} | {} | {} | {} | {} |", shown(r), shown(f), over(f, r), grows(|m| &m.1), grows(|m| &m.2));
         }
-    }
-    println!("{:18}{:>12}{:>12}{:>8}{:>22}{:>22}", "work", "Rust, ms", "face, ms", "ratio", "Rust, rows doubled", "face, rows doubled");
-    for (i, work) in WORK.iter().enumerate() {
-        let (r, f) = (rust.ms[i], face.ms[i]);
-        // a million roots are a million either way
-        let grows = |t: Option<f64>, h: Option<f64>| if i < 5 { over(t, h) } else { "-".to_string() };
-        println!("{work:18}{:>12}{:>12}{:>8}{:>22}{:>22}", shown(r), shown(f), over(f, r), grows(r, rust_half.ms[i]), grows(f, face_half.ms[i]));
     }
 }

@@ -35,6 +35,17 @@ pub fn rows(scale: f64, truncation: f64) -> (Vec<u64>, Vec<f32>) {
     rows.into_iter().unzip()
 }
 
+// Exactly n rows, those nearest to the surface of a last whose area goes with n.
+pub fn rows_nearest(n: usize) -> (Vec<u64>, Vec<f32>) {
+    let (keys, distances) = rows((n as f64 / 60_797.0).sqrt(), 4.8);
+    assert!(keys.len() >= n, "{} rows are fewer than {n}", keys.len());
+    let mut all: Vec<(u64, f32)> = keys.into_iter().zip(distances).collect();
+    all.sort_by(|a, b| a.1.abs().total_cmp(&b.1.abs()));
+    all.truncate(n);
+    all.sort_unstable_by_key(|r| r.0);
+    all.into_iter().unzip()
+}
+
 // 0 to n, shuffled.
 pub fn shuffled(n: usize) -> Vec<usize> {
     let mut order: Vec<usize> = (0..n).collect();

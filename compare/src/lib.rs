@@ -2,6 +2,7 @@
 pub mod calls;
 pub mod case;
 pub mod face;
+pub mod inputs;
 pub mod last;
 pub mod make;
 pub mod plain;

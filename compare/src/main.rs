@@ -197,6 +197,10 @@ fn main() -> ExitCode {
     if arguments.first().is_some_and(|a| a == "misread") {
         return misread(1, arguments.get(1).map_or(3_000, |n| n.parse().expect("a number")), arguments.get(2..).unwrap_or(&[]));
     }
+    if arguments.first().is_some_and(|a| a == "inputs") {
+        compare::inputs::print(1, arguments.get(1).map_or(10_000, |n| n.parse().expect("a number")));
+        return ExitCode::SUCCESS;
+    }
     #[cfg(rust)]
     if arguments.first().is_some_and(|a| a == "partings") {
         compare::partings::print();

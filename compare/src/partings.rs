@@ -1,5 +1,7 @@
 // Where the Rust and document 01 part, each by the smallest input found: what the Rust really does there, run and printed.
-use crate::case::Case;
+use crate::calls::{self, Side};
+use crate::case::{Case, Outcome};
+use crate::face::FACE;
 use crate::hashed;
 use crate::make;
 use crate::ordered::layers::bcc_utils::{physical_to_bcc_voxel, snap_to_nearest_bcc};
@@ -8,17 +10,27 @@ use crate::ordered::layers::mesh::{Mesh, Triangle, Vertex};
 use crate::ordered::layers::tsdf::TSDFLayer;
 use crate::ordered::neighbors::neighbors_index64;
 use crate::ordered::Index64;
+use crate::plain::DONE;
 use crate::rng::Rng;
 use crate::shrink::{show, shrink};
 use crate::table::{judge, Judged, COMPARED};
 use std::collections::BTreeSet;
 use std::panic::{catch_unwind, set_hook, AssertUnwindSafe};
 
-fn said<T: std::fmt::Debug>(what: &str, run: impl FnOnce() -> T) {
-    match catch_unwind(AssertUnwindSafe(run)) {
-        Ok(v) => println!("{what}: {v:?}"),
-        Err(_) => println!("{what}: panics"),
+fn said<T: std::fmt::Debug>(what: &str, rust: impl FnOnce() -> T, here: String) {
+    let told = catch_unwind(AssertUnwindSafe(rust)).map_or("a panic".to_string(), |v| format!("{v:?}"));
+    println!("{what}: the Rust {told}; here {here}");
+}
+
+// The face's answer: its number, and where it is done what it gave, by bits, of lists the first places.
+fn here(ask: fn(&Side, &Case) -> Outcome, c: Case) -> String {
+    let o = ask(&FACE, &c);
+    let mut text = format!("answer {}", o.answer.unwrap_or(0));
+    if o.answer == Some(DONE) {
+        o.numbers.iter().for_each(|(name, n)| text += &format!(", {name} {n:x}"));
+        o.lists.iter().for_each(|(name, l)| text += &format!(", {name} {:x?}", &l[..l.len().min(4)]));
     }
+    text
 }
 
 fn key(x: u16, y: u16, z: u16) -> Index64 {
@@ -91,102 +103,136 @@ pub fn print() {
     println!("rows (0,2,0) at 1 and (4,2,0) at -0, threshold 2, maximum distance 0: in 200 runs (1,1,1) got {signs:x?}");
 
     println!("-- header bits: heads other than 8000 to BFFF");
-    said("Index64::new(0, 0, 0, 0, 0, 0); here head 0 gives key 0", || format!("{:x}", key(0, 0, 0).raw()));
-    said("Index64::from_value(0) is an error", || Index64::from_value(0).is_err());
-    said("the first neighbour of key 0, made without that test; here 7", || format!("{:x}", neighbors_index64(Index64 { value: 0 })[0].raw()));
+    said("the key of (0, 0, 0) under frame, tier and lod 0", || format!("{:x}", key(0, 0, 0).raw()), here(calls::index64_new, Case::default()));
+    said("whether key 0 is turned away", || Index64::from_value(0).is_err(), here(calls::decode_coords, Case::default()));
+    let around = Case { rooms: vec![14], ..Case::default() };
+    said("the first neighbour of key 0", || format!("{:x}", neighbors_index64(Index64 { value: 0 })[0].raw()), here(calls::neighbors_index64, around));
 
-    println!("-- what document 01 refuses: the Rust's own answer");
-    said("snap (i32::MAX, 0, 0), refused 9", || snap_to_nearest_bcc(i32::MAX, 0, 0));
-    said("snap (i32::MIN, 1, 0), refused 9", || snap_to_nearest_bcc(i32::MIN, 1, 0));
-    said("position (3e9, 3e9, 3e9), size 1, refused 9", || physical_to_bcc_voxel((3e9, 3e9, 3e9), 1.0));
-    said("position (NaN, 0, 0), size 1, refused 5", || physical_to_bcc_voxel((f32::NAN, 0.0, 0.0), 1.0));
-    said("position (1, 1, 1), size 0, refused 1", || physical_to_bcc_voxel((1.0, 1.0, 1.0), 0.0));
-    said("Index64::new(0, 0, 0, 1, 0, 0), coordinates off the lattice, refused 4", || key(1, 0, 0).raw());
+    println!("-- what document 01 refuses: the Rust's own answer, and the face's");
+    let snap = |x: i32, y: i32, z: i32| {
+        let c = Case { coords: [x, y, z], ..Case::default() };
+        said(&format!("snap ({x}, {y}, {z})"), || snap_to_nearest_bcc(x, y, z), here(calls::snap_to_nearest_bcc, c));
+    };
+    snap(i32::MAX, 0, 0);
+    snap(i32::MIN, 1, 0);
+    let position = |x: f32, y: f32, z: f32, size: f32| {
+        let c = Case { settings: [1.0, 1.0, size, 0.0], reals: [x, y, z, 0.0, 0.0], ..Case::default() };
+        said(&format!("position ({x:?}, {y:?}, {z:?}), size {size:?}"), || physical_to_bcc_voxel((x, y, z), size), here(calls::physical_to_bcc_voxel, c));
+    };
+    position(3e9, 3e9, 3e9, 1.0);
+    position(f32::NAN, 0.0, 0.0, 1.0);
+    position(1.0, 1.0, 1.0, 0.0);
+    let off = Case { head: 0x8000, coords: [1, 0, 0], ..Case::default() };
+    said("the key of (1, 0, 0), off the lattice", || format!("{:x}", key(1, 0, 0).raw()), here(calls::index64_new, off));
+    let asked = Case { settings: [1.0, 100.0, 1.0, 0.0], key: key(1, 0, 0).raw(), ..Case::default() };
+    said("a question about it", || TSDFLayer::with_params(1.0, 100.0, 1.0).get_distance(key(1, 0, 0)), here(calls::tsdf_get_distance, asked));
+    for x in [-1.0, f32::NAN] {
+        said(&format!("the root of {x:?}"), || x.sqrt(), here(calls::root, Case { reals: [x, 0.0, 0.0, 0.0, 0.0], ..Case::default() }));
+    }
+    // readings of (10,10,10) into a table with one place
     let fused = |truncation: f32, max_weight: f32, readings: &[(f32, f32)]| {
-        let mut l = TSDFLayer::with_params(truncation, max_weight, 1.0);
-        for &(d, c) in readings {
-            l.update_from_depth(key(10, 10, 10), d, c).unwrap();
-        }
-        (l.get_distance(key(10, 10, 10)), l.get_weight(key(10, 10, 10)))
+        let k = key(10, 10, 10);
+        let rust = || {
+            let mut l = TSDFLayer::with_params(truncation, max_weight, 1.0);
+            readings.iter().for_each(|&(d, c)| l.update_from_depth(k, d, c).unwrap());
+            (l.get_distance(k), l.get_weight(k))
+        };
+        let c = Case {
+            settings: [truncation, max_weight, 1.0, 0.0],
+            keys: vec![0],
+            distances: vec![0.0],
+            weights: vec![0.0],
+            batch_keys: vec![k.raw(); readings.len()],
+            batch_distances: readings.iter().map(|r| r.0).collect(),
+            batch_confidences: readings.iter().map(|r| r.1).collect(),
+            ..Case::default()
+        };
+        said(&format!("truncation {truncation:?}, maximum weight {max_weight:?}, readings {readings:?}"), rust, here(calls::batch_update, c));
     };
-    said("the root of -1 and of a NaN, refused 5", || ((-1.0f32).sqrt(), f32::NAN.sqrt()));
-    said("a question about a key off the lattice, (1, 0, 0), refused 4", || TSDFLayer::with_params(1.0, 100.0, 1.0).get_distance(key(1, 0, 0)));
-    said("reading NaN, refused 5", || fused(1.0, 100.0, &[(f32::NAN, 1.0)]));
-    said("confidence 2, refused 5", || fused(1.0, 100.0, &[(0.5, 2.0)]));
-    said("confidence -1, refused 5", || fused(1.0, 100.0, &[(0.5, -1.0)]));
-    said("truncation -1, reading 0, refused 1", || fused(-1.0, 100.0, &[(0.0, 1.0)]));
-    said("truncation NaN, reading 0, refused 1", || fused(f32::NAN, 100.0, &[(0.0, 1.0)]));
-    said("maximum weight 1e-38, truncation 10, reading 10 twice, refused 7", || fused(10.0, 1e-38, &[(10.0, 1.0), (10.0, 1.0)]));
-    said("maximum weight 1, reading 0.5 twice (the capped weight divides; the head comment's formula gives 0.5)", || fused(1.0, 1.0, &[(0.5, 1.0), (0.5, 1.0)]));
-    said("maximum weight 0, reading 0.5, refused 1", || fused(1.0, 0.0, &[(0.5, 1.0)]));
+    fused(1.0, 100.0, &[(f32::NAN, 1.0)]);
+    fused(1.0, 100.0, &[(0.5, 2.0)]);
+    fused(1.0, 100.0, &[(0.5, -1.0)]);
+    fused(-1.0, 100.0, &[(0.0, 1.0)]);
+    fused(f32::NAN, 100.0, &[(0.0, 1.0)]);
+    fused(1.0, 0.0, &[(0.5, 1.0)]);
+    fused(10.0, 1e-38, &[(10.0, 1.0), (10.0, 1.0)]);
     let marched = |max_distance: f32, threshold: f32| {
-        let mut l = TSDFLayer::with_params(1.0, 100.0, 1.0);
-        l.update_from_depth(key(10, 10, 10), 0.0, 1.0).unwrap();
-        let mut e = ESDFLayer::new(1.0, max_distance);
-        e.compute_from_tsdf(&l, threshold).map(|()| e.voxels.len())
+        let rust = || {
+            let mut l = TSDFLayer::with_params(1.0, 100.0, 1.0);
+            l.update_from_depth(key(10, 10, 10), 0.0, 1.0).unwrap();
+            let mut e = ESDFLayer::new(1.0, max_distance);
+            e.compute_from_tsdf(&l, threshold).map(|()| e.voxels.len())
+        };
+        let c = Case { settings: [1.0, 100.0, 1.0, max_distance], reals: [threshold, 0.0, 0.0, 0.0, 0.0], rooms: vec![99; 4], weights: vec![1.0], ..rows(&[(key(10, 10, 10), 0.0)]) };
+        said(&format!("a march of one row 0, maximum distance {max_distance:?}, threshold {threshold:?}: rows"), rust, here(calls::compute_from_tsdf, c));
     };
-    said("maximum distance -1, a march of one row 0, refused 1", || marched(-1.0, 0.5));
-    said("maximum distance -0, a march of one row 0, refused 1: rows", || marched(-0.0, 0.5));
-    said("threshold NaN, a march of one row 0, refused 5: rows", || marched(1.0, f32::NAN));
-    said("area of a triangle (0, 0, 1) over one vertex, refused 10", || {
+    marched(-1.0, 0.5);
+    marched(-0.0, 0.5);
+    marched(1.0, f32::NAN);
+    // a mesh of these vertices, and one triangle or none
+    let mesh = |places: &[[f32; 3]], triangle: Option<[u32; 3]>| {
         let mut m = Mesh::new();
-        m.add_vertex(Vertex::new(0.0, 0.0, 0.0));
-        m.add_triangle(Triangle::new(0, 0, 1));
-        m.surface_area()
-    });
-    said("area over a vertex of 1e20, refused 10", || {
-        let mut m = Mesh::new();
-        m.add_vertex(Vertex::new(1e20, 0.0, 0.0));
-        m.add_vertex(Vertex::new(0.0, 1e20, 0.0));
-        m.add_vertex(Vertex::new(0.0, 0.0, 1e20));
-        m.add_triangle(Triangle::new(0, 1, 2));
-        m.surface_area()
-    });
-    said("box of one vertex NaN, refused 10", || {
-        let mut m = Mesh::new();
-        m.add_vertex(Vertex::new(f32::NAN, 0.0, 0.0));
-        m.bounding_box()
-    });
+        let mut c = Case { vertex_count: places.len(), triangle_count: triangle.iter().len(), ..Case::default() };
+        for p in places {
+            m.add_vertex(Vertex::new(p[0], p[1], p[2]));
+        }
+        for axis in 0..3 {
+            c.vertices[axis] = places.iter().map(|p| p[axis]).collect();
+            c.triangles[axis] = triangle.iter().map(|t| t[axis]).collect();
+        }
+        if let Some([i, j, k]) = triangle {
+            m.add_triangle(Triangle::new(i as usize, j as usize, k as usize));
+        }
+        (m, c)
+    };
+    let (m, c) = mesh(&[[0.0; 3]], Some([0, 0, 1]));
+    said("the area of a triangle (0, 0, 1) over one vertex", || m.surface_area(), here(calls::surface_area, c));
+    let (m, c) = mesh(&[[1e20, 0.0, 0.0], [0.0, 1e20, 0.0], [0.0, 0.0, 1e20]], Some([0, 1, 2]));
+    said("the area over vertices of 1e20", || m.surface_area(), here(calls::surface_area, c));
+    let (m, c) = mesh(&[[f32::NAN, 0.0, 0.0]], None);
+    said("the box of one vertex NaN", || m.bounding_box(), here(calls::bounding_box, c));
 
-    println!("-- what its comments say otherwise");
-    said("snap (0, 0, 1): moves by 1, more than 0.866", || snap_to_nearest_bcc(0, 0, 1));
-    said("position (0.4, 0.4, 0.6), size 1: snapped; (0,0,0) is 0.82 away and (1,1,1) is 0.94", || physical_to_bcc_voxel((0.4, 0.4, 0.6), 1.0));
-    said("position (0.49, 0.49, 0.49): (0,0,0) is 0.849 away", || physical_to_bcc_voxel((0.49, 0.49, 0.49), 1.0));
-    // the farthest that rounding and snapping move a position, and one that goes to a lattice point that is not the nearest
+    println!("-- what its comments say otherwise: the Rust's answer, and the face's, which is the same");
+    fused(1.0, 1.0, &[(0.5, 1.0), (0.5, 1.0)]);
+    snap(0, 0, 1);
+    position(0.0, 0.0, 1.25, 1.0);
+    farthest();
+    let two = rows(&[(key(10, 10, 10), 0.0), (key(12, 10, 10), 1.0)]);
+    said("(10,10,10) at 0 and (12,10,10) at 1: the gradient", || esdf(&two).get_gradient(key(10, 10, 10)), here(calls::get_gradient, two.clone()));
+    let zero = rows(&[(key(10, 10, 10), 0.0)]);
+    said("one marched row 0: the statistics", || esdf(&zero).stats(), here(calls::esdf_stats, zero.clone()));
+    let below = Case { reals: [-2.0, 0.0, 0.0, 0.0, 0.0], ..rows(&[(key(10, 10, 10), -1.0)]) };
+    said("one marched row -1, threshold -2: free", || esdf(&below).is_free_space(key(10, 10, 10), -2.0), here(calls::is_free_space, below.clone()));
+    let border = Case { key: key(0, 0, 0).raw(), rooms: vec![14], ..Case::default() };
+    let neighbours = || neighbors_index64(key(0, 0, 0)).iter().map(|k| k.decode_coords()).collect::<Vec<_>>();
+    said("the neighbours of (0,0,0), the axial three within the first eight places", neighbours, here(calls::neighbors_index64, border));
+}
+
+// Marched rows, the first of which is asked for.
+fn rows(of: &[(Index64, f32)]) -> Case {
+    let (keys, distances): (Vec<u64>, Vec<f32>) = of.iter().map(|&(k, d)| (k.raw(), d)).unzip();
+    Case { key: keys[0], count: keys.len(), keys, distances, ..Case::default() }
+}
+
+fn esdf(c: &Case) -> ESDFLayer {
+    let mut e = ESDFLayer::new(1.0, 10.0);
+    for i in 0..c.count {
+        e.voxels.insert(Index64::from_value(c.keys[i]).unwrap(), ESDFVoxel { distance: c.distances[i], fixed: true });
+    }
+    e
+}
+
+// The farthest that rounding and snapping move a position.
+fn farthest() {
     let mut r = Rng::new(1, "snapping");
-    let (mut worst, mut farther) = ((0.0f64, [0.0f32; 3]), (0.0f64, [0.0f32; 3], [0i32; 3]));
+    let mut worst = (0.0f64, [0.0f32; 3]);
     for _ in 0..1_000_000 {
         let at = [r.unit() * 4.0, r.unit() * 4.0, r.unit() * 4.0];
-        let to = physical_to_bcc_voxel((at[0], at[1], at[2]), 1.0);
-        let away = |p: [i32; 3]| (0..3).map(|i| (p[i] as f64 - at[i] as f64).powi(2)).sum::<f64>().sqrt();
-        let moved = away([to.0, to.1, to.2]);
+        let (x, y, z) = physical_to_bcc_voxel((at[0], at[1], at[2]), 1.0);
+        let moved = [x, y, z].iter().zip(at).map(|(&p, v)| (p as f64 - v as f64).powi(2)).sum::<f64>().sqrt();
         if moved > worst.0 {
             worst = (moved, at);
         }
-        for x in -1..6 {
-            for y in -1..6 {
-                for z in -1..6 {
-                    if (x - y) % 2 == 0 && (y - z) % 2 == 0 && moved - away([x, y, z]) > farther.0 {
-                        farther = (moved - away([x, y, z]), at, [x, y, z]);
-                    }
-                }
-            }
-        }
     }
-    println!("a million positions, size 1: the farthest moved {:.4}, from {:?}; the nearest lattice point missed by {:.4}: {:?} goes to {:?} instead of {:?}", worst.0, worst.1, farther.0, farther.1, physical_to_bcc_voxel((farther.1[0], farther.1[1], farther.1[2]), 1.0), farther.2);
-    let esdf = |rows: &[(Index64, f32)]| {
-        let mut e = ESDFLayer::new(1.0, 10.0);
-        for &(k, d) in rows {
-            e.voxels.insert(k, ESDFVoxel { distance: d, fixed: true });
-        }
-        e
-    };
-    said("one marched row 0: the free count includes zero", || esdf(&[(key(10, 10, 10), 0.0)]).stats());
-    said("(10,10,10) at 0 and (12,10,10) at 1: the gradient points toward larger distance", || {
-        esdf(&[(key(10, 10, 10), 0.0), (key(12, 10, 10), 1.0)]).get_gradient(key(10, 10, 10))
-    });
-    said("neighbours of (0,0,0): the axial one is among the first eight places, so the march takes the root of 3 for it", || {
-        neighbors_index64(key(0, 0, 0)).iter().map(|k| k.decode_coords()).collect::<Vec<_>>()
-    });
-    said("one marched row -1, threshold -2: free space, though its comment asks for a positive distance", || esdf(&[(key(10, 10, 10), -1.0)]).is_free_space(key(10, 10, 10), -2.0));
+    println!("a million positions, size 1: the farthest moved is {:?}, by {:.4}", worst.1, worst.0);
 }
