@@ -93,7 +93,7 @@ fn keys(seed: u64) -> String {
 
 fn neighbors(seed: u64) -> String {
     let mut t = String::new();
-    for (c, o) in cases("akf_neighbors_index64", seed, 150, |_, o| done(o), |c| c.rooms = vec![14]) {
+    for (c, o) in cases("akf_neighbors_index64", seed, 130, |_, o| done(o), |c| c.rooms = vec![14]) {
         let n = o.numbers[0].1 as usize;
         line(&mut t, 'A', &[vec![c.key, n as u64], o.lists[0].1[..n].to_vec()].concat());
     }
@@ -268,12 +268,67 @@ const SEED: u64 = 1;
 // what a program reads
 const LONGEST: usize = 65_536;
 
-// A program's standard input, and what it prints where every answer comes out again.
+// The words of each kind of line that are answers.
+const ANSWERS: [(char, std::ops::Range<usize>); 22] = [
+    ('N', 4..5),
+    ('D', 1..4),
+    ('A', 1..16),
+    ('Q', 1..2),
+    ('G', 3..6),
+    ('Y', 4..7),
+    ('F', 3..6),
+    ('J', 6..9),
+    ('T', 0..5),
+    ('U', 1..2),
+    ('u', 0..1),
+    ('E', 0..1),
+    ('e', 0..2),
+    ('M', 1..3),
+    ('m', 0..2),
+    ('B', 1..5),
+    ('X', 0..5),
+    ('H', 0..2),
+    ('V', 0..6),
+    ('K', 0..3),
+    ('O', 0..1),
+    ('W', 0..6),
+];
+
+// A line with the lowest bit of one word changed.
+fn with_changed(line: &str, word: usize) -> String {
+    let mut words: Vec<String> = line.split(' ').map(str::to_string).collect();
+    words[word + 1] = format!("{:x}", u64::from_str_radix(&words[word + 1], 16).unwrap() ^ 1);
+    words.join(" ")
+}
+
+// Each answer of each kind once more, in the shortest place where one stands, changed by a bit: a replay must not give it again.
+fn changed(lines: &str) -> String {
+    let mut text = String::new();
+    let all: Vec<&str> = lines.lines().collect();
+    for (letter, words) in ANSWERS {
+        // from the settings before it, where it has any
+        let from = |end: usize| if "NDAQGY".contains(letter) { end } else { (0..end).rev().find(|&i| all[i].starts_with('S')).unwrap() };
+        // an Absent gradient has no numbers
+        let places = (0..all.len()).filter(|&i| all[i].starts_with(letter) && !(letter == 'B' && all[i].contains(" 65 ")));
+        let Some((begin, end)) = places.map(|i| (from(i), i)).min_by_key(|&(a, b)| all[a..=b].iter().map(|l| l.len()).sum::<usize>()) else { continue };
+        for word in words.take_while(|w| w + 1 < all[end].split(' ').count()) {
+            for line in &all[begin..end] {
+                text += &format!("{line}\n");
+            }
+            text += &format!("!\n{}\n", with_changed(all[end], word));
+        }
+    }
+    text
+}
+
+// A program's standard input, and what it prints where every answer comes out again and every changed one does not.
 fn files(parts: &[fn(u64) -> String]) -> [(&'static str, String); 2] {
-    let lines: String = parts.iter().map(|make| make(SEED)).collect();
+    let mut lines: String = parts.iter().map(|make| make(SEED)).collect();
+    lines += &changed(&lines);
     assert!(lines.len() <= LONGEST, "{} bytes are more than a program reads", lines.len());
-    let asked = lines.lines().filter(|l| !l.starts_with(['S', 'R'])).count();
-    [("stdin", lines), ("stdout", format!("answers of the Rust {asked}, given again {asked}\n"))]
+    let changed = lines.lines().filter(|l| *l == "!").count();
+    let asked = lines.lines().filter(|l| !l.starts_with(['S', 'R', '!'])).count() - changed;
+    [("stdin", lines), ("stdout", format!("answers of the Rust {asked}, given again {asked}; changed by a bit {changed}, seen {changed}\n"))]
 }
 
 pub fn write(crates: &Path) -> std::io::Result<()> {

@@ -30,10 +30,14 @@ pub struct Field {
     pub rows: usize,
 }
 
-// How many answers were asked for, and how many came out again.
+// How many answers were asked for and how many came out again; how many were changed by a bit on purpose and how many of these did not come out;
+// and whether the next one is changed.
 pub struct Score {
     pub asked: u64,
     pub again: u64,
+    pub changed: u64,
+    pub seen: u64,
+    pub changes: bool,
 }
 
 fn blank() -> Line {
@@ -211,21 +215,41 @@ pub fn field_after(field: Field, line: Line) -> Field {
 }
 
 pub fn unscored() -> Score {
-    Score { asked: 0, again: 0 }
+    Score {
+        asked: 0,
+        again: 0,
+        changed: 0,
+        seen: 0,
+        changes: false,
+    }
 }
 
-// The score after a line: settings and rows ask for nothing.
-pub fn scored(score: Score, letter: u8, good: bool) -> Score {
-    if letter == b'S' {
-        return score;
-    }
-    if letter == b'R' {
-        return score;
+// One answer more.
+fn answered(score: Score, good: bool) -> Score {
+    let mut next = score;
+    next.changes = false;
+    if score.changes {
+        let one = if good { 0 } else { 1 };
+        next.changed = std::num::wrapping_add_u64(score.changed, 1);
+        next.seen = std::num::wrapping_add_u64(score.seen, one);
+        return next;
     }
     let one = if good { 1 } else { 0 };
-    Score {
-        asked: std::num::wrapping_add_u64(score.asked, 1),
-        again: std::num::wrapping_add_u64(score.again, one),
+    next.asked = std::num::wrapping_add_u64(score.asked, 1);
+    next.again = std::num::wrapping_add_u64(score.again, one);
+    next
+}
+
+// The score after a line: settings and rows ask for nothing, and ! says that the next answer is changed.
+pub fn scored(score: Score, letter: u8, good: bool) -> Score {
+    let mut next = score;
+    match letter {
+        b'S' | b'R' => next,
+        b'!' => {
+            next.changes = true;
+            next
+        }
+        _ => answered(score, good),
     }
 }
 
@@ -235,5 +259,9 @@ pub fn say(score: Score) {
     io::print_decimal(1, score.asked);
     io::write_all(1, b", given again ");
     io::print_decimal(1, score.again);
+    io::write_all(1, b"; changed by a bit ");
+    io::print_decimal(1, score.changed);
+    io::write_all(1, b", seen ");
+    io::print_decimal(1, score.seen);
     io::write_all(1, b"\n");
 }
