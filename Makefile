@@ -1,5 +1,5 @@
 # make test   everything that .ci/run does: the quick runs, then every proof, must-fail edit and program
-# make demo   the main job on a small example
+# make demo   the main job on a small example: the sole of a last, meshed by lastcheck
 # make bench  figures of speed, measured on this machine
 # make lib    build/libakfelzun.a, for x86-64, and build/akfelzun.h, for a plug-in to link
 # make examples  the two hosts and the test of bad input, on this machine
@@ -10,11 +10,12 @@
 test:
 	@.ci/run
 
-# the runs that take seconds: the root against the processor's, each call beside the Rust
+# the runs that take seconds: the root against the processor's, each call beside the Rust, the hosts, the program on its inputs
 quick:
 	@bench/root/run quick
 	@compare/run short
 	@examples/run
+	@tests/lastcheck/run
 
 lib:
 	@tools/lib
@@ -23,8 +24,7 @@ examples:
 	@examples/run
 
 demo:
-	@rt check
-	@bench/root/run quick
+	@demo/last
 
 seed = 1
 cases = 100000
