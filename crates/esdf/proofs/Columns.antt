@@ -1,4 +1,4 @@
--- Columns of rows or cells in lent lists: from the first place on, then zeros.
+-- Columns of rows or cells in lent lists: from the first place on, then zeros. Assumes nothing.
 use mathlib.Core.Path.{_≡_, refl, sym, ap, subst, _∙_}
 use mathlib.Core.Bool.{Bool, true, false, cond}
 use mathlib.Core.List.{List, [], _∷_, _++_, map, append-assoc}

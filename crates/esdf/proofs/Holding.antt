@@ -1,4 +1,4 @@
--- What the steps do to lists that hold a state.
+-- What the steps do to lists that hold a state. Assumes nothing.
 use mathlib.Core.Path.{_≡_, refl, sym, ap, subst, _∙_}
 use mathlib.Core.Bool.{Bool, true, false, cond, _||_, true≢false}
 use mathlib.Core.List.{List, [], _∷_, map}

@@ -1,4 +1,4 @@
--- Steps on all four lists: a row is stored, then cells wait.
+-- Steps on all four lists: a row is stored, then cells wait. Assumes nothing.
 use mathlib.Core.Path.{_≡_, refl, sym, ap, subst, _∙_}
 use mathlib.Core.Bool.{Bool, true, false, cond}
 use mathlib.Core.List.{List, [], _∷_, map}

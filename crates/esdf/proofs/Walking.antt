@@ -1,4 +1,4 @@
--- Loops that walk the first places of a list: what is left says what the whole says.
+-- Loops that walk the first places of a list: what is left says what the whole says. Assumes nothing.
 use mathlib.Core.Path.{_≡_, refl, sym, ap, _∙_}
 use mathlib.Core.Bool.{Bool, true, false, cond, _||_}
 use mathlib.Core.List.{List, [], _∷_}

@@ -394,23 +394,23 @@ fn sow_if(
 
 // Every seed of the table is sown.
 fn sow_all(
-    tkeys: &[u64],
-    tdistances: &[f32],
-    tweights: &[f32],
-    tcount: usize,
+    fused_keys: &[u64],
+    fused_distances: &[f32],
+    fused_weights: &[f32],
+    fused_count: usize,
     threshold: f32,
     keys: &mut [u64],
     distances: &mut [f32],
     estimates: &mut [f32],
     cells: &mut [u64],
 ) -> Step
-    requires { ⌜ Lent (now tkeys) (now tdistances) (now tweights) tcount × Held nothing 0 (now keys) (now distances) 0 (now estimates) (now cells) ⌝ }
-    ensures { λ r. ⌜ Left (sowAll neighbours (roomsOf (now (keys .entry)) (now (cells .entry))) (seeds threshold (rowsOf (now (tkeys .entry)) (now (tdistances .entry)) (now (tweights .entry)) tcount)) nothing) r (now (keys .exit)) (now (distances .exit)) (now (estimates .exit)) (now (cells .exit)) ⌝ }
+    requires { ⌜ Lent (now «fused_keys») (now «fused_distances») (now «fused_weights») «fused_count» × Held nothing 0 (now keys) (now distances) 0 (now estimates) (now cells) ⌝ }
+    ensures { λ r. ⌜ Left (sowAll neighbours (roomsOf (now (keys .entry)) (now (cells .entry))) (seeds threshold (rowsOf (now («fused_keys» .entry)) (now («fused_distances» .entry)) (now («fused_weights» .entry)) «fused_count»)) nothing) r (now (keys .exit)) (now (distances .exit)) (now (estimates .exit)) (now (cells .exit)) ⌝ }
 {
     let mut rows = 0;
     let mut held = 0;
     let mut i = 0;
-    while i < tcount {
+    while i < fused_count {
         match sow_if(
             threshold,
             keys,
@@ -419,9 +419,9 @@ fn sow_all(
             estimates,
             cells,
             held,
-            tkeys[i],
-            tdistances[i],
-            tweights[i],
+            fused_keys[i],
+            fused_distances[i],
+            fused_weights[i],
         ) {
             Step::Refused(why) => return Step::Refused(why),
             Step::On(n, w) => {
@@ -466,10 +466,10 @@ fn take_all(
 
 // The march over a table whose rows are in order, into lists that are all zero.
 fn march_rows(
-    tkeys: &[u64],
-    tdistances: &[f32],
-    tweights: &[f32],
-    tcount: usize,
+    fused_keys: &[u64],
+    fused_distances: &[f32],
+    fused_weights: &[f32],
+    fused_count: usize,
     threshold: f32,
     size: f32,
     most: f32,
@@ -478,14 +478,14 @@ fn march_rows(
     estimates: &mut [f32],
     cells: &mut [u64],
 ) -> Marched
-    requires { ⌜ Lent (now tkeys) (now tdistances) (now tweights) tcount × Held nothing 0 (now keys) (now distances) 0 (now estimates) (now cells) ⌝ }
-    ensures { λ r. ⌜ Finished (marchFrom size most (roomsOf (now (keys .entry)) (now (cells .entry))) threshold (rowsOf (now (tkeys .entry)) (now (tdistances .entry)) (now (tweights .entry)) tcount)) r (now (keys .exit)) (now (distances .exit)) (now (estimates .exit)) (now (cells .exit)) ⌝ }
+    requires { ⌜ Lent (now «fused_keys») (now «fused_distances») (now «fused_weights») «fused_count» × Held nothing 0 (now keys) (now distances) 0 (now estimates) (now cells) ⌝ }
+    ensures { λ r. ⌜ Finished (marchFrom size most (roomsOf (now (keys .entry)) (now (cells .entry))) threshold (rowsOf (now («fused_keys» .entry)) (now («fused_distances» .entry)) (now («fused_weights» .entry)) «fused_count»)) r (now (keys .exit)) (now (distances .exit)) (now (estimates .exit)) (now (cells .exit)) ⌝ }
 {
     match sow_all(
-        tkeys,
-        tdistances,
-        tweights,
-        tcount,
+        fused_keys,
+        fused_distances,
+        fused_weights,
+        fused_count,
         threshold,
         keys,
         distances,
@@ -572,10 +572,10 @@ fn check(
 // The march, if the tests have passed.
 fn march_if(
     verdict: Checked,
-    tkeys: &[u64],
-    tdistances: &[f32],
-    tweights: &[f32],
-    tcount: usize,
+    fused_keys: &[u64],
+    fused_distances: &[f32],
+    fused_weights: &[f32],
+    fused_count: usize,
     threshold: f32,
     size: f32,
     most: f32,
@@ -584,16 +584,16 @@ fn march_if(
     estimates: &mut [f32],
     cells: &mut [u64],
 ) -> Marched
-    requires { ⌜ MayMarch verdict (now tkeys) (now tdistances) (now tweights) tcount (now keys) (now distances) (now estimates) (now cells) ⌝ }
-    ensures { λ r. ⌜ Finished (tested verdict (marchFrom size most (roomsOf (now (keys .entry)) (now (cells .entry))) threshold (rowsOf (now (tkeys .entry)) (now (tdistances .entry)) (now (tweights .entry)) tcount))) r (now (keys .exit)) (now (distances .exit)) (now (estimates .exit)) (now (cells .exit)) ⌝ }
+    requires { ⌜ MayMarch verdict (now «fused_keys») (now «fused_distances») (now «fused_weights») «fused_count» (now keys) (now distances) (now estimates) (now cells) ⌝ }
+    ensures { λ r. ⌜ Finished (tested verdict (marchFrom size most (roomsOf (now (keys .entry)) (now (cells .entry))) threshold (rowsOf (now («fused_keys» .entry)) (now («fused_distances» .entry)) (now («fused_weights» .entry)) «fused_count»))) r (now (keys .exit)) (now (distances .exit)) (now (estimates .exit)) (now (cells .exit)) ⌝ }
 {
     match verdict {
         Checked::Refused(why) => Marched::Refused(why),
         Checked::Passed => march_rows(
-            tkeys,
-            tdistances,
-            tweights,
-            tcount,
+            fused_keys,
+            fused_distances,
+            fused_weights,
+            fused_count,
             threshold,
             size,
             most,

@@ -1,4 +1,5 @@
 -- `esdf::candidate` meets its contract.
+-- Assumes nothing.
 use Rattle.marching.specs.March.{candidate}
 use borrow.Author.Needs.{needs}
 use Rattle.esdf.proofs.candidate.Statement.{statement}

@@ -1,4 +1,5 @@
 -- `esdf::heard` meets its contract: the row that was found, or none, is what the definition looks at.
+-- Assumes nothing.
 use Prim.Native.Nat.{_<_}
 use mathlib.Core.Path.{_∙_}
 use native.Mathlib.Omega.{arith}

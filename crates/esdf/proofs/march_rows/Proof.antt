@@ -1,4 +1,5 @@
 -- `esdf::march_rows` meets its contract: the seeds are sown, then the cells are taken.
+-- Assumes nothing.
 use Rattle.table.specs.Table.{rowsOf}
 use Rattle.esdf.proofs.Marching.{rows-ascend, march-refused, sown-all, march-taken}
 use borrow.Author.Needs.{needs}
@@ -18,7 +19,7 @@ take-all-requires : tie.Need-take-all-requires
 take-all-requires c κs =
     let a = c .before .before .before .before .before .before .before .before .before .before .before .before .before .before .before .before .before .before .before .before .before .before .before .before .before .before .before .args in
     let p = c .before .before .before .before .before .before .before .before .before .before .before .before .before .before .before .before .before .before .before .before .before .before .before .before .before .before .before .pre in
-    let x = sown-all (a .size) (a .most) (a .threshold) (rowsOf (a .tkeys .now) (a .tdistances .now) (a .tweights .now) (a .tcount)) (a .keys .now) (a .cells .now) _ _ _ _ _ (c .before .before .before .before .before .before .before .before .before .before .before .before .before .before .before .sow-all .ensures) (rows-ascend _ _ _ _ (p .0)) (c .before .before .before .before .before .before .before .before .before .before .before .before .before .before .before .sow-all .kept .1 .1 .1 .1 .1 .0) (c .before .before .before .before .before .before .before .before .before .before .before .before .before .before .before .sow-all .kept .1 .1 .1 .1 .1 .1 .1 .1 .0) _ _ (c .before .before .before .before .before .rows .given .1) in
+    let x = sown-all (a .size) (a .most) (a .threshold) (rowsOf (a .fused-keys .now) (a .fused-distances .now) (a .fused-weights .now) (a .fused-count)) (a .keys .now) (a .cells .now) _ _ _ _ _ (c .before .before .before .before .before .before .before .before .before .before .before .before .before .before .before .sow-all .ensures) (rows-ascend _ _ _ _ (p .0)) (c .before .before .before .before .before .before .before .before .before .before .before .before .before .before .before .sow-all .kept .1 .1 .1 .1 .1 .0) (c .before .before .before .before .before .before .before .before .before .before .before .before .before .before .before .sow-all .kept .1 .1 .1 .1 .1 .1 .1 .1 .0) _ _ (c .before .before .before .before .before .rows .given .1) in
     (_, (x .0, x .1 .1))
 
 same-length : tie.Need-same-length
@@ -36,7 +37,7 @@ same-length-4 c = search needs
 returns : tie.Need-returns
 returns c =
     let a = c .before .before .before .before .before .before .before .before .before .before .before .before .before .before .before .before .before .before .before .before .before .before .before .args in
-    march-refused (a .size) (a .most) (a .threshold) (rowsOf (a .tkeys .now) (a .tdistances .now) (a .tweights .now) (a .tcount)) (a .keys .now) (a .cells .now) _ _ _ _ _ (c .before .before .before .before .before .before .before .before .before .before .before .sow-all .ensures) _ (c .before .why .given .1)
+    march-refused (a .size) (a .most) (a .threshold) (rowsOf (a .fused-keys .now) (a .fused-distances .now) (a .fused-weights .now) (a .fused-count)) (a .keys .now) (a .cells .now) _ _ _ _ _ (c .before .before .before .before .before .before .before .before .before .before .before .sow-all .ensures) _ (c .before .why .given .1)
 
 same-length-5 : tie.Need-same-length-5
 same-length-5 c = search needs
@@ -54,7 +55,7 @@ returns-2 : tie.Need-returns-2
 returns-2 c =
     let a = c .before .before .before .before .before .before .before .before .before .before .before .before .before .before .before .before .before .before .before .before .before .before .before .before .before .before .before .before .before .before .before .before .before .before .before .before .args in
     let p = c .before .before .before .before .before .before .before .before .before .before .before .before .before .before .before .before .before .before .before .before .before .before .before .before .before .before .before .before .before .before .before .before .before .before .before .before .pre in
-    march-taken (a .size) (a .most) (a .threshold) (rowsOf (a .tkeys .now) (a .tdistances .now) (a .tweights .now) (a .tcount)) (a .keys .now) (a .cells .now) _ _ _ _ _ (c .before .before .before .before .before .before .before .before .before .before .before .before .before .before .before .before .before .before .before .before .before .before .before .before .sow-all .ensures) (rows-ascend _ _ _ _ (p .0)) (c .before .before .before .before .before .before .before .before .before .before .before .before .before .before .before .before .before .before .before .before .before .before .before .before .sow-all .kept .1 .1 .1 .1 .1 .0) (c .before .before .before .before .before .before .before .before .before .before .before .before .before .before .before .before .before .before .before .before .before .before .before .before .sow-all .kept .1 .1 .1 .1 .1 .1 .1 .1 .0) _ _ (c .before .before .before .before .before .before .before .before .before .before .before .before .before .before .rows .given .1) _ _ _ _ _ (c .before .before .before .before .before .before .before .before .take-all .ensures)
+    march-taken (a .size) (a .most) (a .threshold) (rowsOf (a .fused-keys .now) (a .fused-distances .now) (a .fused-weights .now) (a .fused-count)) (a .keys .now) (a .cells .now) _ _ _ _ _ (c .before .before .before .before .before .before .before .before .before .before .before .before .before .before .before .before .before .before .before .before .before .before .before .before .sow-all .ensures) (rows-ascend _ _ _ _ (p .0)) (c .before .before .before .before .before .before .before .before .before .before .before .before .before .before .before .before .before .before .before .before .before .before .before .before .sow-all .kept .1 .1 .1 .1 .1 .0) (c .before .before .before .before .before .before .before .before .before .before .before .before .before .before .before .before .before .before .before .before .before .before .before .before .sow-all .kept .1 .1 .1 .1 .1 .1 .1 .1 .0) _ _ (c .before .before .before .before .before .before .before .before .before .before .before .before .before .before .rows .given .1) _ _ _ _ _ (c .before .before .before .before .before .before .before .before .take-all .ensures)
 
 pub march-rows-spec : {M : Type 1} → statement M
 march-rows-spec =

@@ -1,4 +1,5 @@
 -- `esdf::settle` meets its contract: the row is stored, then the cells wait.
+-- Assumes nothing.
 use Rattle.marching.specs.March.{on}
 use Rattle.marching.specs.Lattice.{lattice}
 use Rattle.esdf.specs.Steps.{roomsOf}

@@ -1,4 +1,5 @@
 -- `esdf::settled` meets its contract: what is left to hear says what the whole does.
+-- Assumes nothing.
 use Prim.Native.Nat.{_≤_, _-_}
 use mathlib.Core.Path.{_≡_, refl, _∙_}
 use mathlib.Core.List.{List}

@@ -1,4 +1,5 @@
 -- `esdf::sow` meets its contract: the row is stored, then the cells wait.
+-- Assumes nothing.
 use Rattle.marching.specs.March.{on, sow}
 use Rattle.esdf.proofs.Stepping.{no-place, then-may, no-waiting, both-done, with-size}
 use borrow.Author.Needs.{needs}

@@ -1,4 +1,5 @@
 -- `esdf::sow_if` meets its contract, by its test.
+-- Assumes nothing.
 use mathlib.Core.Path.{sym, _∙_}
 use Rattle.table.specs.Table.{row}
 use Rattle.esdf.proofs.Marching.{sow-if-seed, sow-if-not}

@@ -1,4 +1,5 @@
 -- `esdf::spread` meets its contract, by its test.
+-- Assumes nothing.
 use lib.Ieee.{nanBits, ofBits}
 use Rattle.marching.specs.March.{marchedRow}
 use Rattle.marching.specs.Lattice.{lattice}

@@ -1,4 +1,5 @@
 -- `esdf::step_length` meets its contract, by its test.
+-- Assumes nothing.
 use borrow.Author.Tests.{lt-ltb, le-ltb}
 use lib.Ieee.{nanBits, ofBits}
 use Rattle.marching.specs.Lattice.{lengthAt}

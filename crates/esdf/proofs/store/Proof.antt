@@ -1,4 +1,5 @@
 -- `esdf::store` meets its contract: each return is a case of the definition.
+-- Assumes nothing.
 use Rattle.marching.specs.March.{marchedRow}
 use Rattle.esdf.proofs.Holding.{store-full, store-placed}
 use borrow.Author.Needs.{needs}

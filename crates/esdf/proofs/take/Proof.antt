@@ -1,4 +1,5 @@
 -- `esdf::take` meets its contract: the first cell goes, and is skipped or settled.
+-- Assumes nothing.
 use native.Mathlib.Omega.{arith}
 use lib.Ieee.{ofBits}
 use Rattle.marching.specs.Lattice.{lattice}

@@ -1,4 +1,5 @@
 -- `esdf::take_all` meets its contract: the takings that are left say what all say. Their number falls, as takings are at most the rows that have a place.
+-- Assumes nothing.
 use Prim.Native.Nat.{suc, _-_}
 use mathlib.Core.Path.{_≡_, refl}
 use mathlib.Core.List.{List}

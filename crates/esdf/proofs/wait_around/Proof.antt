@@ -1,4 +1,5 @@
 -- `esdf::wait_around` meets its contract: what is left to do says what the whole does.
+-- Assumes nothing.
 use Prim.Native.Nat.{_<_, _≤_, _-_}
 use mathlib.Core.Path.{_≡_, refl}
 use native.Mathlib.Omega.{arith}

@@ -1,4 +1,5 @@
 -- `esdf::waiting_place` meets its contract: what is left says what the whole says.
+-- Assumes nothing.
 use Prim.Native.Nat.{_+_, _≤_, _-_}
 use native.Mathlib.Nat.{zero-add}
 use mathlib.Core.Path.{_≡_, refl, sym, _∙_}

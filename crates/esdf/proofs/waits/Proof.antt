@@ -1,4 +1,5 @@
 -- `esdf::waits` meets its contract: what is left says what the whole says.
+-- Assumes nothing.
 use Prim.Native.Nat.{_≤_, _-_}
 use mathlib.Core.Path.{_≡_, refl, sym, _∙_}
 use lib.ListN.{take, drop}
