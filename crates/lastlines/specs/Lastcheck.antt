@@ -55,6 +55,7 @@ testedAs false settings = Refused Setting
 abbrev pub settingsWith : Float → Float → Float → Settings
 settingsWith t w s = record { truncation = record { 0 = t }; «max_weight» = w; «voxel_size» = record { 0 = s }; «max_distance» = record { 0 = zero32 } }
 
+-- three numbers as settings
 unfoldable pub settingsFrom : Float → Float → Float → Setup
 settingsFrom t w s = testedAs (settingsOk (settingsWith t w s)) (settingsWith t w s)
 
@@ -63,6 +64,7 @@ abbrev pub withSetting : Given → (Float → Setup) → Setup
 withSetting (Number x) rest = rest x
 withSetting NotNumber rest = Refused Setting
 
+-- what P does: truncation, maximum weight and size as bits
 unfoldable pub setupOf : ℕ → ℕ → ℕ → Setup
 setupOf t w s =
     withSetting (givenOf t) λ a.
@@ -84,7 +86,7 @@ withKey (made.Refused why) rest = taken.Refused OffLattice
 unfoldable pub cellOf : ℕ → ℕ → ℕ → Made
 cellOf x y z = madeOf 0 x y z
 
--- a reading of it
+-- a direct reading of it
 unfoldable pub takenOf : ℕ → ℕ → ℕ → ℕ → ℕ → Taken
 takenOf x y z d c =
     withKey (cellOf x y z) λ k.
@@ -97,6 +99,7 @@ unfoldable pub fusedAs : Taken → Settings → Table → Outcome
 fusedAs (taken.Direct k distance confidence) s t = fuse s t k (reading.Direct (record { 0 = distance }) confidence)
 fusedAs (taken.Refused why) s t = outcome (fused.Refused why) t
 
+-- what D does: x, y, z, then distance and confidence as bits
 unfoldable pub readingOf : Settings → Table → ℕ → ℕ → ℕ → ℕ → ℕ → Outcome
 readingOf s t x y z d c = fusedAs (takenOf x y z d c) s t
 
@@ -183,19 +186,21 @@ transcriptFrom n started s t (l ∷ ls) =
     let a = stepOf l n started s t in
     a .text ++ cond (a .goes) (transcriptFrom (suc n) (a .started) (a .settings) (a .left) ls) []
 
--- the lines of an input are cut at newlines; bytes after the last newline are a line
+-- bytes after the last newline are a line
 unfoldable pub unended : List ℕ → List (List ℕ)
 unended [] = []
 unended (b ∷ bs) = (b ∷ bs) ∷ []
 
+-- the lines of an input, after bytes of the present line that were kept: cut at newlines
 unfoldable pub linesFrom : List ℕ → List ℕ → List (List ℕ)
 linesFrom kept [] = unended kept
 linesFrom kept (b ∷ bs) = cond (eqb b 10) (kept ∷ linesFrom [] bs) (linesFrom (kept ++ (b ∷ [])) bs)
 
--- the run begins without settings, on 256 places without rows
+-- the run begins without settings
 abbrev pub unset : Settings
 unset = settingsWith zero32 zero32 zero32
 
+-- and with 256 places, none of them a row
 abbrev pub unfilled : Table
 unfilled = table (replicate 256 0) (replicate 256 zero32) (replicate 256 zero32) 0
 
