@@ -1,6 +1,7 @@
-// bench_last [quick]: synthetic lasts of 16,384, 32,768 and 65,536 rows, the most that a table holds: the Rust with its own hash tables and the C face
+// bench_last [quick] [ROWS]: synthetic lasts of 16,384, 32,768 and 65,536 rows, the most that a table holds: the Rust with its own hash tables and the C face
 // in one process on the same input. Prints the best of five runs of each, their ratio, and how each grows when the rows double.
-// The march goes to about five times the rows, and to about sixteen times, the most that a marched list holds; `quick` leaves it out.
+// The march goes to about five times the rows, and to about sixteen times, the most that a marched list holds; `quick` leaves it out. ROWS leaves larger
+// lasts out.
 use compare::face::{FACE, LANDED};
 use compare::last::{rows_nearest, shuffled, SIZE};
 use compare::rng::Rng;
@@ -137,6 +138,11 @@ fn quick() -> bool {
     std::env::args().any(|a| a == "quick")
 }
 
+// The most rows that are measured.
+fn most() -> usize {
+    std::env::args().find_map(|a| a.parse().ok()).unwrap_or(usize::MAX)
+}
+
 fn face_batch(f: &Field, order: impl Iterator<Item = usize>) -> Done {
     let (keys, distances): (Vec<u64>, Vec<f32>) = order.map(|i| (f.keys[i], f.distances[i])).unzip();
     let ones = vec![1.0; keys.len()];
@@ -257,6 +263,7 @@ fn main() {
     }
     let measured: Vec<(usize, [Done; 7], [Done; 7])> = SIZES
         .iter()
+        .filter(|size| size.0 <= most())
         .map(|&(rows, cells)| {
             let f = field(rows, cells);
             (rows, rust(&f), face(&f))
