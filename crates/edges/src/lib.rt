@@ -6,9 +6,11 @@ use table::Found;
 use table::Settings;
 ghost use mathlib.Core.Path.{_≡_};
 ghost use Prim.Native.Nat.{_+_, _*_, _<_, _≤_};
-ghost use lib.ListN.{length, set};
+ghost use mathlib.Core.Bool.{true};
+ghost use lib.ListN.{length, getD, set, take};
 ghost use Rattle.lists.specs.Listing.{countOf, heldFor};
 ghost use Rattle.lists.specs.Places.{clearedFrom};
+ghost use Rattle.table.specs.Keys.{ascending, findBy};
 ghost use Rattle.table.specs.Table.{table, rowsOf};
 ghost use Rattle.neighbors.specs.Neighbors.{neighbours};
 ghost use Rattle.edges.specs.Edges.{listed, edgesOf};
@@ -35,6 +37,14 @@ fn crosses(distance: f32, weight: f32, other: f32, beside: f32) -> bool
     (weight != 0.0) & ((beside != 0.0) & (distance * other < 0.0))
 }
 
+// Where a key above that of a row stands among the first `count`: the search begins past the row.
+fn find_beside(keys: &[u64], count: usize, row: usize, key: u64) -> Found
+    requires { ⌜ (count ≤ length (now keys)) × (ascending (take count (now keys)) ≡ true) × (row < count) × (getD (now keys) row 0 < key) ⌝ }
+    ensures { λ r. ⌜ r ≡ findBy key (take count (now (keys .entry))) ⌝ }
+{
+    table::nearby::find_above(&keys[..count], row + 1, key)
+}
+
 // Whether the row at a place and the cell `key` are listed.
 fn is_listed(
     keys: &[u64],
@@ -50,7 +60,7 @@ fn is_listed(
     if key <= keys[row] {
         return false;
     }
-    let Found::At(place) = table::find_row(keys, count, key) else {
+    let Found::At(place) = find_beside(keys, count, row, key) else {
         return false;
     };
     crosses(

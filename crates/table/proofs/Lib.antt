@@ -5,3 +5,4 @@ pub mod Checking
 pub mod Putting
 pub mod Keeping
 pub mod Determined
+pub mod NearbyLaws

@@ -1,4 +1,6 @@
 // The table: three lent lists whose first `count` places are rows, ascending by key (src/layers/tsdf.rs, the map).
+pub mod nearby;
+
 use floats::Metres;
 use floats::between;
 use floats::positive_to;
