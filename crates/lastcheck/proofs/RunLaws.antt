@@ -1,13 +1,12 @@
 -- Laws of one byte, of the end of the input, and of bytes in turn.
 -- Assumes nothing.
-use Prim.Native.Nat.{ℕ, zero, suc, _+_, _<_, _≤_}
+use Prim.Native.Nat.{ℕ, _+_, _<_, _≤_}
 use native.Mathlib.Numerals.{add-one}
 use native.Mathlib.Omega.{arith}
-use mathlib.Core.Path.{_≡_, refl, sym, ap, _∙_}
+use mathlib.Core.Path.{_≡_, refl, ap, _∙_}
 use mathlib.Core.Logic.{_⊎_, inl, inr, ⊎-elim}
-use mathlib.Core.Bool.{Bool, true, false}
+use mathlib.Core.Bool.{true, false}
 use mathlib.Core.List.{List, [], _∷_, _++_}
-use lib.Dec.{ltb, eqb}
 use lib.ListN.{length, take, set, getD}
 use lib.Seq.{take-suc, take-suc-set, take-all, length-take-le}
 use borrow.Author.Tests.{lt-ltb, le-ltb, eq-eqb, ne-eqb}
@@ -15,8 +14,8 @@ use Rattle.lastlines.specs.declared.Stepped.{Stepped}
 use Rattle.lastlines.specs.Lastcheck.{After, IsStep}
 use Rattle.table.specs.Table.{Table}
 use Rattle.lastcheck.specs.declared.Run.{Run}
-use Rattle.lastcheck.specs.Run.{State, state, counted, keptWith, longer, ended, renewed, stepByte, textByte, lastText, fed, stopped}
-use Rattle.lastcheck.specs.Steps.{stateOf, Moved, Finished, silenced, halted, Written, Cut, Fed}
+use Rattle.lastcheck.specs.Run.{State, state, counted, keptWith, longer, stepByte, textByte, lastText, fed, stopped}
+use Rattle.lastcheck.specs.Steps.{stateOf, Moved, LineTaken, ByteTaken, Finished, silenced, Written, Cut, Fed}
 
 -- a byte stored after the kept ones
 pub kept-more : (l : List ℕ) (k byte : ℕ) → k < length l → take (k + 1) (set l k byte) ≡ keptWith (length l) (take k l) byte
@@ -46,7 +45,7 @@ line-moved a step t out out' line n n' i e =
 module _ (run : Run) (byte : ℕ) (line : List ℕ) (t : Table) (fits : run .kept ≤ length line) where
   -- a run that has ended
   pub byte-none : (r : Run) (out : List ℕ) → run .going ≡ false → r ≡ silenced run →
-      Moved (length line) (stepByte (length line) (stateOf run line t) byte) (textByte (stateOf run line t) byte) r line t out out
+      ByteTaken run byte line t r line t out out
   unfolding stepByte textByte
   byte-none r out g e =
       record {
@@ -60,8 +59,8 @@ module _ (run : Run) (byte : ℕ) (line : List ℕ) (t : Table) (fits : run .kep
   module _ (goes : run .going ≡ true) where
     -- a newline
     pub byte-newline : (r : Run) (t' : Table) (out out' : List ℕ) → byte ≡ 10 →
-        Moved 0 (renewed (stateOf run line t) (ended (stateOf run line t))) (ended (stateOf run line t) .text) r line t' out out' →
-        Moved (length line) (stepByte (length line) (stateOf run line t) byte) (textByte (stateOf run line t) byte) r line t' out out'
+        LineTaken run line t r t' out out' →
+        ByteTaken run byte line t r line t' out out'
     unfolding stepByte textByte
     byte-newline r t' out out' e m =
         record {
@@ -74,7 +73,7 @@ module _ (run : Run) (byte : ℕ) (line : List ℕ) (t : Table) (fits : run .kep
 
     -- any other byte
     pub byte-kept : (r : Run) (line' out : List ℕ) → (byte ≡ 10 → ⊥) → stateOf r line' t ≡ longer (length line) (stateOf run line t) byte → r .kept ≤ length line → r .printed ≡ 0 →
-        Moved (length line) (stepByte (length line) (stateOf run line t) byte) (textByte (stateOf run line t) byte) r line' t out out
+        ByteTaken run byte line t r line' t out out
     unfolding stepByte textByte
     byte-kept r line' out e s k p =
         record {
@@ -92,7 +91,7 @@ module _ (run : Run) (line : List ℕ) (t : Table) where
   none-left out g = record { printed = rw g; short = omega arith; wrote = rw g }
 
   pub line-left : (r : Run) (t' : Table) (out out' : List ℕ) → run .going ≡ true → 0 < run .kept → run .kept ≤ length line →
-      Moved 0 (renewed (stateOf run line t) (ended (stateOf run line t))) (ended (stateOf run line t) .text) r line t' out out' →
+      LineTaken run line t r t' out out' →
       Finished (lastText (stateOf run line t)) (r .printed) out out'
   unfolding lastText
   line-left r t' out out' g h k m =

@@ -1,21 +1,21 @@
--- The bytes in turn print what the lines in turn print: for an input of fewer than 2^64 - 1 bytes, what the run prints is its transcript.
+-- The bytes in turn print what the lines in turn print: for an input of fewer than 2^64 - 2 bytes, what the run prints is its transcript.
 -- Assumes nothing.
-use Prim.Native.Nat.{ℕ, zero, suc, _+_, _<_, _≤_}
+use Prim.Native.Nat.{ℕ, suc, _+_, _<_, _≤_}
 use native.Mathlib.Numerals.{add-one}
 use native.Mathlib.Omega.{arith}
 use mathlib.Core.Path.{_≡_, refl, sym, ap, _∙_}
 use mathlib.Core.Bool.{Bool, true, false, cond}
 use mathlib.Core.List.{List, [], _∷_, _++_, append-nil}
-use lib.Dec.{ltb, leb, eqb}
+use lib.Dec.{ltb, eqb}
 use lib.ListN.{length, take, length-append}
 use lib.Seq.{take-all, take-append-le, length-take-le}
-use borrow.Author.Tests.{lt-ltb, le-ltb, ltb-true, ltb-false}
+use borrow.Author.Tests.{lt-ltb, ltb-true, ltb-false}
 use Rattle.lists.proofs.Bools.{cases}
 use Rattle.lines.proofs.LongLines.{cut}
 use Rattle.lastlines.specs.Lastcheck.{After, stepOf, transcriptFrom, unended, linesFrom, transcript, unset, unfilled}
 use Rattle.table.specs.declared.Settings.{Settings}
 use Rattle.table.specs.Table.{Table}
-use Rattle.lastcheck.specs.Run.{State, state, beginning, counted, keptWith, stepByte, textByte, lastText, textFrom}
+use Rattle.lastcheck.specs.Run.{state, beginning, counted, keptWith, stepByte, textByte, lastText, textFrom}
 
 -- a run that has ended prints nothing
 silent : (l : List ℕ) (n : ℕ) (started : Bool) (s : Settings) (t : Table) (bytes : List ℕ) → textFrom 38 (state l n started s t false) bytes ≡ []

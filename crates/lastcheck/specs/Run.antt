@@ -1,16 +1,12 @@
 -- What one byte of the input does, and what a run prints.
-use Prim.Native.Nat.{ℕ, _+_, _≤_}
-use mathlib.Core.Path.{_≡_}
-use mathlib.Core.Logic.{_⊎_}
+use Prim.Native.Nat.{ℕ, _+_}
 use mathlib.Core.Bool.{Bool, true, false, cond}
 use mathlib.Core.List.{List, [], _∷_, _++_}
 use lib.Dec.{ltb, eqb}
-use lib.ListN.{length, take}
-use lib.Seq.{sets}
+use lib.ListN.{length}
 use Rattle.lastlines.specs.Lastcheck.{After, stepOf, unset, unfilled}
 use Rattle.table.specs.declared.Settings.{Settings}
 use Rattle.table.specs.Table.{Table}
-use Rattle.lastcheck.specs.declared.Run.{Run}
 
 -- where a run stands: what is kept of the present line, its number, whether P came, the settings, the table, and whether the run goes on
 pub record State : Type 0 where

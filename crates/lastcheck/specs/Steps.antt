@@ -8,7 +8,7 @@ use lib.ListN.{length, take}
 use lib.Seq.{sets}
 use Rattle.table.specs.Table.{Table}
 use Rattle.lastcheck.specs.declared.Run.{Run}
-use Rattle.lastcheck.specs.Run.{State, state, fed, stopped}
+use Rattle.lastcheck.specs.Run.{State, state, ended, renewed, stepByte, textByte, fed, stopped}
 
 -- the state that the program holds
 abbrev pub stateOf : Run → List ℕ → Table → State
@@ -21,6 +21,18 @@ pub record Moved (room : ℕ) (s : State) (text : List ℕ) (r : Run) (line : Li
   pub printed : r .printed ≡ length text
   pub short : r .printed ≤ 15000
   pub wrote : out' ≡ sets out 0 text
+
+-- a whole line is taken: what it does is done, its text is at the front, and the next line is begun
+abbrev pub LineTaken : Run → List ℕ → Table → Run → Table → List ℕ → List ℕ → Type 0
+LineTaken run line t r t' out out' =
+    let s = stateOf run line t in
+    Moved 0 (renewed s (ended s)) (ended s .text) r line t' out out'
+
+-- one byte is taken, where the line has as much room as it is long
+abbrev pub ByteTaken : Run → ℕ → List ℕ → Table → Run → List ℕ → Table → List ℕ → List ℕ → Type 0
+ByteTaken run byte line t r line' t' out out' =
+    let s = stateOf run line t in
+    Moved (length line) (stepByte (length line) s byte) (textByte s byte) r line' t' out out'
 
 -- the end of the input: how many bytes are printed, and they stand at the front
 pub record Finished (text : List ℕ) (r : ℕ) (out out' : List ℕ) : Type 0 where

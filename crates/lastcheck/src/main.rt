@@ -7,27 +7,10 @@ ghost use mathlib.Core.Path.{_≡_};
 ghost use mathlib.Core.Bool.{true, false};
 ghost use Prim.Native.Nat.{_<_, _≤_};
 ghost use lib.ListN.{length};
-ghost use lib.Seq.{sets};
 ghost use Rattle.table.specs.Table.{Table, table};
 ghost use Rattle.lastlines.specs.Lastcheck.{unset};
-ghost use Rattle.lastcheck.specs.Run.{
-  counted,
-  ended,
-  renewed,
-  longer,
-  stepByte,
-  textByte,
-  lastText,
-};
-ghost use Rattle.lastcheck.specs.Steps.{
-  stateOf,
-  Moved,
-  Finished,
-  silenced,
-  halted,
-  Written,
-  Fed,
-};
+ghost use Rattle.lastcheck.specs.Run.{counted, longer, lastText};
+ghost use Rattle.lastcheck.specs.Steps.{stateOf, LineTaken, ByteTaken, Finished, silenced, halted, Written, Fed};
 
 // Where a run stands: how many bytes of the present line are kept, its number, whether P came, its settings, whether the run goes on, and how many bytes are to be printed.
 struct Run {
@@ -133,11 +116,8 @@ fn end_line(
     out: &mut [u8],
 ) -> Run
     requires { ⌜ run .kept ≤ length (now line) ⌝ }
-    ensures { λ r. ⌜ Moved 0
-        (renewed (stateOf run (now (line .entry)) (table (now (keys .entry)) (now (distances .entry)) (now (weights .entry)) (now (count .entry))))
-        (ended (stateOf run (now (line .entry)) (table (now (keys .entry)) (now (distances .entry)) (now (weights .entry)) (now (count .entry))))))
-        (ended (stateOf run (now (line .entry)) (table (now (keys .entry)) (now (distances .entry)) (now (weights .entry)) (now (count .entry)))) .text)
-        r (now (line .entry)) (table (now (keys .exit)) (now (distances .exit)) (now (weights .exit)) (now (count .exit))) (now (out .entry)) (now (out .exit)) ⌝ }
+    ensures { λ r. ⌜ LineTaken run (now (line .entry)) (table (now (keys .entry)) (now (distances .entry)) (now (weights .entry)) (now (count .entry)))
+        r (table (now (keys .exit)) (now (distances .exit)) (now (weights .exit)) (now (count .exit))) (now (out .entry)) (now (out .exit)) ⌝ }
 {
     let kept = run.kept;
     let before = run.settings;
@@ -176,9 +156,7 @@ fn take_byte(
     out: &mut [u8],
 ) -> Run
     requires { ⌜ run .kept ≤ length (now line) ⌝ }
-    ensures { λ r. ⌜ Moved (length (now (line .entry)))
-        (stepByte (length (now (line .entry))) (stateOf run (now (line .entry)) (table (now (keys .entry)) (now (distances .entry)) (now (weights .entry)) (now (count .entry)))) byte)
-        (textByte (stateOf run (now (line .entry)) (table (now (keys .entry)) (now (distances .entry)) (now (weights .entry)) (now (count .entry)))) byte)
+    ensures { λ r. ⌜ ByteTaken run byte (now (line .entry)) (table (now (keys .entry)) (now (distances .entry)) (now (weights .entry)) (now (count .entry)))
         r (now (line .exit)) (table (now (keys .exit)) (now (distances .exit)) (now (weights .exit)) (now (count .exit))) (now (out .entry)) (now (out .exit)) ⌝ }
 {
     if !run.going {

@@ -1,11 +1,10 @@
 -- `lastcheck::feed` meets its contract. The loop's invariant: the bytes before `i` are taken in turn, or the run ended where it could not write. Assumes nothing.
 use Prim.Native.Nat.{_≤_, _-_}
 use native.Mathlib.Omega.{arith}
-use mathlib.Core.Path.{_≡_, refl, sym, _∙_}
-use mathlib.Core.Logic.{inl, inr, ⊎-elim}
+use mathlib.Core.Path.{_≡_, refl, _∙_}
+use mathlib.Core.Logic.{inl}
 use borrow.Author.Needs.{needs}
 use lib.ListN.{length}
-use lib.Seq.{take-all}
 use Rattle.table.specs.Table.{table}
 use Rattle.lastcheck.specs.Run.{fed}
 use Rattle.lastcheck.specs.Steps.{stateOf}

@@ -1,6 +1,6 @@
 -- `lastcheck::keep` meets its contract: the kept bytes with one more, or as they were. Assumes nothing.
 use native.Mathlib.Omega.{arith}
-use mathlib.Core.Path.{_≡_, refl, sym, ap}
+use mathlib.Core.Path.{refl}
 use Rattle.lastcheck.proofs.RunLaws.{kept-more, kept-full}
 use borrow.Author.Needs.{needs}
 use Rattle.lastcheck.proofs.keep.Statement.{statement}

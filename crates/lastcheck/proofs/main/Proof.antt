@@ -1,6 +1,5 @@
 -- `lastcheck::main` is safe and ends: the lists keep their lengths, and the turns run out. Assumes nothing.
 use Prim.Native.Nat.{_≤_}
-use native.Mathlib.Omega.{arith}
 use mathlib.Core.Path.{_≡_, refl}
 use borrow.Author.Needs.{needs}
 use lib.ListN.{length}
