@@ -1,4 +1,4 @@
-# make test   everything that .ci/run does: the quick runs, then every proof, must-fail edit and program
+# make test   everything that .ci/run does: every proof, must-fail edit and program, then the quick runs
 # make demo   the main job on a small example: the sole of a last, meshed by lastcheck
 # make bench  figures of speed, measured on this machine
 # make lib    build/libakfelzun.a, for x86-64, and build/akfelzun.h, for a plug-in to link
