@@ -1,0 +1,19 @@
+-- `fronts::candidate` meets its contract.
+-- Assumes nothing.
+use Rattle.marching.specs.March.{candidate}
+use borrow.Author.Needs.{needs}
+use Rattle.fronts.proofs.candidate.Statement.{statement}
+use Rattle.fronts.proofs.candidate.Tie as tie
+
+sign-requires : tie.Need-sign-requires
+sign-requires c κs = search needs
+
+size-requires : tie.Need-size-requires
+size-requires c κs = search needs
+
+returns : tie.Need-returns
+unfolding candidate
+returns c = rw (c .size .ensures, c .before .sign .ensures)
+
+pub candidate-spec : {M : Type 1} → statement M
+candidate-spec = tie.close (tie.spec sign-requires size-requires returns)

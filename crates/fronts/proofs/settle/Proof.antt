@@ -1,0 +1,113 @@
+-- `fronts::settle` meets its contract: the row is stored, then the cells wait.
+-- Assumes nothing.
+use mathlib.Core.Path.{_≡_, refl, sym, _∙_}
+use mathlib.Core.List.{_∷_}
+use Rattle.marching.specs.March.{cellsOf}
+use Rattle.marching.specs.Lattice.{lattice}
+use Rattle.fronts.specs.Fronts.{roomsOf}
+use Rattle.fronts.proofs.Stepping.{no-row, no-cell, both-done, settle-by, taken-same}
+use borrow.Author.Needs.{needs}
+use Rattle.fronts.proofs.settle.Statement.{statement}
+use Rattle.fronts.proofs.settle.Tie as tie
+
+settled-requires : tie.Need-settled-requires
+settled-requires c κs =
+    c .before .before .before .before .before .before .pre .0
+
+store-requires : tie.Need-store-requires
+store-requires c κs =
+    c .before .before .before .before .before .before .before .before .before .pre .0
+
+enum-known-why : tie.Need-enum-known-why
+enum-known-why c = search needs
+
+enum-known-rows : tie.Need-enum-known-rows
+enum-known-rows c = search needs
+
+spread-requires : tie.Need-spread-requires
+spread-requires c κs =
+    let p = c .before .before .before .before .before .before .before .before .before .before .before .before .before .before .before .before .before .before .before .before .before .pre in
+    let k = c .before .before .before .before .before .before .before .before .before .before .before .store .kept in
+    (k .1 .0 ∙ p .0 ∙ sym (k .0), p .1)
+
+enum-known-why-2 : tie.Need-enum-known-why-2
+enum-known-why-2 c = search needs
+
+enum-known-held : tie.Need-enum-known-held
+enum-known-held c = search needs
+
+same-length : tie.Need-same-length
+same-length c = search needs
+
+same-length-2 : tie.Need-same-length-2
+same-length-2 c = search needs
+
+returns : tie.Need-returns
+returns c =
+    let a = c .before .before .before .before .before .before .before .before .before .before .before .before .before .before .before .before .before .args in
+    λ s h.
+    settle-by (lattice (a .size) (a .most)) (roomsOf (a .keys .now) (a .cells .now)) (a .key) s _ (c .before .before .before .before .before .before .before .before .before .before .settled .ensures (s .stored) _ (h .marked)) _ _ _ _ _
+    (no-row _ _ s (a .waiting) (a .estimates .now) (a .cells .now) (h .heap) _ _ _ (c .before .before .before .before .before .before .before .store .ensures s (a .key ∷ cellsOf (s .waiting)) (cellsOf (s .waiting)) (h .marked) (taken-same (a .key) (cellsOf (s .waiting))) (h .count) (h .new)) _ (c .before .why .given .1) _ _)
+
+same-length-3 : tie.Need-same-length-3
+same-length-3 c = search needs
+
+same-length-4 : tie.Need-same-length-4
+same-length-4 c = search needs
+
+same-length-5 : tie.Need-same-length-5
+same-length-5 c = search needs
+
+same-length-6 : tie.Need-same-length-6
+same-length-6 c = search needs
+
+returns-2 : tie.Need-returns-2
+returns-2 c =
+    let a = c .before .before .before .before .before .before .before .before .before .before .before .before .before .before .before .before .before .before .before .before .before .before .before .before .before .before .before .before .before .before .before .before .before .args in
+    λ s h.
+    settle-by (lattice (a .size) (a .most)) (roomsOf (a .keys .now) (a .cells .now)) (a .key) s _ (c .before .before .before .before .before .before .before .before .before .before .before .before .before .before .before .before .before .before .before .before .before .before .before .before .before .before .settled .ensures (s .stored) _ (h .marked)) _ _ _ _ _
+    (no-cell _ _ s (a .waiting) (a .estimates .now) (a .cells .now) (h .heap) _ _ _ (c .before .before .before .before .before .before .before .before .before .before .before .before .before .before .before .before .before .before .before .before .before .before .before .store .ensures s (a .key ∷ cellsOf (s .waiting)) (cellsOf (s .waiting)) (h .marked) (taken-same (a .key) (cellsOf (s .waiting))) (h .count) (h .new)) _ (c .before .before .before .before .before .before .before .before .before .before .before .before .before .before .before .before .before .rows .given .1) _ _ _ _ _ (c .before .before .before .before .before .before .before .before .before .before .before .spread .ensures) _ (c .before .why2 .given .1))
+
+same-length-7 : tie.Need-same-length-7
+same-length-7 c = search needs
+
+same-length-8 : tie.Need-same-length-8
+same-length-8 c = search needs
+
+same-length-9 : tie.Need-same-length-9
+same-length-9 c = search needs
+
+same-length-10 : tie.Need-same-length-10
+same-length-10 c = search needs
+
+returns-3 : tie.Need-returns-3
+returns-3 c =
+    let a = c .before .before .before .before .before .before .before .before .before .before .before .before .before .before .before .before .before .before .before .before .before .before .before .before .before .before .before .before .before .before .before .before .before .args in
+    λ s h.
+    settle-by (lattice (a .size) (a .most)) (roomsOf (a .keys .now) (a .cells .now)) (a .key) s _ (c .before .before .before .before .before .before .before .before .before .before .before .before .before .before .before .before .before .before .before .before .before .before .before .before .before .before .settled .ensures (s .stored) _ (h .marked)) _ _ _ _ _
+    (both-done _ _ s (a .waiting) (a .estimates .now) (a .cells .now) (h .heap) _ _ _ (c .before .before .before .before .before .before .before .before .before .before .before .before .before .before .before .before .before .before .before .before .before .before .before .store .ensures s (a .key ∷ cellsOf (s .waiting)) (cellsOf (s .waiting)) (h .marked) (taken-same (a .key) (cellsOf (s .waiting))) (h .count) (h .new)) _ (c .before .before .before .before .before .before .before .before .before .before .before .before .before .before .before .before .before .rows .given .1) _ _ _ _ _ (c .before .before .before .before .before .before .before .before .before .before .before .spread .ensures) _ (c .before .held .given .1))
+
+pub settle-spec : {M : Type 1} → statement M
+settle-spec =
+    tie.close
+    (tie.spec
+    settled-requires
+    store-requires
+    enum-known-why
+    enum-known-rows
+    spread-requires
+    enum-known-why-2
+    enum-known-held
+    same-length
+    same-length-2
+    returns
+    same-length-3
+    same-length-4
+    same-length-5
+    same-length-6
+    returns-2
+    same-length-7
+    same-length-8
+    same-length-9
+    same-length-10
+    returns-3)

@@ -1,0 +1,49 @@
+-- `fronts::sow_if` meets its contract, by its test.
+-- Assumes nothing.
+use mathlib.Core.Path.{_≡_, refl, sym, _∙_}
+use Rattle.table.specs.Table.{row}
+use Rattle.fronts.proofs.Marching.{sow-if-seed, sow-if-not}
+use borrow.Author.Needs.{needs}
+use Rattle.fronts.proofs.sow_if.Statement.{statement}
+use Rattle.fronts.proofs.sow_if.Tie as tie
+
+is-seed-requires : tie.Need-is-seed-requires
+is-seed-requires c κs = search needs
+
+sow-requires : tie.Need-sow-requires
+sow-requires c κs = search needs
+
+same-length : tie.Need-same-length
+same-length c = search needs
+
+same-length-2 : tie.Need-same-length-2
+same-length-2 c = search needs
+
+same-length-3 : tie.Need-same-length-3
+same-length-3 c = search needs
+
+same-length-4 : tie.Need-same-length-4
+same-length-4 c = search needs
+
+returns : tie.Need-returns
+returns c =
+    let a = c .before .before .before .before .before .before .before .before .before .before .before .before .before .before .before .before .before .before .before .args in
+    λ s h new. sow-if-seed _ _ _ (row (a .key) (a .distance) (a .weight)) s (sym (c .before .before .before .before .before .before .before .before .before .before .before .before .before .before .is-seed .ensures) ∙ c .before .before .before .before .before .before .before .before .before .before .before .before .before .if1 .taken) _ _ _ _ _ (c .before .before .before .before .before .before .before .before .sow .ensures s h new)
+
+returns-2 : tie.Need-returns-2
+returns-2 c =
+    let a = c .before .before .before .before .before .before .args in
+    λ s h new. sow-if-not _ _ _ (row (a .key) (a .distance) (a .weight)) s (sym (c .before .is-seed .ensures) ∙ c .if1 .left) _ _ _ _ _ _ h
+
+pub sow-if-spec : {M : Type 1} → statement M
+sow-if-spec =
+    tie.close
+    (tie.spec
+    is-seed-requires
+    sow-requires
+    same-length
+    same-length-2
+    same-length-3
+    same-length-4
+    returns
+    returns-2)

@@ -1,0 +1,4 @@
+pub mod Seeking
+pub mod Keeping
+pub mod Samples
+pub mod Determined
