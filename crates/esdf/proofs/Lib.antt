@@ -4,5 +4,6 @@ pub mod Columns
 pub mod Holding
 pub mod Stepping
 pub mod Marching
+pub mod Choosing
 pub mod Computing
 pub mod Determined

@@ -1,6 +1,12 @@
 // The march: distances carried outwards from the surface (src/layers/esdf.rs).
 // The marched rows ascend by key; the waiting cells ascend by estimate, then by key. Plain lists: looking a row up halves, all
 // else walks.
+use fronts::Raced;
+use fronts::Stop;
+use fronts::candidate;
+use fronts::is_seed;
+use fronts::race;
+use fronts::step_length;
 use lists::clear_f32;
 use lists::clear_u64;
 use lists::drop_first_f32;
@@ -27,7 +33,7 @@ ghost use Rattle.lists.specs.Places.{filled};
 ghost use Rattle.neighbors.specs.Neighbors.{neighbours};
 ghost use Rattle.table.specs.Keys.{member};
 ghost use Rattle.table.specs.Table.{row, table, rowsOf};
-ghost use Rattle.marching.specs.March.{MarchedRow, marchedRow, cell, State, keysOf, cellBefore, store, wait, waitAll, candidate, distanceOf, heard, nothing, isSeed, seeds, settled, sow, sowAll, spread, settle, take, takeUpTo};
+ghost use Rattle.marching.specs.March.{MarchedRow, marchedRow, cell, State, keysOf, cellBefore, store, wait, waitAll, distanceOf, heard, nothing, seeds, settled, sow, sowAll, spread, settle, take, takeUpTo};
 ghost use Rattle.marching.specs.Lattice.{lengthAt, lattice, marchFrom};
 ghost use Rattle.esdf.specs.Steps.{cellsBeside, HeldRows, HaveRows, LeftRows, MayWait, DoesWait, roomsOf, MayStep, Does, MayStore, DoesStore, Lent, sowIf, Held, Left, MayTake, DoesTake, Finished, MayMarch, tidied};
 ghost use Rattle.esdf.specs.Compute.{places, setOk, marchCheck, tested, outcome, computed};
@@ -150,24 +156,6 @@ fn wait_around(
         i += 1;
     }
     Placed::Now(held)
-}
-
-// The length of a step to the neighbour at a place: the root of 3 for the first eight, 2 after.
-fn step_length(place: usize) -> f32
-    ensures { λ r. ⌜ r ≡ lengthAt place ⌝ }
-{
-    if place < 8 {
-        f32::from_bits(0x3FDD_B3D7)
-    } else {
-        2.0
-    }
-}
-
-// What a stored neighbour says of a cell.
-fn candidate(size: f32, length: f32, distance: f32) -> f32
-    ensures { λ r. ⌜ r ≡ candidate size length distance ⌝ }
-{
-    floats::sign(distance) * (floats::size(distance) + length * size)
 }
 
 // The best so far, once the neighbour at a place is heard.
@@ -347,17 +335,6 @@ fn take(
         most,
         key,
     )
-}
-
-// Whether a row is a seed.
-fn is_seed(threshold: f32, key: u64, distance: f32, weight: f32) -> bool
-    ensures { λ r. ⌜ r ≡ isSeed threshold (row key distance weight) ⌝ }
-{
-    if floats::size(distance) < threshold {
-        0.0 < weight
-    } else {
-        false
-    }
 }
 
 // A table's row is sown if it is a seed.
@@ -569,6 +546,60 @@ fn check(
     }
 }
 
+// The fast march; where it gave up, the lists are cleared and the plain march runs.
+fn march_either(
+    fused_keys: &[u64],
+    fused_distances: &[f32],
+    fused_weights: &[f32],
+    fused_count: usize,
+    threshold: f32,
+    size: f32,
+    most: f32,
+    keys: &mut [u64],
+    distances: &mut [f32],
+    estimates: &mut [f32],
+    cells: &mut [u64],
+) -> Marched
+    requires { ⌜ Lent (now «fused_keys») (now «fused_distances») (now «fused_weights») «fused_count» × Held nothing 0 (now keys) (now distances) 0 (now estimates) (now cells) ⌝ }
+    ensures { λ r. ⌜ Finished (marchFrom size most (roomsOf (now (keys .entry)) (now (cells .entry))) threshold (rowsOf (now («fused_keys» .entry)) (now («fused_distances» .entry)) (now («fused_weights» .entry)) «fused_count»)) r (now (keys .exit)) (now (distances .exit)) (now (estimates .exit)) (now (cells .exit)) ⌝ }
+{
+    match race(
+        fused_keys,
+        fused_distances,
+        fused_weights,
+        fused_count,
+        threshold,
+        size,
+        most,
+        keys,
+        distances,
+        estimates,
+        cells,
+    ) {
+        Raced::Done(rows, takings) => Marched::Done(rows, takings),
+        Raced::Not(why) => match why {
+            Stop::NoRow => Marched::Refused(Refusal::NoPlace),
+            Stop::NoCell => Marched::Refused(Refusal::NoWaitingPlace),
+            Stop::GaveUp => {
+                clear(keys, distances, estimates, cells);
+                march_rows(
+                    fused_keys,
+                    fused_distances,
+                    fused_weights,
+                    fused_count,
+                    threshold,
+                    size,
+                    most,
+                    keys,
+                    distances,
+                    estimates,
+                    cells,
+                )
+            }
+        },
+    }
+}
+
 // The march, if the tests have passed.
 fn march_if(
     verdict: Checked,
@@ -589,7 +620,7 @@ fn march_if(
 {
     match verdict {
         Checked::Refused(why) => Marched::Refused(why),
-        Checked::Passed => march_rows(
+        Checked::Passed => march_either(
             fused_keys,
             fused_distances,
             fused_weights,

@@ -28,7 +28,7 @@ beside-whole (k ∷ ks) [] ws = refl
 beside-whole (k ∷ ks) (d ∷ ds) [] = refl
 beside-whole (k ∷ ks) (d ∷ ds) (w ∷ ws) = ap (λ rs. row k d w ∷ rs) (beside-whole ks ds ws)
 
-beside-at : (ks : List ℕ) (ds ws : List Float) (i : ℕ) → length ds ≡ length ks → length ws ≡ length ks → i < length ks → drop i (beside ks ds ws) ≡ row (getD ks i 0) (getD ds i nan) (getD ws i nan) ∷ drop (suc i) (beside ks ds ws)
+pub beside-at : (ks : List ℕ) (ds ws : List Float) (i : ℕ) → length ds ≡ length ks → length ws ≡ length ks → i < length ks → drop i (beside ks ds ws) ≡ row (getD ks i 0) (getD ds i nan) (getD ws i nan) ∷ drop (suc i) (beside ks ds ws)
 beside-at ks ds ws i p q h = rw (beside-whole ks ds ws) at (row-at ks ds ws (length ks) i p q h (le-of-eq refl))
 
 beside-past : (ks : List ℕ) (ds ws : List Float) (i : ℕ) → length ks ≤ i → drop i (beside ks ds ws) ≡ []

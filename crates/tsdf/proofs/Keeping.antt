@@ -42,7 +42,7 @@ pub weight-kept : (most w c : Float) → lt zero32 most ≡ true → between zer
 weight-kept most w c p q r =
     smaller-between (add binary32 w c) most (sum-at-least-0 w c (and-first (le zero32 w) _ q) (and-first (le zero32 c) _ r)) (lt-le zero32 most p)
 
-zero-in : (most : Float) → lt zero32 most ≡ true → between zero32 most zero32 ≡ true
+pub zero-in : (most : Float) → lt zero32 most ≡ true → between zero32 most zero32 ≡ true
 unfolding le lt eq ofBits ofFields odd
 zero-in most h = rw h
 

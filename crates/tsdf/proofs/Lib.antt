@@ -7,3 +7,6 @@ pub mod FuseLaws
 pub mod BatchLaws
 pub mod Samples
 pub mod Determined
+pub mod Stepping
+pub mod Running
+pub mod Ending

@@ -1,3 +1,4 @@
 pub mod Readings
 pub mod Fusing
 pub mod Batches
+pub mod Runs

@@ -11,8 +11,8 @@ enum-known-verdict c = search needs
 enum-told : tie.Need-enum-told
 enum-told c = search needs
 
-march-rows-requires : tie.Need-march-rows-requires
-march-rows-requires c κs = c .before .before .before .before .before .before .before .before .before .before .before .before .before .pre (c .before .before .before .before .enum-told .given .1)
+march-either-requires : tie.Need-march-either-requires
+march-either-requires c κs = c .before .before .before .before .before .before .before .before .before .before .before .before .before .pre (c .before .before .before .before .enum-told .given .1)
 
 returns : tie.Need-returns
 returns c = refused-first _ _ _ _ _ _ (c .before .verdict .given .1)
@@ -30,7 +30,7 @@ same-length-4 : tie.Need-same-length-4
 same-length-4 c = search needs
 
 returns-2 : tie.Need-returns-2
-returns-2 c = passed-first _ _ _ _ _ _ _ (c .before .before .before .before .before .before .before .before .before .before .before .before .before .enum-told .given .1) (c .before .before .before .before .before .before .before .before .march-rows .ensures)
+returns-2 c = passed-first _ _ _ _ _ _ _ (c .before .before .before .before .before .before .before .before .before .before .before .before .before .enum-told .given .1) (c .before .before .before .before .before .before .before .before .march-either .ensures)
 
 pub march-if-spec : {M : Type 1} → statement M
 march-if-spec =
@@ -38,7 +38,7 @@ march-if-spec =
     (tie.spec
     enum-known-verdict
     enum-told
-    march-rows-requires
+    march-either-requires
     returns
     same-length
     same-length-2
