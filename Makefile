@@ -5,7 +5,7 @@
 # make examples  the two hosts and the test of bad input, on this machine
 # make compare   every call beside the Rust and the plain reading, 100,000 cases each (seed=N cases=N)
 # make misread   misreadings of document 01 on purpose: the comparison must see each
-.PHONY: test demo quick lib examples compare misread bench bench-root bench-last bench-march
+.PHONY: test demo quick lib examples compare misread bench bench-root bench-last
 
 test:
 	@.ci/run
@@ -34,13 +34,10 @@ compare:
 misread:
 	@compare/run misread
 
-bench: bench-root bench-last bench-march
+bench: bench-root bench-last
 
 bench-root:
 	@bench/root/run
 
 bench-last:
 	@bench/last/run
-
-bench-march:
-	@bench/march/run

@@ -1,0 +1,67 @@
+/* What a call takes of the stack: a batch of 5,000 readings, an edge list and a march of them, each in a thread of its own whose stack is painted
+   beforehand. Exits 1 where one takes more than 192 KB. docs/LINKING.md says so to a host that lends a small stack. */
+#define _XOPEN_SOURCE 700
+#include "akfelzun.h"
+#include <pthread.h>
+#include <stdio.h>
+#include <stdlib.h>
+#include <string.h>
+
+enum { ROWS = 65536, READINGS = 5000, WAITING = 100000, MARCHED = 200000, STACK = 1 << 20, MOST = 192 * 1024 };
+#define SETTINGS 1.0f, 100.0f, 0.02f, 0.1f
+static uint64_t keys[ROWS], batch[READINGS], first[WAITING], second[WAITING], marched[MARCHED], cells[WAITING];
+static float distances[ROWS], weights[ROWS], read_distances[READINGS], confidences[READINGS], far_distances[MARCHED], estimates[WAITING];
+static size_t count;
+static uint32_t answer;
+
+static void *fuse(void *unused) {
+    size_t at;
+    answer = akf_batch_update(SETTINGS, keys, ROWS, distances, ROWS, weights, ROWS, &count, batch, READINGS, read_distances, READINGS, confidences,
+                              READINGS, &at);
+    return unused;
+}
+
+static void *list(void *unused) {
+    size_t edges;
+    answer = akf_get_zero_crossing_edges(SETTINGS, keys, ROWS, distances, ROWS, weights, ROWS, count, first, WAITING, second, WAITING, &edges);
+    return unused;
+}
+
+static void *march(void *unused) {
+    size_t rows, takings;
+    answer = akf_compute_from_tsdf(SETTINGS, keys, ROWS, distances, ROWS, weights, ROWS, count, 1.0f, marched, MARCHED, far_distances, MARCHED,
+                                   estimates, WAITING, cells, WAITING, &rows, &takings);
+    return unused;
+}
+
+static int took_too_much(const char *name, void *(*call)(void *)) {
+    unsigned char *stack = aligned_alloc(65536, STACK);
+    pthread_attr_t attributes;
+    pthread_t thread;
+    size_t untouched = 0;
+    memset(stack, 0xA5, STACK);
+    pthread_attr_init(&attributes);
+    if (pthread_attr_setstack(&attributes, stack, STACK) || pthread_create(&thread, &attributes, call, NULL)) {
+        return 1;
+    }
+    pthread_join(thread, NULL);
+    while (untouched < STACK && stack[untouched] == 0xA5) {
+        untouched++;
+    }
+    free(stack);
+    printf("stack: %s answered %u and took %zu bytes, the thread's own among them\n", name, answer, STACK - untouched);
+    return answer != 0 || STACK - untouched > MOST;
+}
+
+int main(void) {
+    for (uint32_t i = 0; i < READINGS; i++) {
+        uint32_t x = i * 40503u % READINGS;
+        akf_index64_new(0x8000, 2 * (x % 17), 2 * (x / 17 % 17), 2 * (x / 289), &batch[i]);
+        read_distances[i] = x % 2 ? 0.01f : -0.01f;
+        confidences[i] = 1.0f;
+    }
+    int wrong = took_too_much("a batch", fuse);
+    wrong += took_too_much("an edge list", list);
+    wrong += took_too_much("a march", march);
+    return wrong != 0;
+}
