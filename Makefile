@@ -10,8 +10,9 @@
 test:
 	@.ci/run
 
-# the runs that take seconds: the root against the processor's, each call beside the Rust, the hosts, the program on its inputs
+# the runs that take seconds: the tools on made-up inputs, the root against the processor's, each call beside the Rust, the hosts, the program on its inputs
 quick:
+	@tests/tools/run
 	@bench/root/run quick
 	@compare/run short
 	@examples/run
