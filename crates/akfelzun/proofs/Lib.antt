@@ -1,3 +1,1 @@
-pub mod SignedLaws
-pub mod BackLaws
 pub mod Determined

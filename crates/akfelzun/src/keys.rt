@@ -1,16 +1,16 @@
 // Keys, neighbours, the root and snapping.
-use crate::CountBack;
-use crate::DONE;
-use crate::LengthBack;
-use crate::NOTHING;
-use bcc_utils::Snapped;
+use answers::keys::key_back;
+use answers::keys::list_back;
+use answers::keys::one_if;
+use answers::keys::place_back;
+use answers::keys::root_back;
+use answers::keys::snapped_number;
+use answers::keys::x_snapped;
+use answers::keys::y_snapped;
+use answers::keys::z_snapped;
 use bcc_utils::WideCells;
 use floats::Metres;
 use ids::Cells;
-use ids::Decoded;
-use ids::Made;
-use lists::Listed;
-use root::Rooted;
 ghost use mathlib.Core.Path.{_≡_};
 ghost use lib.ListN.{length};
 ghost use Rattle.ids.specs.Key.{madeOf, madeNumber, decodedOf, decodedNumber};
@@ -19,50 +19,7 @@ ghost use Rattle.neighbors.specs.Neighbors.{listedOf, listingOf};
 ghost use Rattle.root.specs.Root.{rootAnswer, rootNumber};
 ghost use Rattle.bcc_utils.specs.Snapping.{onLattice, snapped, snappedNumber, snappedPlace};
 ghost use Rattle.bcc_utils.specs.Metres.{voxelOf};
-ghost use Rattle.akfelzun.specs.Keys.{keyMade, placeDecoded, rootGiven, oneIf};
-
-// 1 for yes, 0 for no.
-pub(crate) fn one_if(yes: bool) -> u32
-    ensures { λ r. ⌜ r ≡ oneIf yes ⌝ }
-{
-    if yes { 1 } else { 0 }
-}
-
-// The number of an answer to a list, and how many it says.
-pub(crate) fn list_back(listed: Listed) -> CountBack
-    ensures { λ r. ⌜ r .number ≡ listedNumber listed ⌝ }
-    ensures { λ r. ⌜ r .count ≡ countOf listed ⌝ }
-{
-    match listed {
-        Listed::Count(n) => CountBack {
-            number: DONE,
-            count: n,
-        },
-        Listed::Refused(why) => CountBack {
-            number: refusals::number(why),
-            count: 0,
-        },
-    }
-}
-
-// The number of an answer, and a key.
-struct KeyBack {
-    number: u32,
-    key: u64,
-}
-
-fn key_back(made: Made) -> KeyBack
-    ensures { λ r. ⌜ r .number ≡ madeNumber made ⌝ }
-    ensures { λ r. ⌜ r .key ≡ keyMade made ⌝ }
-{
-    match made {
-        Made::Key(key) => KeyBack { number: DONE, key },
-        Made::Refused(why) => KeyBack {
-            number: refusals::number(why),
-            key: 0,
-        },
-    }
-}
+ghost use Rattle.answers.specs.Keys.{keyMade, placeDecoded, rootGiven, oneIf};
 
 #[no_mangle]
 pub extern "C" fn akf_index64_new(head: u16, x: u16, y: u16, z: u16, key: &mut u64) -> u32
@@ -73,36 +30,6 @@ pub extern "C" fn akf_index64_new(head: u16, x: u16, y: u16, z: u16, key: &mut u
     let back = key_back(made);
     *key = back.key;
     back.number
-}
-
-// The number of an answer, and coordinates.
-struct PlaceBack {
-    number: u32,
-    x: u16,
-    y: u16,
-    z: u16,
-}
-
-fn place_back(decoded: Decoded) -> PlaceBack
-    ensures { λ r. ⌜ r .number ≡ decodedNumber decoded ⌝ }
-    ensures { λ r. ⌜ r .x ≡ placeDecoded decoded .0 ⌝ }
-    ensures { λ r. ⌜ r .y ≡ placeDecoded decoded .1 ⌝ }
-    ensures { λ r. ⌜ r .z ≡ placeDecoded decoded .2 ⌝ }
-{
-    match decoded {
-        Decoded::At(x, y, z) => PlaceBack {
-            number: DONE,
-            x: x.0,
-            y: y.0,
-            z: z.0,
-        },
-        Decoded::Refused(why) => PlaceBack {
-            number: refusals::number(why),
-            x: 0,
-            y: 0,
-            z: 0,
-        },
-    }
 }
 
 #[no_mangle]
@@ -132,22 +59,6 @@ pub extern "C" fn akf_neighbors_index64(key: u64, out: &mut [u64], listed: &mut 
     back.number
 }
 
-fn root_back(rooted: Rooted) -> LengthBack
-    ensures { λ r. ⌜ r .number ≡ rootNumber rooted ⌝ }
-    ensures { λ r. ⌜ r .value ≡ rootGiven rooted ⌝ }
-{
-    match rooted {
-        Rooted::Root(root) => LengthBack {
-            number: DONE,
-            value: root,
-        },
-        Rooted::Refused(why) => LengthBack {
-            number: refusals::number(why),
-            value: NOTHING,
-        },
-    }
-}
-
 #[no_mangle]
 pub extern "C" fn akf_root(x: f32, root: &mut f32) -> u32
     ensures { λ r. ⌜ r ≡ rootNumber (rootAnswer x) ⌝ }
@@ -157,42 +68,6 @@ pub extern "C" fn akf_root(x: f32, root: &mut f32) -> u32
     let back = root_back(rooted);
     *root = back.value;
     back.number
-}
-
-fn snapped_number(snapped: Snapped) -> u32
-    ensures { λ r. ⌜ r ≡ snappedNumber snapped ⌝ }
-{
-    match snapped {
-        Snapped::At(_, _, _) => DONE,
-        Snapped::Refused(why) => refusals::number(why),
-    }
-}
-
-fn x_snapped(snapped: Snapped) -> i32
-    ensures { λ r. ⌜ r ≡ snappedPlace snapped .0 ⌝ }
-{
-    match snapped {
-        Snapped::At(x, _, _) => x.0,
-        Snapped::Refused(_) => 0,
-    }
-}
-
-fn y_snapped(snapped: Snapped) -> i32
-    ensures { λ r. ⌜ r ≡ snappedPlace snapped .1 ⌝ }
-{
-    match snapped {
-        Snapped::At(_, y, _) => y.0,
-        Snapped::Refused(_) => 0,
-    }
-}
-
-fn z_snapped(snapped: Snapped) -> i32
-    ensures { λ r. ⌜ r ≡ snappedPlace snapped .2 ⌝ }
-{
-    match snapped {
-        Snapped::At(_, _, z) => z.0,
-        Snapped::Refused(_) => 0,
-    }
 }
 
 #[no_mangle]

@@ -1,52 +1,24 @@
 // The march, and questions about a marched table.
-use crate::ABSENT;
-use crate::CountsBack;
-use crate::DONE;
-use crate::LengthBack;
-use crate::NOTHING;
-use crate::YesBack;
-use crate::keys::list_back;
-use crate::keys::one_if;
-use esdf::Marched;
-use esdf_questions::Distance;
-use esdf_questions::EsdfStats;
-use esdf_questions::Free;
-use esdf_questions::Gradient;
-use esdf_questions::Statistics;
-use floats::Metres;
-use table::Settings;
+use answers::keys::list_back;
+use answers::readings::settings_of;
+use mesh_answers::marching::distance_back;
+use mesh_answers::marching::free_back;
+use mesh_answers::marching::march_back;
+use mesh_answers::marching::slope_back;
+use mesh_answers::marching::stats_found;
+use mesh_answers::marching::stats_number;
 ghost use mathlib.Core.Path.{_≡_};
 ghost use lib.ListN.{length};
 ghost use Rattle.lists.specs.Listing.{countOf, listedNumber};
 ghost use Rattle.table.specs.Table.{table};
-ghost use Rattle.esdf.specs.Compute.{computed, places, marchedNumber, rowsMarched, takingsMarched};
-ghost use Rattle.esdf_questions.specs.Marched.{marchedTable};
+ghost use Rattle.esdf.specs.Compute.{computed, places};
+ghost use Rattle.marched.specs.Marched.{marchedTable};
 ghost use Rattle.esdf_questions.specs.Lookups.{getDistance, distanceNumber, isFreeSpace, freeNumber};
 ghost use Rattle.esdf_questions.specs.Gradient.{getGradient, gradientNumber};
-ghost use Rattle.esdf_questions.specs.Within.{withinListed, withinKeys, withinDistances};
-ghost use Rattle.esdf_questions.specs.Statistics.{getStats, statisticsNumber};
-ghost use Rattle.akfelzun.specs.Fusing.{settingsOf};
-ghost use Rattle.akfelzun.specs.Marching.{marchBack, marchHanded, marchedDistance, freeFound, slopeFound, marchedStats};
-
-// The number of a march's answer, its rows and its takings.
-fn march_back(marched: Marched) -> CountsBack
-    ensures { λ r. ⌜ r .number ≡ marchedNumber marched ⌝ }
-    ensures { λ r. ⌜ r .first ≡ rowsMarched marched ⌝ }
-    ensures { λ r. ⌜ r .second ≡ takingsMarched marched ⌝ }
-{
-    match marched {
-        Marched::Done(rows, takings) => CountsBack {
-            number: DONE,
-            first: rows,
-            second: takings,
-        },
-        Marched::Refused(why) => CountsBack {
-            number: refusals::number(why),
-            first: 0,
-            second: 0,
-        },
-    }
-}
+ghost use Rattle.esdf_surveys.specs.Within.{withinListed, withinKeys, withinDistances};
+ghost use Rattle.esdf_surveys.specs.Statistics.{getStats, statisticsNumber};
+ghost use Rattle.answers.specs.Readings.{settingsOf};
+ghost use Rattle.mesh_answers.specs.Marching.{marchBack, marchHanded, marchedDistance, freeFound, slopeFound, marchedStats};
 
 #[no_mangle]
 pub extern "C" fn akf_compute_from_tsdf(
@@ -69,12 +41,7 @@ pub extern "C" fn akf_compute_from_tsdf(
     ensures { λ r. ⌜ marchBack r (now («marched_keys» .exit)) (now («marched_distances» .exit)) (now («waiting_estimates» .exit)) (now («waiting_keys» .exit)) (now (rows .exit)) (now (takings .exit))
         ≡ marchHanded (computed (settingsOf truncation «max_weight» «voxel_size» «max_distance») (table (now (keys .entry)) (now (distances .entry)) (now (weights .entry)) count) threshold (places (length (now («marched_keys» .entry))) (length (now («marched_distances» .entry))) (length (now («waiting_estimates» .entry))) (length (now («waiting_keys» .entry))))) ⌝ }
 {
-    let settings = Settings {
-        truncation: Metres(truncation),
-        max_weight,
-        voxel_size: Metres(voxel_size),
-        max_distance: Metres(max_distance),
-    };
+    let settings = settings_of(truncation, max_weight, voxel_size, max_distance);
     let marched = esdf::compute_from_tsdf(
         settings,
         keys,
@@ -91,26 +58,6 @@ pub extern "C" fn akf_compute_from_tsdf(
     *rows = back.first;
     *takings = back.second;
     back.number
-}
-
-fn distance_back(distance: Distance) -> LengthBack
-    ensures { λ r. ⌜ r .number ≡ distanceNumber distance ⌝ }
-    ensures { λ r. ⌜ r .value ≡ marchedDistance distance ⌝ }
-{
-    match distance {
-        Distance::Of(d) => LengthBack {
-            number: DONE,
-            value: d,
-        },
-        Distance::Absent => LengthBack {
-            number: ABSENT,
-            value: NOTHING,
-        },
-        Distance::Refused(why) => LengthBack {
-            number: refusals::number(why),
-            value: NOTHING,
-        },
-    }
 }
 
 #[no_mangle]
@@ -130,22 +77,6 @@ pub extern "C" fn akf_esdf_get_distance(
     back.number
 }
 
-fn free_back(free: Free) -> YesBack
-    ensures { λ r. ⌜ r .number ≡ freeNumber free ⌝ }
-    ensures { λ r. ⌜ r .yes ≡ freeFound free ⌝ }
-{
-    match free {
-        Free::Answer(yes) => YesBack {
-            number: DONE,
-            yes: one_if(yes),
-        },
-        Free::Refused(why) => YesBack {
-            number: refusals::number(why),
-            yes: 0,
-        },
-    }
-}
-
 #[no_mangle]
 pub extern "C" fn akf_is_free_space(
     keys: &[u64],
@@ -162,42 +93,6 @@ pub extern "C" fn akf_is_free_space(
     let back = free_back(found);
     *yes = back.yes;
     back.number
-}
-
-// The number of an answer, and a direction.
-struct SlopeBack {
-    number: u32,
-    x: f32,
-    y: f32,
-    z: f32,
-}
-
-fn slope_back(gradient: Gradient) -> SlopeBack
-    ensures { λ r. ⌜ r .number ≡ gradientNumber gradient ⌝ }
-    ensures { λ r. ⌜ r .x ≡ slopeFound gradient .0 ⌝ }
-    ensures { λ r. ⌜ r .y ≡ slopeFound gradient .1 ⌝ }
-    ensures { λ r. ⌜ r .z ≡ slopeFound gradient .2 ⌝ }
-{
-    match gradient {
-        Gradient::Of(x, y, z) => SlopeBack {
-            number: DONE,
-            x,
-            y,
-            z,
-        },
-        Gradient::Absent => SlopeBack {
-            number: ABSENT,
-            x: NOTHING,
-            y: NOTHING,
-            z: NOTHING,
-        },
-        Gradient::Refused(why) => SlopeBack {
-            number: refusals::number(why),
-            x: NOTHING,
-            y: NOTHING,
-            z: NOTHING,
-        },
-    }
 }
 
 #[no_mangle]
@@ -238,7 +133,7 @@ pub extern "C" fn akf_get_voxels_within_distance(
     ensures { λ _. ⌜ now («out_distances» .exit) ≡ withinDistances (marchedTable (now (keys .entry)) (now (distances .entry)) count) threshold (length (now («out_keys» .entry))) (length (now («out_distances» .entry))) ⌝ }
     ensures { λ _. ⌜ now (listed .exit) ≡ countOf (withinListed (marchedTable (now (keys .entry)) (now (distances .entry)) count) threshold (length (now («out_keys» .entry))) (length (now («out_distances» .entry)))) ⌝ }
 {
-    let answer = esdf_questions::get_voxels_within_distance(
+    let answer = esdf_surveys::get_voxels_within_distance(
         keys,
         distances,
         count,
@@ -249,30 +144,6 @@ pub extern "C" fn akf_get_voxels_within_distance(
     let back = list_back(answer);
     *listed = back.count;
     back.number
-}
-
-fn stats_number(statistics: Statistics) -> u32
-    ensures { λ r. ⌜ r ≡ statisticsNumber statistics ⌝ }
-{
-    match statistics {
-        Statistics::Of(_) => DONE,
-        Statistics::Refused(why) => refusals::number(why),
-    }
-}
-
-fn stats_found(statistics: Statistics) -> EsdfStats
-    ensures { λ r. ⌜ r ≡ marchedStats statistics ⌝ }
-{
-    match statistics {
-        Statistics::Of(stats) => stats,
-        Statistics::Refused(_) => EsdfStats {
-            voxel_count: 0,
-            obstacle_voxel_count: 0,
-            free_voxel_count: 0,
-            min_distance: NOTHING,
-            max_distance: NOTHING,
-        },
-    }
 }
 
 #[no_mangle]
@@ -293,7 +164,7 @@ pub extern "C" fn akf_esdf_stats(
     ensures { λ _. ⌜ now (smallest .exit) ≡ marchedStats (getStats (marchedTable (now (keys .entry)) (now (distances .entry)) count)) .«min_distance» ⌝ }
     ensures { λ _. ⌜ now (largest .exit) ≡ marchedStats (getStats (marchedTable (now (keys .entry)) (now (distances .entry)) count)) .«max_distance» ⌝ }
 {
-    let statistics = esdf_questions::stats(keys, distances, count);
+    let statistics = esdf_surveys::stats(keys, distances, count);
     let found = stats_found(statistics);
     *voxel_count = found.voxel_count;
     *obstacle_voxel_count = found.obstacle_voxel_count;

@@ -1,50 +1,24 @@
 // The mesh of a table, a cell's edge numbers, area, box and statistics.
-use crate::ABSENT;
-use crate::CountsBack;
-use crate::DONE;
-use crate::LengthBack;
-use crate::NOTHING;
-use crate::YesBack;
-use crate::keys::one_if;
-use floats::Metres;
-use groups::Span;
-use mesh::Meshed;
-use surfaces::Area;
-use surfaces::Bounds;
-use surfaces::MeshStats;
-use table::Settings;
-use vertices::Vertex;
+use answers::readings::settings_of;
+use mesh_answers::meshing::area_back;
+use mesh_answers::meshing::box_number;
+use mesh_answers::meshing::high_corner;
+use mesh_answers::meshing::low_corner;
+use mesh_answers::meshing::mesh_back;
+use mesh_answers::meshing::normals_back;
+use mesh_answers::meshing::span_length;
+use mesh_answers::meshing::span_start;
 ghost use mathlib.Core.Path.{_≡_};
 ghost use lib.ListN;
 ghost use Rattle.table.specs.Table.{table};
-ghost use Rattle.mesh.specs.Mesh.{rooms, meshedNumber};
+ghost use Rattle.mesh.specs.Mesh.{rooms};
 ghost use Rattle.groups.specs.CellEdges.{cellSpan};
 ghost use Rattle.surfaces.specs.Areas.{areaAnswer, areaNumber, areaValue};
 ghost use Rattle.surfaces.specs.Boxes.{boxAnswer, boxNumber};
 ghost use Rattle.surfaces.specs.Stats.{statsAnswer, statsNumber, statsValue};
-ghost use Rattle.akfelzun.specs.Fusing.{settingsOf};
-ghost use Rattle.akfelzun.specs.Keys.{oneIf};
-ghost use Rattle.akfelzun.specs.Meshing.{edgesMeshed, trianglesMeshed, MeshBack, spanStart, spanLength, noCorner, lowCorner, highCorner};
-
-// The number of a mesh's answer, its edges and its triangles.
-fn mesh_back(meshed: Meshed) -> CountsBack
-    ensures { λ r. ⌜ r .number ≡ meshedNumber meshed ⌝ }
-    ensures { λ r. ⌜ r .first ≡ edgesMeshed meshed ⌝ }
-    ensures { λ r. ⌜ r .second ≡ trianglesMeshed meshed ⌝ }
-{
-    match meshed {
-        Meshed::Done(edges, triangles) => CountsBack {
-            number: DONE,
-            first: edges,
-            second: triangles,
-        },
-        Meshed::Refused(why) => CountsBack {
-            number: refusals::number(why),
-            first: 0,
-            second: 0,
-        },
-    }
-}
+ghost use Rattle.answers.specs.Readings.{settingsOf};
+ghost use Rattle.answers.specs.Keys.{oneIf};
+ghost use Rattle.mesh_answers.specs.Meshing.{MeshBack, spanStart, spanLength, lowCorner, highCorner};
 
 #[no_mangle]
 pub extern "C" fn akf_extract_mesh_from_tsdf(
@@ -76,12 +50,7 @@ pub extern "C" fn akf_extract_mesh_from_tsdf(
         r (now (edges .exit)) (now (triangles .exit))
         (now (first .exit)) (now (second .exit)) (now (px .exit)) (now (py .exit)) (now (pz .exit)) (now (nx .exit)) (now (ny .exit)) (now (nz .exit)) (now (groups .exit)) (now (t0 .exit)) (now (t1 .exit)) (now (t2 .exit)) ⌝ }
 {
-    let settings = Settings {
-        truncation: Metres(truncation),
-        max_weight,
-        voxel_size: Metres(voxel_size),
-        max_distance: Metres(max_distance),
-    };
+    let settings = settings_of(truncation, max_weight, voxel_size, max_distance);
     let meshed = mesh::extract_mesh_from_tsdf(
         settings,
         keys,
@@ -107,22 +76,6 @@ pub extern "C" fn akf_extract_mesh_from_tsdf(
     back.number
 }
 
-fn span_start(span: Span) -> usize
-    ensures { λ r. ⌜ r ≡ spanStart span ⌝ }
-{
-    if span.start < span.end { span.start } else { 0 }
-}
-
-fn span_length(span: Span) -> usize
-    ensures { λ r. ⌜ r ≡ spanLength span ⌝ }
-{
-    if span.start < span.end {
-        span.end - span.start
-    } else {
-        0
-    }
-}
-
 #[no_mangle]
 pub extern "C" fn akf_cell_edges(
     groups: &[u32],
@@ -139,22 +92,6 @@ pub extern "C" fn akf_cell_edges(
     let span = groups::cell_span(groups.len(), first, second, edges, cell);
     *start = span_start(span);
     *length = span_length(span);
-}
-
-fn area_back(area: Area) -> LengthBack
-    ensures { λ r. ⌜ r .number ≡ areaNumber area ⌝ }
-    ensures { λ r. ⌜ r .value ≡ areaValue area ⌝ }
-{
-    match area {
-        Area::Square(square) => LengthBack {
-            number: DONE,
-            value: square,
-        },
-        Area::Refused(why) => LengthBack {
-            number: refusals::number(why),
-            value: NOTHING,
-        },
-    }
 }
 
 #[no_mangle]
@@ -176,46 +113,6 @@ pub extern "C" fn akf_surface_area(
     let back = area_back(answer);
     *area = back.value;
     back.number
-}
-
-fn box_number(bounds: Bounds) -> u32
-    ensures { λ r. ⌜ r ≡ boxNumber bounds ⌝ }
-{
-    match bounds {
-        Bounds::Corners(_, _) => DONE,
-        Bounds::Absent => ABSENT,
-        Bounds::Refused(why) => refusals::number(why),
-    }
-}
-
-fn no_corner() -> Vertex
-    ensures { λ r. ⌜ r ≡ noCorner ⌝ }
-{
-    Vertex {
-        x: Metres(NOTHING),
-        y: Metres(NOTHING),
-        z: Metres(NOTHING),
-    }
-}
-
-fn low_corner(bounds: Bounds) -> Vertex
-    ensures { λ r. ⌜ r ≡ lowCorner bounds ⌝ }
-{
-    match bounds {
-        Bounds::Corners(low, _) => low,
-        Bounds::Absent => no_corner(),
-        Bounds::Refused(_) => no_corner(),
-    }
-}
-
-fn high_corner(bounds: Bounds) -> Vertex
-    ensures { λ r. ⌜ r ≡ highCorner bounds ⌝ }
-{
-    match bounds {
-        Bounds::Corners(_, high) => high,
-        Bounds::Absent => no_corner(),
-        Bounds::Refused(_) => no_corner(),
-    }
 }
 
 #[no_mangle]
@@ -249,22 +146,6 @@ pub extern "C" fn akf_bounding_box(
     *max_y = high.y.0;
     *max_z = high.z.0;
     box_number(bounds)
-}
-
-fn normals_back(stats: MeshStats) -> YesBack
-    ensures { λ r. ⌜ r .number ≡ statsNumber stats ⌝ }
-    ensures { λ r. ⌜ r .yes ≡ oneIf (statsValue stats) ⌝ }
-{
-    match stats {
-        MeshStats::HasNormals(yes) => YesBack {
-            number: DONE,
-            yes: one_if(yes),
-        },
-        MeshStats::Refused(why) => YesBack {
-            number: refusals::number(why),
-            yes: 0,
-        },
-    }
 }
 
 #[no_mangle]

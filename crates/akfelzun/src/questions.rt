@@ -1,48 +1,22 @@
 // Questions about a table, and lists from it.
-use crate::ABSENT;
-use crate::DONE;
-use crate::LengthBack;
-use crate::NOTHING;
-use crate::YesBack;
-use crate::keys::list_back;
-use crate::keys::one_if;
+use answers::keys::list_back;
+use answers::questions::distance_back;
+use answers::questions::stats_found;
+use answers::questions::stats_number;
+use answers::questions::surface_back;
+use answers::questions::weight_back;
+use answers::readings::settings_of;
 use floats::Metres;
-use table::Settings;
-use tsdf_questions::Distance;
-use tsdf_questions::Statistics;
-use tsdf_questions::Surface;
-use tsdf_questions::TsdfStats;
-use tsdf_questions::Weight;
 ghost use mathlib.Core.Path.{_≡_};
 ghost use lib.ListN.{length};
 ghost use Rattle.lists.specs.Listing.{countOf, listedNumber};
 ghost use Rattle.table.specs.Table.{table};
 ghost use Rattle.tsdf_questions.specs.Lookups.{lookedUp, distanceOf, weightOf, surfaceOf, distanceNumber, weightNumber, surfaceNumber};
-ghost use Rattle.tsdf_questions.specs.Surface.{surfaceListed, surfaceHeld};
-ghost use Rattle.tsdf_questions.specs.Statistics.{statisticsOf, statisticsNumber};
+ghost use Rattle.tsdf_surveys.specs.Surface.{surfaceListed, surfaceHeld};
+ghost use Rattle.tsdf_surveys.specs.Statistics.{statisticsOf, statisticsNumber};
 ghost use Rattle.edges.specs.Listing.{edgesAnswer, firstsHeld, secondsHeld};
-ghost use Rattle.akfelzun.specs.Fusing.{settingsOf};
-ghost use Rattle.akfelzun.specs.Questions.{distanceFound, weightFound, surfaceFound, statsFound};
-
-fn distance_back(distance: Distance) -> LengthBack
-    ensures { λ r. ⌜ r .number ≡ distanceNumber distance ⌝ }
-    ensures { λ r. ⌜ r .value ≡ distanceFound distance ⌝ }
-{
-    match distance {
-        Distance::Of(metres) => LengthBack {
-            number: DONE,
-            value: metres.0,
-        },
-        Distance::Absent => LengthBack {
-            number: ABSENT,
-            value: NOTHING,
-        },
-        Distance::Refused(why) => LengthBack {
-            number: refusals::number(why),
-            value: NOTHING,
-        },
-    }
-}
+ghost use Rattle.answers.specs.Readings.{settingsOf};
+ghost use Rattle.answers.specs.Questions.{distanceFound, weightFound, surfaceFound, statsFound};
 
 #[no_mangle]
 pub extern "C" fn akf_tsdf_get_distance(
@@ -60,36 +34,11 @@ pub extern "C" fn akf_tsdf_get_distance(
     ensures { λ r. ⌜ r ≡ distanceNumber (distanceOf (lookedUp (settingsOf truncation «max_weight» «voxel_size» «max_distance») (table (now (keys .entry)) (now (distances .entry)) (now (weights .entry)) count) key)) ⌝ }
     ensures { λ _. ⌜ now (distance .exit) ≡ distanceFound (distanceOf (lookedUp (settingsOf truncation «max_weight» «voxel_size» «max_distance») (table (now (keys .entry)) (now (distances .entry)) (now (weights .entry)) count) key)) ⌝ }
 {
-    let settings = Settings {
-        truncation: Metres(truncation),
-        max_weight,
-        voxel_size: Metres(voxel_size),
-        max_distance: Metres(max_distance),
-    };
+    let settings = settings_of(truncation, max_weight, voxel_size, max_distance);
     let found = tsdf_questions::get_distance(settings, keys, distances, weights, count, key);
     let back = distance_back(found);
     *distance = back.value;
     back.number
-}
-
-fn weight_back(weight: Weight) -> LengthBack
-    ensures { λ r. ⌜ r .number ≡ weightNumber weight ⌝ }
-    ensures { λ r. ⌜ r .value ≡ weightFound weight ⌝ }
-{
-    match weight {
-        Weight::Of(w) => LengthBack {
-            number: DONE,
-            value: w,
-        },
-        Weight::Absent => LengthBack {
-            number: ABSENT,
-            value: NOTHING,
-        },
-        Weight::Refused(why) => LengthBack {
-            number: refusals::number(why),
-            value: NOTHING,
-        },
-    }
 }
 
 #[no_mangle]
@@ -108,32 +57,11 @@ pub extern "C" fn akf_tsdf_get_weight(
     ensures { λ r. ⌜ r ≡ weightNumber (weightOf (lookedUp (settingsOf truncation «max_weight» «voxel_size» «max_distance») (table (now (keys .entry)) (now (distances .entry)) (now (weights .entry)) count) key)) ⌝ }
     ensures { λ _. ⌜ now (weight .exit) ≡ weightFound (weightOf (lookedUp (settingsOf truncation «max_weight» «voxel_size» «max_distance») (table (now (keys .entry)) (now (distances .entry)) (now (weights .entry)) count) key)) ⌝ }
 {
-    let settings = Settings {
-        truncation: Metres(truncation),
-        max_weight,
-        voxel_size: Metres(voxel_size),
-        max_distance: Metres(max_distance),
-    };
+    let settings = settings_of(truncation, max_weight, voxel_size, max_distance);
     let found = tsdf_questions::get_weight(settings, keys, distances, weights, count, key);
     let back = weight_back(found);
     *weight = back.value;
     back.number
-}
-
-fn surface_back(surface: Surface) -> YesBack
-    ensures { λ r. ⌜ r .number ≡ surfaceNumber surface ⌝ }
-    ensures { λ r. ⌜ r .yes ≡ surfaceFound surface ⌝ }
-{
-    match surface {
-        Surface::Answer(near) => YesBack {
-            number: DONE,
-            yes: one_if(near),
-        },
-        Surface::Refused(why) => YesBack {
-            number: refusals::number(why),
-            yes: 0,
-        },
-    }
 }
 
 #[no_mangle]
@@ -153,12 +81,7 @@ pub extern "C" fn akf_is_surface_voxel(
     ensures { λ r. ⌜ r ≡ surfaceNumber (surfaceOf threshold (lookedUp (settingsOf truncation «max_weight» «voxel_size» «max_distance») (table (now (keys .entry)) (now (distances .entry)) (now (weights .entry)) count) key)) ⌝ }
     ensures { λ _. ⌜ now (yes .exit) ≡ surfaceFound (surfaceOf threshold (lookedUp (settingsOf truncation «max_weight» «voxel_size» «max_distance») (table (now (keys .entry)) (now (distances .entry)) (now (weights .entry)) count) key)) ⌝ }
 {
-    let settings = Settings {
-        truncation: Metres(truncation),
-        max_weight,
-        voxel_size: Metres(voxel_size),
-        max_distance: Metres(max_distance),
-    };
+    let settings = settings_of(truncation, max_weight, voxel_size, max_distance);
     let found = tsdf_questions::is_surface_voxel(
         settings,
         keys,
@@ -171,30 +94,6 @@ pub extern "C" fn akf_is_surface_voxel(
     let back = surface_back(found);
     *yes = back.yes;
     back.number
-}
-
-fn stats_number(statistics: Statistics) -> u32
-    ensures { λ r. ⌜ r ≡ statisticsNumber statistics ⌝ }
-{
-    match statistics {
-        Statistics::Of(_) => DONE,
-        Statistics::Refused(why) => refusals::number(why),
-    }
-}
-
-fn stats_found(statistics: Statistics) -> TsdfStats
-    ensures { λ r. ⌜ r ≡ statsFound statistics ⌝ }
-{
-    match statistics {
-        Statistics::Of(stats) => stats,
-        Statistics::Refused(_) => TsdfStats {
-            voxel_count: 0,
-            surface_voxel_count: 0,
-            min_distance: Metres(NOTHING),
-            max_distance: Metres(NOTHING),
-            average_weight: NOTHING,
-        },
-    }
 }
 
 #[no_mangle]
@@ -220,13 +119,8 @@ pub extern "C" fn akf_tsdf_stats(
     ensures { λ _. ⌜ now (largest .exit) ≡ statsFound (statisticsOf (settingsOf truncation «max_weight» «voxel_size» «max_distance») (table (now (keys .entry)) (now (distances .entry)) (now (weights .entry)) count)) .«max_distance» .0 ⌝ }
     ensures { λ _. ⌜ now («average_weight» .exit) ≡ statsFound (statisticsOf (settingsOf truncation «max_weight» «voxel_size» «max_distance») (table (now (keys .entry)) (now (distances .entry)) (now (weights .entry)) count)) .«average_weight» ⌝ }
 {
-    let settings = Settings {
-        truncation: Metres(truncation),
-        max_weight,
-        voxel_size: Metres(voxel_size),
-        max_distance: Metres(max_distance),
-    };
-    let statistics = tsdf_questions::stats(settings, keys, distances, weights, count);
+    let settings = settings_of(truncation, max_weight, voxel_size, max_distance);
+    let statistics = tsdf_surveys::stats(settings, keys, distances, weights, count);
     let found = stats_found(statistics);
     *voxel_count = found.voxel_count;
     *surface_voxel_count = found.surface_voxel_count;
@@ -254,13 +148,8 @@ pub extern "C" fn akf_get_surface_voxels(
     ensures { λ _. ⌜ now (out .exit) ≡ surfaceHeld (settingsOf truncation «max_weight» «voxel_size» «max_distance») (table (now (keys .entry)) (now (distances .entry)) (now (weights .entry)) count) threshold (length (now (out .entry))) ⌝ }
     ensures { λ _. ⌜ now (listed .exit) ≡ countOf (surfaceListed (settingsOf truncation «max_weight» «voxel_size» «max_distance») (table (now (keys .entry)) (now (distances .entry)) (now (weights .entry)) count) threshold (length (now (out .entry)))) ⌝ }
 {
-    let settings = Settings {
-        truncation: Metres(truncation),
-        max_weight,
-        voxel_size: Metres(voxel_size),
-        max_distance: Metres(max_distance),
-    };
-    let answer = tsdf_questions::get_surface_voxels(
+    let settings = settings_of(truncation, max_weight, voxel_size, max_distance);
+    let answer = tsdf_surveys::get_surface_voxels(
         settings,
         keys,
         distances,
@@ -293,12 +182,7 @@ pub extern "C" fn akf_get_zero_crossing_edges(
     ensures { λ _. ⌜ now (second .exit) ≡ secondsHeld (settingsOf truncation «max_weight» «voxel_size» «max_distance») (table (now (keys .entry)) (now (distances .entry)) (now (weights .entry)) count) (length (now (first .entry))) (length (now (second .entry))) ⌝ }
     ensures { λ _. ⌜ now (listed .exit) ≡ countOf (edgesAnswer (settingsOf truncation «max_weight» «voxel_size» «max_distance») (table (now (keys .entry)) (now (distances .entry)) (now (weights .entry)) count) (length (now (first .entry))) (length (now (second .entry)))) ⌝ }
 {
-    let settings = Settings {
-        truncation: Metres(truncation),
-        max_weight,
-        voxel_size: Metres(voxel_size),
-        max_distance: Metres(max_distance),
-    };
+    let settings = settings_of(truncation, max_weight, voxel_size, max_distance);
     let answer = edges::get_zero_crossing_edges(
         settings,
         keys,

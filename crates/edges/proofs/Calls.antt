@@ -2,9 +2,9 @@
 -- Assumes nothing.
 use Prim.Native.Nat.{ℕ, _<_, _≤_}
 use native.Mathlib.Omega.{arith}
-use mathlib.Core.Path.{_≡_, refl, sym}
+use mathlib.Core.Path.{_≡_, refl}
 use mathlib.Core.Logic.{_↔_}
-use mathlib.Core.Bool.{Bool, true, false, cond}
+use mathlib.Core.Bool.{Bool, cond}
 use mathlib.Core.List.{List}
 use lib.Dec.{leb}
 use lib.ListN.{length, replicate}
@@ -15,11 +15,12 @@ use Rattle.lists.specs.declared.Listed.the-variants as listed
 use Rattle.lists.proofs.Bools.{cases}
 use Rattle.neighbors.specs.Neighbors.{neighbours, adjacent}
 use Rattle.refusals.specs.declared.Refusal.{Refusal}
-use Rattle.refusals.specs.declared.Refusal.the-variants.{Setting, Lengths, BadRow, NoPlace}
-use Rattle.table.specs.Table.{Table, rows, settingsOk, lengthsOk, tableOk, need, tableCheck}
+use Rattle.refusals.specs.declared.Refusal.the-variants.{NoPlace}
+use Rattle.table.specs.Table.{Table, rows, settingsOk}
 use Rattle.table.specs.declared.Settings.{Settings}
 use Rattle.table.specs.declared.Checked.{Checked}
 use Rattle.table.specs.declared.Checked.the-variants.{Passed, Refused}
+use Rattle.table.proofs.Checking.{not-passed, setting-spares, lengths-spare, table-spares}
 use Rattle.edges.specs.Edges.{Edge}
 use Rattle.edges.specs.EdgeList.{IsEdgeList}
 use Rattle.edges.specs.ZeroCrossing.{crossesZero, zeroCrossingEdges}
@@ -45,11 +46,12 @@ room-counts n room c =
     (λ q e. let same : c ≡ n = cc in (same, leb-true n room q))
     (λ q e. let z : _≡_ {A = ℕ} 0 1 = cc in let un : ⊥ = omega arith in absurd un)
 
-not-passed : (why : Refusal) → Refused why ≡ Passed → ⊥
-not-passed why e = let z : _≡_ {A = ℕ} 0 1 = cc in omega arith
-
 -- Where no test answers 6: refused with 6 exactly when the tests pass and the list is longer than the room.
-pub room-clause : (v : Checked) → (v ≡ Refused NoPlace → ⊥) → (es : List Edge) (room : ℕ) → (answerIf v es room ≡ listed.Refused NoPlace) ↔ ((v ≡ Passed) × (room < length es))
+pub room-clause :
+    (v : Checked)
+    → (v ≡ Refused NoPlace → ⊥)
+    → (es : List Edge) (room : ℕ)
+    → (answerIf v es room ≡ listed.Refused NoPlace) ↔ ((v ≡ Passed) × (room < length es))
 unfolding answerIf
 room-clause Passed h es room = (λ e. (refl, room-refuses (length es) room .0 e), λ p. room-refuses (length es) room .1 (p .1))
 room-clause (Refused why) h es room = (λ e. absurd (h (cc)), λ p. absurd (not-passed why (p .0)))
@@ -62,30 +64,11 @@ counted-only (Refused why) es room c e = let z : _≡_ {A = ℕ} 0 1 = cc in let
 
 -- ---- the tests
 
-other-refusal : (b : Bool) (why : Refusal) (rest : Checked) → (why ≡ NoPlace → ⊥) → (rest ≡ Refused NoPlace → ⊥) → need b why rest ≡ Refused NoPlace → ⊥
-unfolding need
-other-refusal true why rest h g e = g e
-other-refusal false why rest h g e = h (cc)
-
-not-setting : Setting ≡ NoPlace → ⊥
-not-setting e = let z : _≡_ {A = ℕ} 0 1 = cc in omega arith
-
-not-lengths : Lengths ≡ NoPlace → ⊥
-not-lengths e = let z : _≡_ {A = ℕ} 0 1 = cc in omega arith
-
-not-row : BadRow ≡ NoPlace → ⊥
-not-row e = let z : _≡_ {A = ℕ} 0 1 = cc in omega arith
-
 module _ (s : Settings) (t : Table) (a b : ℕ) where
   -- no test answers 6
   tests-spare-room : checkedFor s t a b ≡ Refused NoPlace → ⊥
-  unfolding checkedFor tableCheck
-  tests-spare-room =
-      other-refusal (settingsOk s) Setting _ not-setting
-      (other-refusal (outputsOk a b) Lengths _ not-lengths
-      (other-refusal (settingsOk s) Setting _ not-setting
-      (other-refusal (lengthsOk (length (t .keys)) (length (t .distances)) (length (t .weights)) (t .count)) Lengths _ not-lengths
-      (other-refusal (tableOk (s .«max_weight») t) BadRow Passed not-row (λ e. not-passed NoPlace (sym e))))))
+  unfolding checkedFor
+  tests-spare-room = setting-spares (settingsOk s) _ (lengths-spare (outputsOk a b) _ (table-spares s t))
 
   -- ---- the call
 
@@ -112,6 +95,9 @@ module _ (s : Settings) (t : Table) (a b : ℕ) where
       (accepted-edges (h .0), h .1, rw e, rw e)
 
   -- Refused, both lists are zeros throughout.
-  pub refused-with-zeros : (why : Refusal) → edgesAnswer s t a b ≡ listed.Refused why → (firstsHeld s t a b ≡ replicate a 0) × (secondsHeld s t a b ≡ replicate b 0)
+  pub refused-with-zeros :
+      (why : Refusal)
+      → edgesAnswer s t a b ≡ listed.Refused why
+      → (firstsHeld s t a b ≡ replicate a 0) × (secondsHeld s t a b ≡ replicate b 0)
   unfolding heldFor
   refused-with-zeros why e = (rw e, rw e)

@@ -15,12 +15,12 @@ use Rattle.floats.proofs.Values.{le-or-lt}
 use Rattle.lists.specs.Lists.{_∈_, Ordered, Distinct, Ahead, kept}
 use Rattle.lists.proofs.ListLaws.{kept-in, in-kept, map-in, in-map, joined-in, in-joined, ordered-weaken, kept-ordered, map-ordered, joined-ordered, one-order, ahead-ordered, ahead-asym}
 use Rattle.lists.proofs.Bools.{and-first, and-second}
-use Rattle.table.specs.Keys.{ascending}
+use Rattle.search.specs.Keys.{ascending}
 use Rattle.table.specs.Table.{Row}
-use Rattle.edges.specs.Rows.{keysOf, stored}
+use Rattle.table.specs.Rows.{keysOf, stored}
 use Rattle.edges.specs.Edges.{Edge, edge, crossesWith, listed, edgesTo, edgesOf, edges}
 use Rattle.edges.specs.EdgeList.{pairOf, SamePair, Neighbourhood, Symmetric, Before, Crossing, IsEdgeList}
-use Rattle.edges.proofs.RowLaws.{ascending-rows, stored-in, in-stored}
+use Rattle.table.proofs.StoredLaws.{ascending-rows, stored-in, in-stored}
 
 -- a pair whose first key is the smaller, and one whose second is
 pub pair-up : {a b : ℕ} → a < b → pairOf a b ≡ edge a b
@@ -39,7 +39,15 @@ before-asym near d e f (inr p) (inr q) =
     ahead-asym (near (e .first)) (d (e .first)) (e .second) (f .second) (p .1) back
 
 -- an edge that comes before another joins other cells
-before-other : (near : ℕ → List ℕ) → ((k : ℕ) → Distinct (near k)) → (e f : Edge) → e .first < e .second → f .first < f .second → Before near e f → SamePair e f → ⊥
+before-other :
+    (near : ℕ → List ℕ)
+    → ((k : ℕ) → Distinct (near k))
+    → (e f : Edge)
+    → e .first < e .second
+    → f .first < f .second
+    → Before near e f
+    → SamePair e f
+    → ⊥
 before-other near d e f le lf b (inl p) =
     let same : e ≡ f = λ i. record { first = p .0 i; second = p .1 i } in
     let b' : Before near e e = rw (← same) at b in
@@ -61,7 +69,10 @@ module _ (near : ℕ → List ℕ) (adjacent : ℕ → ℕ → Bool) (crosses : 
 
   module _ (nb : Neighbourhood near adjacent) where
     -- what is listed is two rows that cross, the smaller key first
-    edges-in : {e : Edge} → e ∈ edges near crosses rows → (r : Row) × (s : Row) × Crossing adjacent crosses rows r s × (r .key < s .key) × (e ≡ edge (r .key) (s .key))
+    edges-in :
+        {e : Edge}
+        → e ∈ edges near crosses rows
+        → (r : Row) × (s : Row) × Crossing adjacent crosses rows r s × (r .key < s .key) × (e ≡ edge (r .key) (s .key))
     unfolding edges edgesTo
     edges-in {e} m =
         let j = joined-in (edgesOf near crosses rows) rows m in

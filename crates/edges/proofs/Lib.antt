@@ -1,4 +1,3 @@
-pub mod RowLaws
 pub mod EdgeLaws
 pub mod ZeroCrossingLaws
 pub mod ListingLaws

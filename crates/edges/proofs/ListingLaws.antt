@@ -12,14 +12,14 @@ use lib.ListN.{getD, take, drop, length-take}
 use borrow.Author.Tests.{lt-ltb, le-ltb}
 use Rattle.lists.proofs.Bools.{cases}
 use Rattle.neighbors.specs.Neighbors.{neighbours}
-use Rattle.table.specs.Keys.{ascending, find, findBy, next}
+use Rattle.search.specs.Keys.{ascending, find, findBy, next}
 use Rattle.table.specs.Table.{Row, rowsOf}
-use Rattle.table.specs.declared.Found.{Found}
-use Rattle.table.specs.declared.Found.the-variants.{At, Absent}
-use Rattle.table.proofs.KeyLaws.{findBy-find, found}
+use Rattle.search.specs.declared.Found.{Found}
+use Rattle.search.specs.declared.Found.the-variants.{At, Absent}
+use Rattle.search.proofs.KeyLaws.{findBy-find, found}
 use Rattle.table.proofs.RowLaws.{row-at}
 use Rattle.table.proofs.Laying.{columns}
-use Rattle.edges.specs.Rows.{keysOf, stored}
+use Rattle.table.specs.Rows.{keysOf, stored}
 use Rattle.edges.specs.Edges.{listed}
 use Rattle.edges.specs.ZeroCrossing.{crossing, crossesZero}
 use Rattle.edges.specs.Steps.{Accepted, rowAt}
@@ -90,6 +90,12 @@ module _ (ks : List ℕ) (ds ws : List Float) (n : ℕ) (acc : Accepted ks ds ws
     unfolding listed
     not-stored h f e t = rw (lt-ltb (getD ks row 0) k h, none-stored k f e t)
 
-    pub both-stored : getD ks row 0 < k → (f : Found) → f ≡ findBy k (take n ks) → (i : ℕ) → f ≡ At i → Is (crossing (getD ds row nan) (getD ws row nan) (getD ds i nan) (getD ws i nan))
+    pub both-stored :
+        getD ks row 0 < k
+        → (f : Found)
+        → f ≡ findBy k (take n ks)
+        → (i : ℕ)
+        → f ≡ At i
+        → Is (crossing (getD ds row nan) (getD ws row nan) (getD ds i nan) (getD ws i nan))
     unfolding listed
     both-stored h f e i t = rw (lt-ltb (getD ks row 0) k h, one-stored k f e i t)

@@ -9,7 +9,7 @@ use Rattle.ids.specs.Morton.{respaced, morton}
 use Rattle.ids.specs.Key.{keyOf}
 use Rattle.neighbors.specs.Neighbors.{offsets, inside, reachedFrom, shown, neighboursBy}
 use Rattle.table.specs.Table.{Row, row}
-use Rattle.edges.specs.Rows.{stored}
+use Rattle.table.specs.Rows.{stored}
 use Rattle.edges.specs.Edges.{Edge, edge, edges}
 use Rattle.edges.specs.ZeroCrossing.{crossing, zeroCrossingEdges}
 

@@ -3,7 +3,7 @@
 use Prim.Native.Nat.{ℕ, _-_, _*_}
 use native.Mathlib.Nat.{mul-comm, sub-self}
 use mathlib.Core.Path.{_≡_, refl}
-use mathlib.Core.Bool.{Bool, true, false, not, _&&_, and-false}
+use mathlib.Core.Bool.{Bool, true, false, _&&_, and-false}
 use mathlib.Core.List.{List}
 use lib.Dec.{eqb}
 use lib.Ieee.{Float, nan, inf, fin, Format, binary32, mul, ne, unlike, up, down}
@@ -11,9 +11,9 @@ use Rattle.floats.specs.Floats.{zero32}
 use Rattle.ids.specs.Key.{headOf, xOf, yOf, zOf}
 use Rattle.neighbors.specs.Neighbors.{neighbours, adjacent, oneStep}
 use Rattle.neighbors.proofs.Adjacency.{adjacent-sym, neighbour-adjacent, adjacent-neighbour, neighbours-distinct}
-use Rattle.table.specs.Keys.{ascending}
+use Rattle.search.specs.Keys.{ascending}
 use Rattle.table.specs.Table.{Row}
-use Rattle.edges.specs.Rows.{keysOf}
+use Rattle.table.specs.Rows.{keysOf}
 use Rattle.edges.specs.Edges.{Edge, edges}
 use Rattle.edges.specs.EdgeList.{Neighbourhood, Symmetric, IsEdgeList}
 use Rattle.edges.specs.ZeroCrossing.{crossing, crossesZero, zeroCrossingEdges}

@@ -6,7 +6,7 @@ use mathlib.Core.Option.{Option, none, some}
 use lib.Dec.{ltb}
 use Rattle.lists.specs.Lists.{kept, joined}
 use Rattle.table.specs.Table.{Row}
-use Rattle.edges.specs.Rows.{stored}
+use Rattle.table.specs.Rows.{stored}
 
 -- two cells, the smaller key first
 pub record Edge : Type 0 where

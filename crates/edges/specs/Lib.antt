@@ -1,4 +1,3 @@
-pub mod Rows
 pub mod Edges
 pub mod EdgeList
 pub mod ZeroCrossing

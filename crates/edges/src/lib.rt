@@ -1,8 +1,9 @@
 // The edges of the surface (src/layers/tsdf.rs, get_zero_crossing_edges).
+use lists::LONGEST_LIST;
 use lists::Listed;
 use refusals::Refusal;
+use search::Found;
 use table::Checked;
-use table::Found;
 use table::Settings;
 ghost use mathlib.Core.Path.{_≡_};
 ghost use Prim.Native.Nat.{_+_, _*_, _<_, _≤_};
@@ -10,25 +11,13 @@ ghost use mathlib.Core.Bool.{true};
 ghost use lib.ListN.{length, getD, set, take};
 ghost use Rattle.lists.specs.Listing.{countOf, heldFor};
 ghost use Rattle.lists.specs.Places.{clearedFrom};
-ghost use Rattle.table.specs.Keys.{ascending, findBy};
+ghost use Rattle.search.specs.Keys.{ascending, findBy};
 ghost use Rattle.table.specs.Table.{table, rowsOf};
 ghost use Rattle.neighbors.specs.Neighbors.{neighbours};
 ghost use Rattle.edges.specs.Edges.{listed, edgesOf};
 ghost use Rattle.edges.specs.ZeroCrossing.{crossing, crossesZero, zeroCrossingEdges};
-ghost use Rattle.edges.specs.Listing.{
-  firsts,
-  seconds,
-  outputsOk,
-  checkedFor,
-  answerIf,
-  edgesAnswer,
-  firstsHeld,
-  secondsHeld,
-};
+ghost use Rattle.edges.specs.Listing.{firsts, seconds, outputsOk, checkedFor, answerIf, edgesAnswer, firstsHeld, secondsHeld};
 ghost use Rattle.edges.specs.Steps.{Accepted, rowAt, Wrote};
-
-// The longest list that is filled.
-const LONGEST_LIST: usize = 1_048_576;
 
 // Both weights are nonzero and the product of the distances is below zero.
 fn crosses(distance: f32, weight: f32, other: f32, beside: f32) -> bool
@@ -42,7 +31,7 @@ fn find_beside(keys: &[u64], count: usize, row: usize, key: u64) -> Found
     requires { ⌜ (count ≤ length (now keys)) × (ascending (take count (now keys)) ≡ true) × (row < count) × (getD (now keys) row 0 < key) ⌝ }
     ensures { λ r. ⌜ r ≡ findBy key (take count (now (keys .entry))) ⌝ }
 {
-    table::nearby::find_above(&keys[..count], row + 1, key)
+    search::find_above(&keys[..count], row + 1, key)
 }
 
 // Whether the row at a place and the cell `key` are listed.

@@ -1,7 +1,7 @@
 -- The fast march or the plain one: the fast march's answer is the march's; where it gave up, the lists are cleared and hold nothing. Assumes nothing.
 use mathlib.Core.Path.{_≡_, refl, sym, ap, subst, _∙_}
 use mathlib.Core.List.{List, []}
-use Prim.Native.Nat.{ℕ, _-_, _≤_}
+use Prim.Native.Nat.{ℕ, _-_}
 use native.Mathlib.Omega.{arith}
 use lib.ListN.{length, replicate, length-replicate}
 use lib.Ieee.{Float}
@@ -9,19 +9,19 @@ use Rattle.floats.specs.Floats.{zero32}
 use Rattle.lists.specs.Padding.{padded}
 use Rattle.lists.specs.Places.{filled}
 use Rattle.refusals.specs.declared.Refusal.the-variants.{NoPlace, NoWaitingPlace}
-use Rattle.table.specs.Keys.{ascending}
+use Rattle.search.specs.Keys.{ascending}
 use Rattle.table.specs.Table.{Row}
-use Rattle.marching.specs.March.{Cell, State, Rooms, Going, on, refused, nothing}
+use Rattle.marching.specs.March.{Rooms, Going, nothing}
 use Rattle.marching.specs.Lattice.{marchFrom}
 use Rattle.fronts.specs.declared.Stop.{Stop}
-use Rattle.fronts.specs.declared.Stop.the-variants.{NoRow, NoCell, GaveUp}
+use Rattle.fronts.specs.declared.Stop.the-variants.{NoRow, NoCell}
 use Rattle.fronts.specs.declared.Raced.{Raced}
 use Rattle.fronts.specs.declared.Raced.the-variants as raced
 use Rattle.fronts.specs.Fronts.{Blank, Stopped}
 use Rattle.fronts.specs.Fronts as fronts
 use Rattle.esdf.specs.declared.Marched.{Marched}
 use Rattle.esdf.specs.declared.Marched.the-variants as marched
-use Rattle.esdf.specs.Steps.{estimatesOf, Lent, Held, roomsOf, Finished}
+use Rattle.esdf.specs.Steps.{Lent, Held, roomsOf, Finished}
 use Rattle.esdf.proofs.Marching.{same-rooms}
 
 -- ---- the fast march may begin
@@ -82,7 +82,15 @@ unfolding padded
 blanked v m l l' e f = e ∙ ap (λ (i : ℕ). replicate i v) (f ∙ sym (whole m))
 
 -- cleared lists of paired lengths hold nothing
-pub clear-held : (ks cs : List ℕ) (ds es : List Float) (ks' cs' : List ℕ) (ds' es' : List Float) → length ds ≡ length ks → length es ≡ length cs → ks' ≡ filled 0 ks → ds' ≡ filled zero32 ds → es' ≡ filled zero32 es → cs' ≡ filled 0 cs → Held nothing 0 ks' ds' 0 es' cs'
+pub clear-held :
+    (ks cs : List ℕ) (ds es : List Float) (ks' cs' : List ℕ) (ds' es' : List Float)
+    → length ds ≡ length ks
+    → length es ≡ length cs
+    → ks' ≡ filled 0 ks
+    → ds' ≡ filled zero32 ds
+    → es' ≡ filled zero32 es
+    → cs' ≡ filled 0 cs
+    → Held nothing 0 ks' ds' 0 es' cs'
 unfolding ascending
 clear-held ks cs ds es ks' cs' ds' es' p q a b c d =
     let l : length ks ≡ length ks' = sym (ap length a ∙ length-replicate (length ks) 0) in
@@ -93,6 +101,12 @@ clear-held ks cs ds es ks' cs' ds' es' p q a b c d =
     }
 
 -- the plain march over lists of the same lengths
-pub same-march : (size most t : Float) (rs : List Row) (ks₀ cs₀ ks cs : List ℕ) → length ks ≡ length ks₀ → length cs ≡ length cs₀ → (r : Marched) (ks' : List ℕ) (ds' es' : List Float) (cs' : List ℕ) → Finished (marchFrom size most (roomsOf ks cs) t rs) r ks' ds' es' cs' → Finished (marchFrom size most (roomsOf ks₀ cs₀) t rs) r ks' ds' es' cs'
+pub same-march :
+    (size most t : Float) (rs : List Row) (ks₀ cs₀ ks cs : List ℕ)
+    → length ks ≡ length ks₀
+    → length cs ≡ length cs₀
+    → (r : Marched) (ks' : List ℕ) (ds' es' : List Float) (cs' : List ℕ)
+    → Finished (marchFrom size most (roomsOf ks cs) t rs) r ks' ds' es' cs'
+    → Finished (marchFrom size most (roomsOf ks₀ cs₀) t rs) r ks' ds' es' cs'
 same-march size most t rs ks₀ cs₀ ks cs p q r ks' ds' es' cs' did =
     subst (λ (m : Rooms). Finished (marchFrom size most m t rs) r ks' ds' es' cs') (same-rooms (roomsOf ks₀ cs₀) ks cs p q) did

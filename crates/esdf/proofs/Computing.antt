@@ -1,35 +1,36 @@
 -- The public call: the tests say what the march may build on, and its answer says what the lists hold. Assumes nothing.
 use mathlib.Core.Path.{_≡_, refl, sym, ap, subst, _∙_}
-use mathlib.Core.Bool.{Bool, true, false, cond, _&&_}
+use mathlib.Core.Bool.{Bool, true, false, _&&_}
 use mathlib.Core.List.{List, [], _∷_}
-use Prim.Native.Nat.{ℕ, _-_, _≤_}
+use Prim.Native.Nat.{ℕ, _-_}
 use native.Mathlib.Nat.{suc-ne-zero}
 use native.Mathlib.Omega.{arith}
 use borrow.Author.Tests.{eqb-true}
 use lib.Dec.{eqb, leb}
-use lib.ListN.{length, take, replicate, length-replicate, length-map}
+use lib.ListN.{length, replicate, length-replicate, length-map}
 use lib.Ieee.{Float}
 use Rattle.floats.specs.Floats.{zero32, isFinite}
 use Rattle.lists.specs.Padding.{padded}
 use Rattle.lists.specs.Places.{filled}
-use Rattle.lists.proofs.Bools.{cases, and-first, and-second}
+use Rattle.lists.proofs.Bools.{and-first, and-second}
 use Rattle.lists.proofs.PaddingLaws.{padded-length}
 use Rattle.refusals.specs.declared.Refusal.{Refusal}
 use Rattle.refusals.specs.declared.Refusal.the-variants.{Setting, Lengths, BadRow, BadReading}
-use Rattle.table.specs.Keys.{ascending}
+use Rattle.search.specs.Keys.{ascending}
 use Rattle.table.specs.Table.{Table, table, rowsOf, settingsOk, lengthsOk, rowsOk, tableOk, need, tableCheck}
 use Rattle.table.specs.declared.Settings.{Settings}
 use Rattle.table.specs.declared.Checked.{Checked}
 use Rattle.table.specs.declared.Checked.the-variants as checked
 use Rattle.table.proofs.RowLaws.{lengths-known}
-use Rattle.marching.specs.March.{Cell, State, Rooms, rooms, Going, on, refused, keysOf, distancesOf, cellsOf, nothing}
+use Rattle.marching.specs.March.{Cell, Rooms, rooms, Going, keysOf, distancesOf, cellsOf, nothing}
 use Rattle.marching.specs.Lattice.{marchFrom}
-use Rattle.marching.proofs.Verdicts.{follow, need-follow, need-passed}
+use Rattle.marching.proofs.Verdicts.{follow, need-follow}
+use Rattle.table.proofs.Checking.{need-passed}
 use Rattle.esdf.proofs.Marching.{same-rooms}
 use Rattle.esdf.specs.declared.Marched.{Marched}
 use Rattle.esdf.specs.declared.Marched.the-variants as marched
 use Rattle.esdf.specs.Steps.{estimatesOf, Held, roomsOf, Lent, Finished, MayMarch, tidied}
-use Rattle.esdf.specs.Compute.{Places, places, setOk, marchCheck, tested, marching, Outcome, outcome, answerOf, keysLeft, distancesLeft, left, computed}
+use Rattle.esdf.specs.Compute.{Places, places, setOk, marchCheck, tested, marching, outcome, answerOf, keysLeft, distancesLeft, left, computed}
 
 -- ---- the tests
 
@@ -58,7 +59,12 @@ module _ (s : Settings) (t : Table) (threshold : Float) (fit : Bool) where
             rw (a, b, d)
             (need-is (settingsOk s) a (lengthsOk (length (t .keys)) (length (t .distances)) (length (t .weights)) (t .count)) b)
           where
-            need-is : (x : Bool) → x ≡ true → (y : Bool) → y ≡ true → need true Setting (need true Lengths (need true Lengths (need (tableOk (s .«max_weight») t) BadRow (need (isFinite threshold) BadReading checked.Passed)))) ≡ follow (need true Setting (need true Lengths (need (tableOk (s .«max_weight») t) BadRow checked.Passed))) (need (isFinite threshold) BadReading checked.Passed)
+            need-is :
+                (x : Bool)
+                → x ≡ true
+                → (y : Bool)
+                → y ≡ true
+                → need true Setting (need true Lengths (need true Lengths (need (tableOk (s .«max_weight») t) BadRow (need (isFinite threshold) BadReading checked.Passed)))) ≡ follow (need true Setting (need true Lengths (need (tableOk (s .«max_weight») t) BadRow checked.Passed))) (need (isFinite threshold) BadReading checked.Passed)
             need-is x p y q = need-follow (tableOk (s .«max_weight») t) BadRow (need (isFinite threshold) BadReading checked.Passed)
 
         pub check-row : (v : Checked) (why : Refusal) → v ≡ tableCheck s t → v ≡ checked.Refused why → marchCheck s t threshold fit ≡ checked.Refused why
@@ -99,7 +105,10 @@ tests s t threshold fit e =
     record { settings = a .0; lengths = b .0; places = c .0; rows = d .0; reading = f .0 }
 
 -- the table's keys ascend
-pub tested-lent : (s : Settings) (ks : List ℕ) (ds ws : List Float) (n : ℕ) (threshold : Float) (fit : Bool) → marchCheck s (table ks ds ws n) threshold fit ≡ checked.Passed → Lent ks ds ws n
+pub tested-lent :
+    (s : Settings) (ks : List ℕ) (ds ws : List Float) (n : ℕ) (threshold : Float) (fit : Bool)
+    → marchCheck s (table ks ds ws n) threshold fit ≡ checked.Passed
+    → Lent ks ds ws n
 tested-lent s ks ds ws n threshold fit e =
     let h = tests s (table ks ds ws n) threshold fit e in
     let l = lengths-known (length ks) (length ds) (length ws) n (h .lengths) in
@@ -118,7 +127,14 @@ whole-room : (y : ℕ) → y - 0 ≡ y
 whole-room y = omega arith
 
 -- lists of zeros hold nothing
-pub cleared : (ks₀ cs₀ : List ℕ) (ds₀ es₀ : List Float) (ks cs : List ℕ) (ds es : List Float) → setOk (length ks₀) (length ds₀) && setOk (length es₀) (length cs₀) ≡ true → ks ≡ filled 0 ks₀ → ds ≡ filled zero32 ds₀ → es ≡ filled zero32 es₀ → cs ≡ filled 0 cs₀ → Held nothing 0 ks ds 0 es cs
+pub cleared :
+    (ks₀ cs₀ : List ℕ) (ds₀ es₀ : List Float) (ks cs : List ℕ) (ds es : List Float)
+    → setOk (length ks₀) (length ds₀) && setOk (length es₀) (length cs₀) ≡ true
+    → ks ≡ filled 0 ks₀
+    → ds ≡ filled zero32 ds₀
+    → es ≡ filled zero32 es₀
+    → cs ≡ filled 0 cs₀
+    → Held nothing 0 ks ds 0 es cs
 unfolding padded ascending
 cleared ks₀ cs₀ ds₀ es₀ ks cs ds es h a b c d =
     let k = sets-equal (length ks₀) (length ds₀) (length es₀) (length cs₀) h in
@@ -137,7 +153,14 @@ nil : (l : List Cell) → 0 ≡ length l → l ≡ []
 nil [] e = refl
 nil (c ∷ l) e = absurd (suc-ne-zero _ (sym e))
 
-five : {r r' : Marched} {ks ks' : List ℕ} {ds ds' es es' : List Float} {cs cs' : List ℕ} → r ≡ r' → ks ≡ ks' → ds ≡ ds' → es ≡ es' → cs ≡ cs' → outcome r ks ds es cs ≡ outcome r' ks' ds' es' cs'
+five :
+    {r r' : Marched} {ks ks' : List ℕ} {ds ds' es es' : List Float} {cs cs' : List ℕ}
+    → r ≡ r'
+    → ks ≡ ks'
+    → ds ≡ ds'
+    → es ≡ es'
+    → cs ≡ cs'
+    → outcome r ks ds es cs ≡ outcome r' ks' ds' es' cs'
 five a b c d e = cc
 
 -- what a march finished, tidied, is what it leaves
@@ -163,7 +186,14 @@ module _ (p : Places) (g : Going) (ks : List ℕ) (ds es : List Float) (cs : Lis
       none : {A : Type 0} (v : A) (a b : ℕ) (l : List A) → l ≡ [] → a ≡ b → padded v a l ≡ replicate b v
       none v a b l e f = rw (e, f) (ap (λ (i : ℕ). replicate i v) (whole-room b))
 
-  pub tidied-left : (r : Marched) (ks' : List ℕ) (ds' es' : List Float) (cs' : List ℕ) → Finished g r ks ds es cs → ks' ≡ tidied 0 r ks → ds' ≡ tidied zero32 r ds → es' ≡ tidied zero32 r es → cs' ≡ tidied 0 r cs → outcome r ks' ds' es' cs' ≡ left p g
+  pub tidied-left :
+      (r : Marched) (ks' : List ℕ) (ds' es' : List Float) (cs' : List ℕ)
+      → Finished g r ks ds es cs
+      → ks' ≡ tidied 0 r ks
+      → ds' ≡ tidied zero32 r ds
+      → es' ≡ tidied zero32 r es
+      → cs' ≡ tidied 0 r cs
+      → outcome r ks' ds' es' cs' ≡ left p g
   tidied-left r ks' ds' es' cs' f a b c d = five refl a b c d ∙ leaves r f
 
 -- ---- the code's steps
@@ -189,13 +219,39 @@ module _ (verdict : Checked) (g : Going) (ks : List ℕ) (ds es : List Float) (c
   passed-first r e f = rw e f
 
 module _ (s : Settings) (tks : List ℕ) (tds tws : List Float) (n : ℕ) (threshold : Float) (ks₀ cs₀ : List ℕ) (ds₀ es₀ : List Float) where
-  pub may-march : (ks cs : List ℕ) (ds es : List Float) {fit : Bool} {verdict : Checked} → fit ≡ setOk (length ks₀) (length ds₀) && setOk (length es₀) (length cs₀) → verdict ≡ marchCheck s (table tks tds tws n) threshold fit → ks ≡ filled 0 ks₀ → ds ≡ filled zero32 ds₀ → es ≡ filled zero32 es₀ → cs ≡ filled 0 cs₀ → MayMarch verdict tks tds tws n ks ds es cs
+  pub may-march :
+      (ks cs : List ℕ) (ds es : List Float) {fit : Bool} {verdict : Checked}
+      → fit ≡ setOk (length ks₀) (length ds₀) && setOk (length es₀) (length cs₀)
+      → verdict ≡ marchCheck s (table tks tds tws n) threshold fit
+      → ks ≡ filled 0 ks₀
+      → ds ≡ filled zero32 ds₀
+      → es ≡ filled zero32 es₀
+      → cs ≡ filled 0 cs₀
+      → MayMarch verdict tks tds tws n ks ds es cs
   may-march ks cs ds es {fit} p q a b c d e =
       let h = sym q ∙ e in
       (tested-lent s tks tds tws n threshold fit h, cleared ks₀ cs₀ ds₀ es₀ ks cs ds es (sym p ∙ tests s (table tks tds tws n) threshold fit h .places) a b c d)
 
   -- the whole call
-  pub march-left : {fit : Bool} {verdict : Checked} (ks₁ cs₁ : List ℕ) → fit ≡ setOk (length ks₀) (length ds₀) && setOk (length es₀) (length cs₀) → verdict ≡ marchCheck s (table tks tds tws n) threshold fit → length ks₁ ≡ length ks₀ → length cs₁ ≡ length cs₀ → (ks : List ℕ) (ds es : List Float) (cs : List ℕ) → length ks ≡ length ks₀ → length ds ≡ length ds₀ → length es ≡ length es₀ → length cs ≡ length cs₀ → (r : Marched) → Finished (tested verdict (marchFrom (s .«voxel_size» .0) (s .«max_distance» .0) (roomsOf ks₁ cs₁) threshold (rowsOf tks tds tws n))) r ks ds es cs → (ks' : List ℕ) (ds' es' : List Float) (cs' : List ℕ) → ks' ≡ tidied 0 r ks → ds' ≡ tidied zero32 r ds → es' ≡ tidied zero32 r es → cs' ≡ tidied 0 r cs → outcome r ks' ds' es' cs' ≡ computed s (table tks tds tws n) threshold (places (length ks₀) (length ds₀) (length es₀) (length cs₀))
+  pub march-left :
+      {fit : Bool} {verdict : Checked} (ks₁ cs₁ : List ℕ)
+      → fit ≡ setOk (length ks₀) (length ds₀) && setOk (length es₀) (length cs₀)
+      → verdict ≡ marchCheck s (table tks tds tws n) threshold fit
+      → length ks₁ ≡ length ks₀
+      → length cs₁ ≡ length cs₀
+      → (ks : List ℕ) (ds es : List Float) (cs : List ℕ)
+      → length ks ≡ length ks₀
+      → length ds ≡ length ds₀
+      → length es ≡ length es₀
+      → length cs ≡ length cs₀
+      → (r : Marched)
+      → Finished (tested verdict (marchFrom (s .«voxel_size» .0) (s .«max_distance» .0) (roomsOf ks₁ cs₁) threshold (rowsOf tks tds tws n))) r ks ds es cs
+      → (ks' : List ℕ) (ds' es' : List Float) (cs' : List ℕ)
+      → ks' ≡ tidied 0 r ks
+      → ds' ≡ tidied zero32 r ds
+      → es' ≡ tidied zero32 r es
+      → cs' ≡ tidied 0 r cs
+      → outcome r ks' ds' es' cs' ≡ computed s (table tks tds tws n) threshold (places (length ks₀) (length ds₀) (length es₀) (length cs₀))
   unfolding marching
   march-left {verdict = verdict} ks₁ cs₁ p q i j ks ds es cs lk ld le lc r f ks' ds' es' cs' a b c d =
       let l = places (length ks₀) (length ds₀) (length es₀) (length cs₀) in

@@ -1,13 +1,13 @@
 -- What the steps do to lists that hold a state. Assumes nothing.
 use mathlib.Core.Path.{_≡_, refl, sym, ap, subst, _∙_}
-use mathlib.Core.Bool.{Bool, true, false, cond, _||_, true≢false}
-use mathlib.Core.List.{List, [], _∷_, map}
+use mathlib.Core.Bool.{true, false, cond}
+use mathlib.Core.List.{List, [], _∷_}
 use mathlib.Core.Option.{Option, none, some}
-use Prim.Native.Nat.{ℕ, zero, suc, _+_, _<_, _≤_}
+use Prim.Native.Nat.{ℕ, suc, _+_, _<_, _≤_}
 use native.Mathlib.Numerals.{add-one}
 use native.Mathlib.Omega.{arith}
-use borrow.Author.Tests.{lt-ltb, le-ltb, eqb-true}
-use lib.Dec.{eqb, ltb}
+use borrow.Author.Tests.{lt-ltb, le-ltb}
+use lib.Dec.{ltb}
 use lib.ListN.{length, take, drop, getD, length-map, drop-of-length-le, List·getD-append}
 use lib.Seq.{drop-cons}
 use lib.Ieee.{Float, nan, lt}
@@ -18,18 +18,15 @@ use Rattle.neighbors.specs.Neighbors.{neighbours}
 use Rattle.neighbors.specs.declared.Near.{Near}
 use Rattle.neighbors.proofs.NeighborLaws.{at-most-14}
 use Rattle.lists.proofs.PaddingLaws.{padded-length, padded-at}
-use Rattle.table.specs.Keys.{member, ascending, find, findBy, next, placeOf, halved}
-use Rattle.table.proofs.KeyLaws.{findBy-find, found, halved-place}
-use Rattle.table.specs.declared.Found.{Found}
-use Rattle.table.specs.declared.Found.the-variants.{At, Absent}
+use Rattle.search.specs.Keys.{member, find, findBy, placeOf, halved}
+use Rattle.search.proofs.KeyLaws.{findBy-find, found, halved-place}
+use Rattle.search.specs.declared.Found.{Found}
+use Rattle.search.specs.declared.Found.the-variants.{At, Absent}
 use Rattle.lists.specs.Lists.{insert, place}
-use Rattle.marching.specs.March.{MarchedRow, marchedRow, Cell, cell, State, state, Field, Going, on, refused, andThen, rowBefore, keysOf, distanceOf, store, cellBefore, cellsOf, wait, waitAll, candidate, heard, settling}
-use Rattle.refusals.specs.declared.Refusal.the-variants.{NoPlace, NoWaitingPlace}
+use Rattle.marching.specs.March.{MarchedRow, Cell, cell, State, state, Field, Going, on, andThen, rowBefore, keysOf, distanceOf, store, cellBefore, cellsOf, wait, waitAll, candidate, heard, settling, distancesOf}
 use Rattle.esdf.specs.declared.Placed.{Placed}
 use Rattle.esdf.specs.declared.Placed.the-variants.{Now, Full}
-use Rattle.marching.specs.March.{distancesOf}
 use Rattle.esdf.specs.Steps.{estimatesOf, cellsBeside, HeldKeys, HeldRows, HeldCells, LeftRows, LeftCells}
-use Rattle.lists.proofs.Bools.{cases}
 use Rattle.lists.proofs.Inserting.{insert-length}
 use Rattle.marching.proofs.KeysOnce.{ascending-insert}
 use Rattle.marching.proofs.Looking.{stands, member-find, at, distance-find}
@@ -89,7 +86,14 @@ module _ (e : Float) (k : ℕ) (s : State) (w : ℕ) (es : List Float) (cs : Lis
       wait-full l = rw (a, sym waiting-is ∙ b, le-ltb (length (s .waiting)) (length cs) (let c = h .count in omega arith))
 
       -- the cell gets its place
-      pub wait-placed : w < length cs → (p : ℕ) → p ≡ place cellBefore (cell e k) (take w (cellsBeside es cs)) → (es' : List Float) (cs' : List ℕ) → es' ≡ inserted es w p e → cs' ≡ inserted cs w p k → LeftCells (wait (length cs) e k s) s (Now (w + 1)) es' cs'
+      pub wait-placed :
+          w < length cs
+          → (p : ℕ)
+          → p ≡ place cellBefore (cell e k) (take w (cellsBeside es cs))
+          → (es' : List Float) (cs' : List ℕ)
+          → es' ≡ inserted es w p e
+          → cs' ≡ inserted cs w p k
+          → LeftCells (wait (length cs) e k s) s (Now (w + 1)) es' cs'
       unfolding wait LeftCells
       wait-placed l p q es' cs' x y =
           let n : w ≡ length (s .waiting) = h .count in
@@ -115,7 +119,10 @@ module _ (e : Float) (k : ℕ) (s : State) (w : ℕ) (es : List Float) (cs : Lis
 pub lt-of-lt-of-eq : (i n m : ℕ) → i < n → n ≡ m → i < m
 lt-of-lt-of-eq i n m h e = rw e at h
 
-pub near-list : (k : ℕ) (f : Near) → f ≡ record { keys = padded 0 14 (neighbours k); count = length (neighbours k) } → (f .keys ≡ padded 0 14 (neighbours k)) × (f .count ≡ length (neighbours k)) × (f .count ≤ 14)
+pub near-list :
+    (k : ℕ) (f : Near)
+    → f ≡ record { keys = padded 0 14 (neighbours k); count = length (neighbours k) }
+    → (f .keys ≡ padded 0 14 (neighbours k)) × (f .count ≡ length (neighbours k)) × (f .count ≤ 14)
 near-list k f e = (ap (λ (x : Near). x .keys) e, ap (λ (x : Near). x .count) e, rw (ap (λ (x : Near). x .count) e) (at-most-14 k))
 
 -- ---- all neighbours wait, from place i of them on
@@ -134,7 +141,13 @@ module _ (e : Float) (ns list : List ℕ) (listed : list ≡ padded 0 14 ns) (n 
   carried s t q h = subst (λ (rs : List MarchedRow). HeldKeys rs n ks) (sym q) h
 
   -- the next step may be taken
-  pub rest-may : (i w : ℕ) (es : List Float) (cs : List ℕ) → Rest e ns n ks w₀ es₀ cs₀ i w es cs → (s : State) → HeldKeys (s .stored) n ks → HeldCells (s .waiting) w₀ es₀ cs₀ → (t : State) × (HeldKeys (t .stored) n ks × HeldCells (t .waiting) w es cs)
+  pub rest-may :
+      (i w : ℕ) (es : List Float) (cs : List ℕ)
+      → Rest e ns n ks w₀ es₀ cs₀ i w es cs
+      → (s : State)
+      → HeldKeys (s .stored) n ks
+      → HeldCells (s .waiting) w₀ es₀ cs₀
+      → (t : State) × (HeldKeys (t .stored) n ks × HeldCells (t .waiting) w es cs)
   rest-may i w es cs r s hk hc = let x = r s hk hc in (x .0, (carried s (x .0) (x .1 .0) hk, x .1 .1 .0))
 
   module _ (i w : ℕ) (es : List Float) (cs : List ℕ) (r : Rest e ns n ks w₀ es₀ cs₀ i w es cs) (long : length cs ≡ length cs₀) (l : i < length ns) where
@@ -143,7 +156,11 @@ module _ (e : Float) (ns list : List ℕ) (listed : list ≡ padded 0 14 ns) (n 
     one t = rw (drop-cons ns i 0 l, long, ap (λ (x : List ℕ). getD x i 0) listed ∙ padded-at 0 14 ns i)
 
     -- a cell waits, or already did
-    pub rest-more : (p : Placed) (w' : ℕ) (es' : List Float) (cs' : List ℕ) → p ≡ Now w' → ((t : State) → HeldKeys (t .stored) n ks → HeldCells (t .waiting) w es cs → LeftCells (wait (length cs) e (getD list i 0) t) t p es' cs') → Rest e ns n ks w₀ es₀ cs₀ (i + 1) w' es' cs'
+    pub rest-more :
+        (p : Placed) (w' : ℕ) (es' : List Float) (cs' : List ℕ)
+        → p ≡ Now w'
+        → ((t : State) → HeldKeys (t .stored) n ks → HeldCells (t .waiting) w es cs → LeftCells (wait (length cs) e (getD list i 0) t) t p es' cs')
+        → Rest e ns n ks w₀ es₀ cs₀ (i + 1) w' es' cs'
     unfolding LeftCells andThen
     rest-more p w' es' cs' a does s hk hc =
         let x = r s hk hc in
@@ -151,7 +168,14 @@ module _ (e : Float) (ns list : List ℕ) (listed : list ≡ padded 0 14 ns) (n 
         (y .0, (y .1 .1 .0 ∙ x .1 .0, (y .1 .1 .1, x .1 .1 .1 ∙ one (x .0) ∙ ap (λ (g : Going). andThen g (waitAll (length cs₀) e (drop (suc i) ns))) (y .1 .0) ∙ ap (λ (j : ℕ). waitAll (length cs₀) e (drop j ns) (y .0)) (sym (add-one i)))))
 
     -- there is no place for it
-    pub rest-full : (p : Placed) (es' : List Float) (cs' : List ℕ) → p ≡ Full → ((t : State) → HeldKeys (t .stored) n ks → HeldCells (t .waiting) w es cs → LeftCells (wait (length cs) e (getD list i 0) t) t p es' cs') → (s : State) → HeldKeys (s .stored) n ks → HeldCells (s .waiting) w₀ es₀ cs₀ → LeftCells (waitAll (length cs₀) e ns s) s Full es' cs'
+    pub rest-full :
+        (p : Placed) (es' : List Float) (cs' : List ℕ)
+        → p ≡ Full
+        → ((t : State) → HeldKeys (t .stored) n ks → HeldCells (t .waiting) w es cs → LeftCells (wait (length cs) e (getD list i 0) t) t p es' cs')
+        → (s : State)
+        → HeldKeys (s .stored) n ks
+        → HeldCells (s .waiting) w₀ es₀ cs₀
+        → LeftCells (waitAll (length cs₀) e ns s) s Full es' cs'
     unfolding LeftCells andThen
     rest-full p es' cs' a does s hk hc =
         let x = r s hk hc in
@@ -159,7 +183,14 @@ module _ (e : Float) (ns list : List ℕ) (listed : list ≡ padded 0 14 ns) (n 
         x .1 .1 .1 ∙ one (x .0) ∙ rw y
 
   -- all of them wait
-  pub rest-none : (i w : ℕ) (es : List Float) (cs : List ℕ) → Rest e ns n ks w₀ es₀ cs₀ i w es cs → length ns ≤ i → (s : State) → HeldKeys (s .stored) n ks → HeldCells (s .waiting) w₀ es₀ cs₀ → LeftCells (waitAll (length cs₀) e ns s) s (Now w) es cs
+  pub rest-none :
+      (i w : ℕ) (es : List Float) (cs : List ℕ)
+      → Rest e ns n ks w₀ es₀ cs₀ i w es cs
+      → length ns ≤ i
+      → (s : State)
+      → HeldKeys (s .stored) n ks
+      → HeldCells (s .waiting) w₀ es₀ cs₀
+      → LeftCells (waitAll (length cs₀) e ns s) s (Now w) es cs
   unfolding LeftCells waitAll
   rest-none i w es cs r l s hk hc =
       let x = r s hk hc in
@@ -206,7 +237,11 @@ module _ (size l best said x y d : Float) (o : Option Float) (e : o ≡ some d) 
 -- ---- settling, from place i of the neighbours on
 
 module _ (f : Field) (rs : List MarchedRow) (k : ℕ) (ns list : List ℕ) (listed : list ≡ padded 0 14 ns) where
-  pub settle-more : (i : ℕ) (best best' : Float) → i < length ns → best' ≡ heard (f .size) (f .reach k i) best (distanceOf (getD list i 0) rs) → settling f rs k i best (drop i ns) ≡ settling f rs k (i + 1) best' (drop (i + 1) ns)
+  pub settle-more :
+      (i : ℕ) (best best' : Float)
+      → i < length ns
+      → best' ≡ heard (f .size) (f .reach k i) best (distanceOf (getD list i 0) rs)
+      → settling f rs k i best (drop i ns) ≡ settling f rs k (i + 1) best' (drop (i + 1) ns)
   unfolding settling
   settle-more i best best' l e =
       ap (settling f rs k i best) (drop-cons ns i 0 l)
@@ -230,7 +265,15 @@ module _ (r : MarchedRow) (s : State) (n : ℕ) (ks : List ℕ) (ds : List Float
   unfolding store LeftRows
   store-full l = rw (le-ltb (length (s .stored)) (length ks) (let c = h .count in omega arith))
 
-  pub store-placed : member (r .key) (keysOf (s .stored)) ≡ false → n < length ks → (p : ℕ) → p ≡ halved (r .key) (take n ks) → (ks' : List ℕ) (ds' : List Float) → ks' ≡ inserted ks n p (r .key) → ds' ≡ inserted ds n p (r .distance) → LeftRows (store (length ks) r s) s (Now (n + 1)) ks' ds'
+  pub store-placed :
+      member (r .key) (keysOf (s .stored)) ≡ false
+      → n < length ks
+      → (p : ℕ)
+      → p ≡ halved (r .key) (take n ks)
+      → (ks' : List ℕ) (ds' : List Float)
+      → ks' ≡ inserted ks n p (r .key)
+      → ds' ≡ inserted ds n p (r .distance)
+      → LeftRows (store (length ks) r s) s (Now (n + 1)) ks' ds'
   unfolding store LeftRows
   store-placed a l p q ks' ds' x y =
       let rs = s .stored in

@@ -1,24 +1,24 @@
 -- Steps on all four lists: a row is stored, then cells wait. Assumes nothing.
 use mathlib.Core.Path.{_≡_, refl, sym, ap, subst, _∙_}
-use mathlib.Core.Bool.{Bool, true, false, cond}
+use mathlib.Core.Bool.{true, false}
 use mathlib.Core.List.{List, [], _∷_, map}
-use Prim.Native.Nat.{ℕ, zero, suc, _+_, _-_, _<_, _≤_}
+use Prim.Native.Nat.{ℕ, suc, _-_, _<_, _≤_}
 use native.Mathlib.Nat.{not-suc-le-zero}
 use native.Mathlib.Omega.{arith}
 use lib.ListN.{length, getD, length-map}
-use lib.Ieee.{Float, le, add, mul, binary32}
-use Rattle.floats.specs.Floats.{zero32, sizeOf}
+use lib.Ieee.{Float, le}
+use Rattle.floats.specs.Floats.{zero32}
 use Rattle.lists.specs.Places.{firstDropped}
 use Rattle.lists.specs.Padding.{padded}
 use Rattle.lists.proofs.PaddingLaws.{padded-length, padded-at}
-use Rattle.table.specs.Keys.{member}
-use Rattle.marching.specs.March.{MarchedRow, marchedRow, Cell, cell, State, state, Field, Rooms, Going, on, refused, andThen, keysOf, cellsOf, store, waitAll, settled, diagonal, onward, spread, settle, visit, taking, take}
+use Rattle.search.specs.Keys.{member}
+use Rattle.marching.specs.March.{MarchedRow, marchedRow, Cell, State, state, Field, Rooms, Going, andThen, keysOf, cellsOf, store, waitAll, settled, onward, spread, settle, visit, taking, take}
 use Rattle.refusals.specs.declared.Refusal.the-variants.{NoPlace, NoWaitingPlace}
 use Rattle.esdf.specs.declared.Placed.{Placed}
 use Rattle.esdf.specs.declared.Placed.the-variants.{Now, Full}
 use Rattle.esdf.specs.declared.Step.{Step}
 use Rattle.esdf.specs.declared.Step.the-variants.{On, Refused}
-use Rattle.esdf.specs.Steps.{estimatesOf, HeldKeys, HeldRows, HeldCells, Held, roomsOf, LeftRows, LeftCells, Left, MayWait, DoesWait}
+use Rattle.esdf.specs.Steps.{HeldRows, HeldCells, Held, roomsOf, LeftRows, LeftCells, Left, MayWait, DoesWait}
 use Rattle.esdf.proofs.Holding.{held-keys}
 use Rattle.esdf.proofs.Columns.{column-drop}
 
@@ -62,13 +62,21 @@ module _ (g : Going) (step : State → Going) (s : State) (w : ℕ) (es : List F
           )
 
 -- an estimate that is equal serves as well
-pub with-size : (room : ℕ) (e e' : Float) (ns : List ℕ) (n : ℕ) (ks : List ℕ) (w : ℕ) (es : List Float) (cs : List ℕ) (q : Placed) (out : List Float × List ℕ) → e ≡ e' → DoesWait (waitAll room e ns) n ks w es cs q (out .0) (out .1) → DoesWait (waitAll room e' ns) n ks w es cs q (out .0) (out .1)
+pub with-size :
+    (room : ℕ) (e e' : Float) (ns : List ℕ) (n : ℕ) (ks : List ℕ) (w : ℕ) (es : List Float) (cs : List ℕ) (q : Placed) (out : List Float × List ℕ)
+    → e ≡ e'
+    → DoesWait (waitAll room e ns) n ks w es cs q (out .0) (out .1)
+    → DoesWait (waitAll room e' ns) n ks w es cs q (out .0) (out .1)
 with-size room e e' ns n ks w es cs q out a did = subst (λ (x : Float). DoesWait (waitAll room x ns) n ks w es cs q (out .0) (out .1)) a did
 
 -- ---- the neighbours of a settled cell
 
 module _ (f : Field) (r : MarchedRow) (n : ℕ) (ks : List ℕ) (w : ℕ) (es : List Float) (cs : List ℕ) (e : Float) (o : e ≡ onward f (r .distance)) where
-  pub spread-waits : le e (f .most) ≡ true → (q : Placed) (es' : List Float) (cs' : List ℕ) → DoesWait (waitAll (length cs) e (f .near (r .key))) n ks w es cs q es' cs' → DoesWait (spread f (length cs) r) n ks w es cs q es' cs'
+  pub spread-waits :
+      le e (f .most) ≡ true
+      → (q : Placed) (es' : List Float) (cs' : List ℕ)
+      → DoesWait (waitAll (length cs) e (f .near (r .key))) n ks w es cs q es' cs'
+      → DoesWait (spread f (length cs) r) n ks w es cs q es' cs'
   unfolding spread
   spread-waits a q es' cs' did s hk hc = subst (λ (g : Going). LeftCells g s q es' cs') (sym (rw (← o, a))) (did s hk hc)
 
@@ -78,7 +86,12 @@ module _ (f : Field) (r : MarchedRow) (n : ℕ) (ks : List ℕ) (w : ℕ) (es : 
 
 -- ---- a cell gets its distance
 
-pub settle-by : (f : Field) (m : Rooms) (k : ℕ) (s : State) (d : Float) → d ≡ settled f (s .stored) k → (r : Step) (ks : List ℕ) (ds : List Float) (es : List Float) (cs : List ℕ) → Left (andThen (store (m .rows) (marchedRow k d) s) (spread f (m .cells) (marchedRow k d))) r ks ds es cs → Left (settle f m k s) r ks ds es cs
+pub settle-by :
+    (f : Field) (m : Rooms) (k : ℕ) (s : State) (d : Float)
+    → d ≡ settled f (s .stored) k
+    → (r : Step) (ks : List ℕ) (ds : List Float) (es : List Float) (cs : List ℕ)
+    → Left (andThen (store (m .rows) (marchedRow k d) s) (spread f (m .cells) (marchedRow k d))) r ks ds es cs
+    → Left (settle f m k s) r ks ds es cs
 unfolding settle
 settle-by f m k s d e r ks ds es cs did =
     subst (λ (d : Float). Left (andThen (store (m .rows) (marchedRow k d) s) (spread f (m .cells) (marchedRow k d))) r ks ds es cs) e did
@@ -135,7 +148,11 @@ module _ (s : State) (n : ℕ) (ks : List ℕ) (ds : List Float) (w : ℕ) (es :
       unfolding Left visit
       take-skips a = (rest, (taken ∙ rw a, rest-held))
 
-      pub take-settles : member (getD cs 0 0) (keysOf (s .stored)) ≡ false → (r : Step) (ks' : List ℕ) (ds' : List Float) (es'' : List Float) (cs'' : List ℕ) → Left (settle f (roomsOf ks cs') (getD cs 0 0) rest) r ks' ds' es'' cs'' → Left (take f (roomsOf ks cs) s) r ks' ds' es'' cs''
+      pub take-settles :
+          member (getD cs 0 0) (keysOf (s .stored)) ≡ false
+          → (r : Step) (ks' : List ℕ) (ds' : List Float) (es'' : List Float) (cs'' : List ℕ)
+          → Left (settle f (roomsOf ks cs') (getD cs 0 0) rest) r ks' ds' es'' cs''
+          → Left (take f (roomsOf ks cs) s) r ks' ds' es'' cs''
       unfolding visit
       take-settles a r ks' ds' es'' cs'' did =
           subst (λ (g : Going). Left g r ks' ds' es'' cs'') (sym (taken ∙ rw a))

@@ -1,17 +1,16 @@
 -- Loops that walk the first places of a list: what is left says what the whole says. Assumes nothing.
 use mathlib.Core.Path.{_≡_, refl, sym, ap, _∙_}
-use mathlib.Core.Bool.{Bool, true, false, cond, _||_}
+use mathlib.Core.Bool.{true, false}
 use mathlib.Core.List.{List, [], _∷_}
 use Prim.Native.Nat.{ℕ, zero, suc, _+_, _<_, _≤_}
-use native.Mathlib.Nat.{not-suc-le-zero, suc-ne-zero, suc-inj, le-of-suc-le-suc}
+use native.Mathlib.Nat.{suc-ne-zero, suc-inj}
 use native.Mathlib.Numerals.{add-one}
 use native.Mathlib.Omega.{arith}
 use borrow.Author.Tests.{eq-eqb, ne-eqb}
-use lib.Dec.{eqb}
 use lib.ListN.{length, take, drop, getD, length-take, drop-of-length-le}
 use lib.Seq.{drop-cons, getD-take, length-take-le}
 use lib.Ieee.{Float, nan}
-use Rattle.table.specs.Keys.{member}
+use Rattle.search.specs.Keys.{member}
 use Rattle.lists.specs.Lists.{place}
 use Rattle.marching.specs.March.{Cell, cell, cellBefore}
 use Rattle.esdf.specs.Steps.{cellsBeside}
@@ -64,7 +63,11 @@ module _ (c : Cell) (es : List Float) (ks : List ℕ) (n i : ℕ) (same : length
   place-step : n ≤ length ks → i < n → left i ≡ cell (getD es i nan) (getD ks i 0) ∷ left (suc i)
   place-step h g = front-step (cell nan 0) (cellsBeside es ks) n i (rw (beside-length es ks same) h) g ∙ rw (beside-at es ks i same)
 
-  pub place-later : n ≤ length ks → i < n → cellBefore (cell (getD es i nan) (getD ks i 0)) c ≡ true → i + place cellBefore c (left i) ≡ (i + 1) + place cellBefore c (left (i + 1))
+  pub place-later :
+      n ≤ length ks
+      → i < n
+      → cellBefore (cell (getD es i nan) (getD ks i 0)) c ≡ true
+      → i + place cellBefore c (left i) ≡ (i + 1) + place cellBefore c (left (i + 1))
   unfolding place
   place-later h g e = rw (place-step h g, e, add-one i) (omega arith)
 

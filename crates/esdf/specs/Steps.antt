@@ -9,7 +9,7 @@ use Rattle.floats.specs.Floats.{zero32}
 use Rattle.lists.specs.Padding.{padded}
 use Rattle.lists.specs.Places.{filled}
 use Rattle.neighbors.specs.Neighbors.{neighbours}
-use Rattle.table.specs.Keys.{ascending, member}
+use Rattle.search.specs.Keys.{ascending, member}
 use Rattle.table.specs.Table.{Row}
 use Rattle.table.specs.declared.Checked.{Checked}
 use Rattle.table.specs.declared.Checked.the-variants as checked

@@ -7,6 +7,7 @@ use fronts::candidate;
 use fronts::is_seed;
 use fronts::race;
 use fronts::step_length;
+use lists::LONGEST_LIST;
 use lists::clear_f32;
 use lists::clear_u64;
 use lists::drop_first_f32;
@@ -14,13 +15,13 @@ use lists::drop_first_u64;
 use lists::insert_f32;
 use lists::insert_u64;
 use refusals::Refusal;
+use search::Found;
+use search::find_row;
+use search::place_of;
 use table::Checked;
-use table::Found;
 use table::Settings;
 use table::check_table;
-use table::find_row;
 use table::lengths_ok;
-use table::place_of;
 use table::settings_ok;
 ghost use mathlib.Core.Path.{_≡_};
 ghost use mathlib.Core.Bool.{false};
@@ -31,15 +32,12 @@ ghost use Rattle.floats.specs.Floats.{zero32};
 ghost use Rattle.lists.specs.Lists.{place};
 ghost use Rattle.lists.specs.Places.{filled};
 ghost use Rattle.neighbors.specs.Neighbors.{neighbours};
-ghost use Rattle.table.specs.Keys.{member};
+ghost use Rattle.search.specs.Keys.{member};
 ghost use Rattle.table.specs.Table.{row, table, rowsOf};
 ghost use Rattle.marching.specs.March.{MarchedRow, marchedRow, cell, State, keysOf, cellBefore, store, wait, waitAll, distanceOf, heard, nothing, seeds, settled, sow, sowAll, spread, settle, take, takeUpTo};
 ghost use Rattle.marching.specs.Lattice.{lengthAt, lattice, marchFrom};
 ghost use Rattle.esdf.specs.Steps.{cellsBeside, HeldRows, HaveRows, LeftRows, MayWait, DoesWait, roomsOf, MayStep, Does, MayStore, DoesStore, Lent, sowIf, Held, Left, MayTake, DoesTake, Finished, MayMarch, tidied};
 ghost use Rattle.esdf.specs.Compute.{places, setOk, marchCheck, tested, outcome, computed};
-
-// The most places of a list that is filled.
-const LONGEST: usize = 1_048_576;
 
 // How many there are now, or that there is no place for one more.
 enum Placed {
@@ -510,7 +508,7 @@ fn tidy(
 fn set_ok(a: usize, b: usize) -> bool
     ensures { λ r. ⌜ r ≡ setOk a b ⌝ }
 {
-    (a == b) & (a <= LONGEST)
+    (a == b) & (a <= LONGEST_LIST)
 }
 
 // Refusals 1, 2, 3 and 5; `fit` says that the lists to be filled pass.

@@ -1,5 +1,4 @@
 -- Laws on a marched table.
-pub mod MarchedLaws
-pub mod Walking
 pub mod Answers
 pub mod Determined
+pub mod Walking

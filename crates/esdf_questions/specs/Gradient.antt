@@ -1,6 +1,6 @@
 -- The gradient at a cell: the mean over its stored neighbours of the distance's change along each axis, made as long as 1.
 use Prim.Native.Nat.{ℕ, _+_, _-_}
-use mathlib.Core.Bool.{Bool, cond}
+use mathlib.Core.Bool.{cond}
 use mathlib.Core.List.{List, [], _∷_}
 use mathlib.Core.Option.{Option, none, some}
 use lib.Dec.{eqb, leb}
@@ -16,7 +16,7 @@ use Rattle.root.specs.declared.Rooted.the-variants as rooted
 use Rattle.table.specs.declared.Checked.{Checked}
 use Rattle.table.specs.declared.Checked.the-variants as checked
 use Rattle.marching.specs.March.{MarchedRow, distanceOf}
-use Rattle.esdf_questions.specs.Marched.{MarchedTable, marchedRows, keyCheck}
+use Rattle.marched.specs.Marched.{MarchedTable, marchedRows, keyCheck}
 use Rattle.esdf_questions.specs.declared.Slopes.{Slopes}
 use Rattle.esdf_questions.specs.declared.Gradient.{Gradient}
 use Rattle.esdf_questions.specs.declared.Gradient.the-variants as gradient

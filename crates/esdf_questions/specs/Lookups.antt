@@ -7,7 +7,7 @@ use Rattle.refusals.specs.Refusals.{numberOf, absentNumber}
 use Rattle.table.specs.declared.Checked.{Checked}
 use Rattle.table.specs.declared.Checked.the-variants as checked
 use Rattle.marching.specs.March.{distanceOf}
-use Rattle.esdf_questions.specs.Marched.{MarchedTable, marchedRows, keyCheck, freeCheck}
+use Rattle.marched.specs.Marched.{MarchedTable, marchedRows, keyCheck, freeCheck}
 use Rattle.esdf_questions.specs.declared.Distance.{Distance}
 use Rattle.esdf_questions.specs.declared.Distance.the-variants as distance
 use Rattle.esdf_questions.specs.declared.Free.{Free}

@@ -1,7 +1,7 @@
 // Lines of questions: T the statistics; U the cells near the surface, u each; E the edges, e each.
 use floats::Metres;
 use lists::Listed;
-use tsdf_questions::Statistics;
+use tsdf_surveys::Statistics;
 use vectors::Field;
 use vectors::Line;
 use vectors::float;
@@ -37,7 +37,7 @@ fn near_surface(field: Field, words: [u64; 16]) -> Given {
     let distances = field.distances;
     let weights = field.weights;
     let mut first = [0u64; 64];
-    let listed = tsdf_questions::get_surface_voxels(
+    let listed = tsdf_surveys::get_surface_voxels(
         settings,
         &keys,
         &distances,
@@ -123,7 +123,7 @@ pub(crate) fn statistics_again(field: Field, line: Line) -> bool {
     let keys = field.keys;
     let distances = field.distances;
     let weights = field.weights;
-    match tsdf_questions::stats(settings, &keys, &distances, &weights, field.rows) {
+    match tsdf_surveys::stats(settings, &keys, &distances, &weights, field.rows) {
         Statistics::Of(s) => {
             let counts = (s.voxel_count as u64 == words[0])
                 & (s.surface_voxel_count as u64 == words[1]);

@@ -1,7 +1,7 @@
 // Lines of readings: F direct, J a ray; and the row that each leaves.
 use floats::Metres;
-use table::Found;
-use tsdf::Fused;
+use fusing::Fused;
+use search::Found;
 use vectors::Field;
 use vectors::Line;
 use vectors::float;
@@ -27,7 +27,7 @@ fn row_is(field: Field, key: u64, distance: u64, weight: u64) -> bool {
     let keys = field.keys;
     let distances = field.distances;
     let weights = field.weights;
-    match table::find_row(&keys, field.rows, key) {
+    match search::find_row(&keys, field.rows, key) {
         Found::At(place) => {
             if place < 32 {
                 same(distances[place], float(distance)) & same(weights[place], float(weight))
@@ -45,7 +45,7 @@ fn with_direct(field: Field, words: [u64; 16]) -> Fed {
     let mut distances = field.distances;
     let mut weights = field.weights;
     let mut rows = field.rows;
-    let fused = tsdf::update_from_depth(
+    let fused = fusing::update_from_depth(
         settings,
         &mut keys,
         &mut distances,
@@ -75,7 +75,7 @@ fn with_ray(field: Field, words: [u64; 16]) -> Fed {
     let mut distances = field.distances;
     let mut weights = field.weights;
     let mut rows = field.rows;
-    let fused = tsdf::update_from_depth_ray(
+    let fused = fusing::update_from_depth_ray(
         settings,
         &mut keys,
         &mut distances,

@@ -4,7 +4,6 @@ use mathlib.Core.Bool.{Bool, true, false, cond, _&&_, _||_}
 use lib.Dec.{leb}
 use lib.IntN.{ℤ, pos, negℤ}
 use lib.Ieee.{Float, nan, inf, fin, binary32, ofBits, up, down, neg, lt, le}
-use Rattle.refusals.specs.Refusals.{numberOf}
 use Rattle.refusals.specs.declared.Refusal.the-variants.{OutOfRange}
 use Rattle.floats.specs.declared.Nearest.{Nearest}
 use Rattle.floats.specs.declared.Nearest.the-variants.{Whole, Refused}
@@ -105,8 +104,3 @@ unfoldable pub wholeOf : Float → Nearest
 wholeOf nan = Refused OutOfRange
 wholeOf (inf s) = Refused OutOfRange
 wholeOf (fin s m e) = signed s (halvesUp m e)
-
--- document 01's number of the answer, 0 for no refusal
-abbrev pub nearestNumber : Nearest → ℕ
-nearestNumber (Whole w) = 0
-nearestNumber (Refused r) = numberOf r

@@ -1,15 +1,15 @@
 -- The beginning and the end of the fast march: blank lists hold nothing, and once no cell waits the marks are the stored rows, scattered. Assumes nothing.
 use mathlib.Core.Path.{_≡_, refl, sym, ap, subst, _∙_}
-use mathlib.Core.Bool.{Bool, true, false, cond, _||_, or-true, true≢false, false≢true}
-use mathlib.Core.List.{List, [], _∷_, List·Memᴰ·head, List·Memᴰ·tail, List·Memᴰ·cases-cons, List·Memᴰ·not-nil}
-use mathlib.Core.Logic.{_⊎_, inl, inr, ⊎-elim}
+use mathlib.Core.Bool.{true, false, or-true}
+use mathlib.Core.List.{List, [], _∷_, List·Memᴰ·cases-cons, List·Memᴰ·not-nil}
+use mathlib.Core.Logic.{_⊎_, ⊎-elim}
 use mathlib.Core.Option.{Option, none, some}
-use Prim.Native.Nat.{ℕ, zero, suc, _+_, _-_, _<_, _≤_}
+use Prim.Native.Nat.{ℕ, suc, _-_, _<_, _≤_}
 use native.Mathlib.Nat.{suc-ne-zero}
 use native.Mathlib.Omega.{arith}
 use borrow.Author.Tests.{eq-eqb}
 use lib.Dec.{eqb}
-use lib.ListN.{length, getD, replicate, length-map}
+use lib.ListN.{length, getD}
 use lib.Ieee.{Float, nan}
 use Rattle.floats.specs.Floats.{zero32}
 use Rattle.heap.specs.Heap.{Heaped, Scattered}
@@ -17,13 +17,11 @@ use Rattle.heap.proofs.Laws.{heaped-start, heaped-end}
 use Rattle.lists.specs.Lists.{_∈_}
 use Rattle.lists.specs.Padding.{padded}
 use Rattle.lists.proofs.PaddingLaws.{padded-length}
-use Rattle.marks.specs.declared.Spot.the-variants.{At, Free, Full}
-use Rattle.marks.specs.Marks.{spotOf, look}
 use Rattle.marks.proofs.Keeping.{at-right, look-at, looked, kept-none, kept-once, look-none}
 use Rattle.neighbors.specs.Neighbors.{neighbours}
-use Rattle.table.specs.Keys.{member, ascending}
+use Rattle.search.specs.Keys.{member, ascending}
 use Rattle.table.specs.Table.{Row}
-use Rattle.table.proofs.Laying.{keysOf as tableKeys}
+use Rattle.table.specs.Rows.{keysOf as tableKeys}
 use Rattle.marching.specs.March.{MarchedRow, Cell, State, Rooms, Going, on, andThen, keysOf, distancesOf, cellsOf, distanceOf, seeds, sowAll, takeUpTo, nothing}
 use Rattle.marching.specs.March as march
 use Rattle.marching.specs.Lattice.{lattice, marchFrom}
@@ -33,9 +31,9 @@ use Rattle.fronts.specs.declared.Step.{Step}
 use Rattle.fronts.specs.declared.Step.the-variants.{On, Not}
 use Rattle.fronts.specs.declared.Raced.{Raced}
 use Rattle.fronts.specs.declared.Raced.the-variants as raced
-use Rattle.fronts.specs.Fronts.{orWaits, Marked, Front, Held, roomsOf, Stopped, Left, Lent, Blank, Sown, DoesTake, Emptied, Laid, Finished}
+use Rattle.fronts.specs.Fronts.{orWaits, Marked, Held, roomsOf, Left, Blank, Sown, DoesTake, Emptied, Laid, Finished}
 use Rattle.fronts.proofs.Marking.{stored-here}
-use Rattle.fronts.proofs.Walking.{stopped-then, stopped-by}
+use Rattle.fronts.proofs.Walking.{stopped-then}
 use Rattle.fronts.proofs.Marching.{same-rooms}
 
 -- ---- blank lists
@@ -108,7 +106,12 @@ module _ (s : State) (n : ℕ) (ks : List ℕ) (ds es : List Float) (cs : List �
       only (some d) x e = e
 
   -- sorted, they are the march's rows
-  pub laid : n ≤ length ks → (ks' : List ℕ) (ds' : List Float) → length ks' ≡ length ks → ((rs : List MarchedRow) → Scattered rs ks ds → (ks' ≡ padded 0 (length ks) (keysOf rs)) × (ds' ≡ padded zero32 (length ks) (distancesOf rs))) → Laid s n ks' ds' es cs
+  pub laid :
+      n ≤ length ks
+      → (ks' : List ℕ) (ds' : List Float)
+      → length ks' ≡ length ks
+      → ((rs : List MarchedRow) → Scattered rs ks ds → (ks' ≡ padded 0 (length ks) (keysOf rs)) × (ds' ≡ padded zero32 (length ks) (distancesOf rs)))
+      → Laid s n ks' ds' es cs
   laid f ks' ds' l sorted =
       let x = sorted (s .stored) scattered in
       let z = heaped-end 0 es cs (subst (λ (w : List Cell). Heaped w 0 es cs) empty (h .front .heap)) in
@@ -127,7 +130,11 @@ module _ (s : State) (n : ℕ) (ks : List ℕ) (ds es : List Float) (cs : List �
 
 module _ (size most t : Float) (rs : List Row) (ks₀ cs₀ : List ℕ) (r : Step) (ks : List ℕ) (ds es : List Float) (cs : List ℕ) (did : Left (sowAll neighbours (roomsOf ks₀ cs₀) (seeds t rs) nothing) r ks ds es cs) where
   -- a seed stops it
-  pub march-stopped : (why : Stop) → r ≡ Not why → (ks' : List ℕ) (ds' es' : List Float) (cs' : List ℕ) → Finished (marchFrom size most (roomsOf ks₀ cs₀) t rs) (raced.Not why) ks' ds' es' cs'
+  pub march-stopped :
+      (why : Stop)
+      → r ≡ Not why
+      → (ks' : List ℕ) (ds' es' : List Float) (cs' : List ℕ)
+      → Finished (marchFrom size most (roomsOf ks₀ cs₀) t rs) (raced.Not why) ks' ds' es' cs'
   unfolding Left Finished march.march
   march-stopped why e ks' ds' es' cs' =
       stopped-then _ _ why (subst (λ (x : Step). Left (sowAll neighbours (roomsOf ks₀ cs₀) (seeds t rs) nothing) x ks ds es cs) e did)
@@ -163,7 +170,13 @@ module _ (size most t : Float) (rs : List Row) (ks₀ cs₀ : List ℕ) (r : Ste
       march-halted why f = subst (λ (x : Raced). Emptied (marchFrom size most (roomsOf ks₀ cs₀) t rs) x ks' ds' es' cs') f emptied
 
       -- no cell waits any more, and the rows are sorted
-      pub march-done : (i j : ℕ) → o ≡ raced.Done i j → (ks'' : List ℕ) (ds'' : List Float) → length ks'' ≡ length ks' → ((rs : List MarchedRow) → Scattered rs ks' ds' → (ks'' ≡ padded 0 (length ks') (keysOf rs)) × (ds'' ≡ padded zero32 (length ks') (distancesOf rs))) → Finished (marchFrom size most (roomsOf ks₀ cs₀) t rs) (raced.Done i j) ks'' ds'' es' cs'
+      pub march-done :
+          (i j : ℕ)
+          → o ≡ raced.Done i j
+          → (ks'' : List ℕ) (ds'' : List Float)
+          → length ks'' ≡ length ks'
+          → ((rs : List MarchedRow) → Scattered rs ks' ds' → (ks'' ≡ padded 0 (length ks') (keysOf rs)) × (ds'' ≡ padded zero32 (length ks') (distancesOf rs)))
+          → Finished (marchFrom size most (roomsOf ks₀ cs₀) t rs) (raced.Done i j) ks'' ds'' es' cs'
       unfolding Emptied Finished
       march-done i j f ks'' ds'' l sorted =
           let x = subst (λ (x : Raced). Emptied (marchFrom size most (roomsOf ks₀ cs₀) t rs) x ks' ds' es' cs') f emptied in

@@ -2,32 +2,28 @@
 use mathlib.Core.Path.{_≡_, refl, sym, ap, subst, _∙_}
 use mathlib.Core.Bool.{Bool, true, false, cond}
 use mathlib.Core.List.{List, [], _∷_}
-use mathlib.Core.Option.{Option, some, none}
 use Prim.Native.Nat.{ℕ, zero, suc, _+_, _-_, _<_, _≤_}
 use native.Mathlib.Nat.{suc-ne-zero}
 use native.Mathlib.Numerals.{add-one}
 use native.Mathlib.Omega.{arith}
 use lib.ListN.{length, take, drop}
 use lib.Ieee.{Float}
-use Rattle.lists.specs.Padding.{padded}
 use Rattle.neighbors.specs.Neighbors.{neighbours}
-use Rattle.table.specs.Keys.{member, ascending}
+use Rattle.search.specs.Keys.{member, ascending}
 use Rattle.lists.specs.Lists.{insert}
 use Rattle.lists.proofs.Bools.{cases}
-use Rattle.table.specs.Table.{Row, row, rowsOf}
-use Rattle.table.proofs.Laying.{keysOf as tableKeys, columns}
-use Rattle.marching.specs.March.{MarchedRow, marchedRow, Cell, State, Field, Rooms, rooms, Going, on, refused, andThen, rowBefore, keysOf, isSeed, seeds, sow, sowAll, taking, takeUpTo, nothing}
+use Rattle.table.specs.Table.{Row, rowsOf}
+use Rattle.table.specs.Rows.{keysOf as tableKeys}
+use Rattle.table.proofs.Laying.{columns}
+use Rattle.marching.specs.March.{MarchedRow, marchedRow, Cell, State, Field, Rooms, rooms, Going, on, andThen, rowBefore, keysOf, isSeed, seeds, sow, sowAll, taking, takeUpTo, nothing}
 use Rattle.marching.specs.March as march
-use Rattle.marching.specs.Lattice.{lattice, marchFrom}
 use Rattle.marching.proofs.KeysOnce.{Once, ascending-once, both, both-none, both-other, insert-member}
 use Rattle.marching.proofs.Sound.{After, after-on, after-cond, after-weaken, Sound, SoundOn, sow-sound, sowAll-sound, nothing-sound, take-sound, takings-few, empty-stays}
-use Rattle.marching.proofs.Lattice.{seeds-ascend}
 use Rattle.fronts.specs.declared.Stop.{Stop}
 use Rattle.fronts.specs.declared.Step.{Step}
 use Rattle.fronts.specs.declared.Step.the-variants.{On, Not}
-use Rattle.fronts.specs.declared.Raced.{Raced}
 use Rattle.fronts.specs.declared.Raced.the-variants as raced
-use Rattle.fronts.specs.Fronts.{sowIf, Held, roomsOf, Stopped, Left, Lent, Sown, Emptied, DoesTake}
+use Rattle.fronts.specs.Fronts.{sowIf, Held, roomsOf, Stopped, Left, Lent, Sown, Emptied}
 use Rattle.fronts.proofs.Walking.{stopped-then, stopped-by}
 use Rattle.fronts.proofs.Stepping.{uncons}
 
@@ -46,7 +42,10 @@ pub record TakeAt (f : Field) (m : Rooms) (whole : Going) (k n : ℕ) (ks : List
   pub counts : left + k ≡ suc (m .rows)
   pub rest : whole ≡ takeUpTo f m left now
 
-pub take-start : (f : Field) (rs : List MarchedRow) (s : State) (n : ℕ) (ks : List ℕ) (ds : List Float) (w : ℕ) (es : List Float) (cs : List ℕ) → Sown rs s n ks ds w es cs → TakeAt f (roomsOf ks cs) (takeUpTo f (roomsOf ks cs) (suc (length ks)) s) 0 n ks ds w es cs
+pub take-start :
+    (f : Field) (rs : List MarchedRow) (s : State) (n : ℕ) (ks : List ℕ) (ds : List Float) (w : ℕ) (es : List Float) (cs : List ℕ)
+    → Sown rs s n ks ds w es cs
+    → TakeAt f (roomsOf ks cs) (takeUpTo f (roomsOf ks cs) (suc (length ks)) s) 0 n ks ds w es cs
 take-start f rs s n ks ds w es cs h =
     let m = roomsOf ks cs in
     record {
@@ -67,7 +66,11 @@ module _ (f : Field) (m : Rooms) (whole : Going) (k n : ℕ) (ks : List ℕ) (ds
   unfolding takeUpTo
   one-left = go (at .left) (at .counts) (at .rest)
     where
-      go : (i : ℕ) → i + k ≡ suc (m .rows) → whole ≡ takeUpTo f m i (at .now) → (j : ℕ) × ((j + suc k ≡ suc (m .rows)) × (whole ≡ andThen (march.take f m (at .now)) (takeUpTo f m j)))
+      go :
+          (i : ℕ)
+          → i + k ≡ suc (m .rows)
+          → whole ≡ takeUpTo f m i (at .now)
+          → (j : ℕ) × ((j + suc k ≡ suc (m .rows)) × (whole ≡ andThen (march.take f m (at .now)) (takeUpTo f m j)))
       go zero c r = absurd (let t = take-few in omega arith)
       go (suc i) c r = (i, (omega arith, r))
 
@@ -122,7 +125,9 @@ module _ (f : Field) (m : Rooms) (whole : Going) (k n : ℕ) (ks : List ℕ) (ds
 pub rows-ascend : (ks : List ℕ) (ds ws : List Float) (n : ℕ) → Lent ks ds ws n → ascending (tableKeys (rowsOf ks ds ws n)) ≡ true
 rows-ascend ks ds ws n h = rw (columns ks ds ws n (h .distances) (h .weights) .0) (h .ascends)
 
-sow-one : (t : Float) (near : ℕ → List ℕ) (m : Rooms) (r : Row) (rs : List Row) (s : State) → sowAll near m (seeds t (r ∷ rs)) s ≡ andThen (sowIf t near m r s) (sowAll near m (seeds t rs))
+sow-one :
+    (t : Float) (near : ℕ → List ℕ) (m : Rooms) (r : Row) (rs : List Row) (s : State)
+    → sowAll near m (seeds t (r ∷ rs)) s ≡ andThen (sowIf t near m r s) (sowAll near m (seeds t rs))
 unfolding seeds sowAll sowIf andThen
 sow-one t near m r rs s =
     cases (λ (b : Bool). sowAll near m (cond b (marchedRow (r .key) (r .distance) ∷ seeds t rs) (seeds t rs)) s ≡ andThen (cond b (sow near m (marchedRow (r .key) (r .distance)) s) (on s)) (sowAll near m (seeds t rs))) (isSeed t r)
@@ -130,11 +135,19 @@ sow-one t near m r rs s =
 
 -- a row that is a seed is sown, another is not
 module _ (t : Float) (near : ℕ → List ℕ) (m : Rooms) (x : Row) (s : State) where
-  pub sow-if-seed : isSeed t x ≡ true → (r : Step) (ks : List ℕ) (ds es : List Float) (cs : List ℕ) → Left (sow near m (marchedRow (x .key) (x .distance)) s) r ks ds es cs → Left (sowIf t near m x s) r ks ds es cs
+  pub sow-if-seed :
+      isSeed t x ≡ true
+      → (r : Step) (ks : List ℕ) (ds es : List Float) (cs : List ℕ)
+      → Left (sow near m (marchedRow (x .key) (x .distance)) s) r ks ds es cs
+      → Left (sowIf t near m x s) r ks ds es cs
   unfolding sowIf
   sow-if-seed e r ks ds es cs did = subst (λ (g : Going). Left g r ks ds es cs) (sym (rw e)) did
 
-  pub sow-if-not : isSeed t x ≡ false → (n : ℕ) (ks : List ℕ) (ds : List Float) (w : ℕ) (es : List Float) (cs : List ℕ) → Held s n ks ds w es cs → Left (sowIf t near m x s) (On n w) ks ds es cs
+  pub sow-if-not :
+      isSeed t x ≡ false
+      → (n : ℕ) (ks : List ℕ) (ds : List Float) (w : ℕ) (es : List Float) (cs : List ℕ)
+      → Held s n ks ds w es cs
+      → Left (sowIf t near m x s) (On n w) ks ds es cs
   unfolding sowIf Left
   sow-if-not e n ks ds w es cs h = (s, (rw e, h))
 
@@ -143,7 +156,12 @@ pub record Apart (m : Rooms) (ks : List ℕ) (s : State) : Type 0 where
   pub sound : Sound m 0 s
   pub apart : both ks (keysOf (s .stored)) ≡ 0
 
-sowIf-apart : (t : Float) (near : ℕ → List ℕ) (m : Rooms) (r : Row) (ks : List ℕ) (s : State) → Apart m ks s → member (r .key) (keysOf (s .stored)) ≡ false → member (r .key) ks ≡ false → After (Apart m ks) (sowIf t near m r s)
+sowIf-apart :
+    (t : Float) (near : ℕ → List ℕ) (m : Rooms) (r : Row) (ks : List ℕ) (s : State)
+    → Apart m ks s
+    → member (r .key) (keysOf (s .stored)) ≡ false
+    → member (r .key) ks ≡ false
+    → After (Apart m ks) (sowIf t near m r s)
 unfolding sowIf After
 sowIf-apart t near m r ks s h new o =
     let x = marchedRow (r .key) (r .distance) in
@@ -164,7 +182,11 @@ pub record SowAt (t : Float) (m : Rooms) (rs : List Row) (i n : ℕ) (ks : List 
   pub apart : Apart m (tableKeys (drop i rs)) now
   pub rest : sowAll neighbours m (seeds t rs) nothing ≡ sowAll neighbours m (seeds t (drop i rs)) now
 
-pub sow-start : (t : Float) (m : Rooms) (rs : List Row) (ks : List ℕ) (ds es : List Float) (cs : List ℕ) → ascending (tableKeys rs) ≡ true → Held nothing 0 ks ds 0 es cs → SowAt t m rs 0 0 ks ds 0 es cs
+pub sow-start :
+    (t : Float) (m : Rooms) (rs : List Row) (ks : List ℕ) (ds es : List Float) (cs : List ℕ)
+    → ascending (tableKeys rs) ≡ true
+    → Held nothing 0 ks ds 0 es cs
+    → SowAt t m rs 0 0 ks ds 0 es cs
 sow-start t m rs ks ds es cs a h =
     record { now = nothing; held = h; once = ascending-once (tableKeys rs) a; apart = record { sound = nothing-sound m; apart = both-none (tableKeys rs) }; rest = refl }
 

@@ -1,11 +1,11 @@
 -- Marks hold a state: what a mark says of a cell, and what one more mark or another one changes. Assumes nothing.
-use mathlib.Core.Path.{_≡_, refl, sym, ap, subst, _∙_}
-use mathlib.Core.Bool.{Bool, true, false, cond, _||_, or-true, true≢false, false≢true}
+use mathlib.Core.Path.{_≡_, refl, sym, ap, _∙_}
+use mathlib.Core.Bool.{Bool, true, false, cond, _||_, true≢false, false≢true}
 use mathlib.Core.List.{List, [], _∷_}
 use mathlib.Core.Option.{Option, none, some}
 use Prim.Native.Nat.{ℕ, _+_, _<_, _≤_}
 use native.Mathlib.Omega.{arith}
-use borrow.Author.Tests.{eqb-true, eqb-false, eq-eqb, ne-eqb, lt-ltb, le-ltb}
+use borrow.Author.Tests.{eqb-true, eqb-false, lt-ltb, le-ltb}
 use lib.Dec.{eqb, ltb}
 use lib.ListN.{length, getD, set, length-set}
 use lib.Ieee.{Float, nan, eq, ofBits}
@@ -16,16 +16,14 @@ use Rattle.lists.proofs.Bools.{cases, or-first, or-second}
 use Rattle.lists.proofs.Inserting.{insert-length}
 use Rattle.marks.specs.declared.Spot.the-variants.{At, Free, Full}
 use Rattle.marks.specs.Marks.{spotOf, look, Kept}
-use Rattle.marks.proofs.Keeping.{at-right, free-right, look-at, look-free, look-full, look-set, look-set-other, look-put, look-put-other, kept-put}
-use Rattle.refusals.specs.declared.Refusal.the-variants.{NoPlace, NoWaitingPlace}
-use Rattle.table.specs.Keys.{member, ascending}
-use Rattle.table.specs.declared.Found.{Found}
-use Rattle.table.specs.declared.Found.the-variants as found
-use Rattle.marching.specs.March.{MarchedRow, marchedRow, Cell, cell, State, state, Going, on, refused, rowBefore, cellBefore, keysOf, distancesOf, cellsOf, distanceOf, store, wait}
+use Rattle.marks.proofs.Keeping.{look-at, look-free, look-full, look-set, look-set-other, look-put, look-put-other, kept-put}
+use Rattle.search.specs.Keys.{member, find}
+use Rattle.search.specs.declared.Found.{Found}
+use Rattle.search.specs.declared.Found.the-variants as found
+use Rattle.marching.specs.March.{MarchedRow, marchedRow, Cell, cell, State, state, rowBefore, cellBefore, keysOf, distancesOf, cellsOf, distanceOf, store, wait}
 use Rattle.marching.proofs.KeysOnce.{insert-member, ascending-insert}
 use Rattle.marching.proofs.Looking.{stands, at, member-find, distance-find}
-use Rattle.table.specs.Keys.{find}
-use Rattle.fronts.specs.declared.Stop.the-variants.{NoRow, NoCell, GaveUp}
+use Rattle.fronts.specs.declared.Stop.the-variants.{NoRow, NoCell}
 use Rattle.fronts.specs.declared.Placed.the-variants.{Now, Not}
 use Rattle.fronts.specs.Fronts.{waitingMark, orWaits, markOf, said, Marked, Front, Stopped, LeftRows, LeftCells}
 
@@ -70,7 +68,10 @@ stored-here k rs e = go (distanceOf k rs) (sym (member-distance k rs) ∙ e)
     go (some d) e = (d, refl)
 
 -- one row more
-pub distance-insert : (n : ℕ) (r : MarchedRow) (rs : List MarchedRow) → member (r .key) (keysOf rs) ≡ false → distanceOf n (insert rowBefore r rs) ≡ cond (eqb (r .key) n) (some (r .distance)) (distanceOf n rs)
+pub distance-insert :
+    (n : ℕ) (r : MarchedRow) (rs : List MarchedRow)
+    → member (r .key) (keysOf rs) ≡ false
+    → distanceOf n (insert rowBefore r rs) ≡ cond (eqb (r .key) n) (some (r .distance)) (distanceOf n rs)
 unfolding distanceOf insert member
 distance-insert n r [] o = refl
 distance-insert n r (s ∷ rs) o =
@@ -135,7 +136,12 @@ said-none d o e f = e ∙ rw f
 
 module _ (rs : List MarchedRow) (ws : List ℕ) (ks : List ℕ) (ds : List Float) (h : Marked rs ws ks ds) (k : ℕ) (v : Float) (ks' : List ℕ) (ds' : List Float) (kept : Kept ks') (long : length ds' ≡ length ks') (new : look k ks' ds' ≡ some v) (others : (j : ℕ) → (j ≡ k → ⊥) → look j ks' ds' ≡ look j ks ds) where
   -- k is stored
-  marked-row : (vs : List ℕ) → ((j : ℕ) → (k ≡ j → ⊥) → member j ws ≡ member j vs) → member k (keysOf rs) ≡ false → isFinite v ≡ true → Marked (insert rowBefore (marchedRow k v) rs) vs ks' ds'
+  marked-row :
+      (vs : List ℕ)
+      → ((j : ℕ) → (k ≡ j → ⊥) → member j ws ≡ member j vs)
+      → member k (keysOf rs) ≡ false
+      → isFinite v ≡ true
+      → Marked (insert rowBefore (marchedRow k v) rs) vs ks' ds'
   unfolding orWaits
   marked-row vs same o f =
       let r = marchedRow k v in
@@ -168,7 +174,11 @@ module _ (rs : List MarchedRow) (ws : List ℕ) (ks : List ℕ) (ds : List Float
       }
 
 -- a stored cell's waiting changes no mark
-pub marked-skip : (k : ℕ) (rs : List MarchedRow) (ws : List ℕ) (ks : List ℕ) (ds : List Float) (d : Float) → distanceOf k rs ≡ some d → Marked rs (k ∷ ws) ks ds → Marked rs ws ks ds
+pub marked-skip :
+    (k : ℕ) (rs : List MarchedRow) (ws : List ℕ) (ks : List ℕ) (ds : List Float) (d : Float)
+    → distanceOf k rs ≡ some d
+    → Marked rs (k ∷ ws) ks ds
+    → Marked rs ws ks ds
 unfolding orWaits member
 marked-skip k rs ws ks ds d e h =
     record {
@@ -199,7 +209,13 @@ module _ (e : Float) (k : ℕ) (s : State) (w : ℕ) (ks : List ℕ) (ds es : Li
         rw (no-member k (s .stored) (bare .0), bare .1, le-ltb (length (s .waiting)) (length cs) (let c = h .heap .counted in omega arith))
 
     -- it gets a mark and a place
-    pub wait-placed : (k ≡ 0 → ⊥) → w < length cs → eq e e ≡ true → (es' : List Float) (cs' : List ℕ) → ((l : List Cell) → Heaped l w es cs → eq e e ≡ true → member k (cellsOf l) ≡ false → Heaped (insert cellBefore (cell e k) l) (w + 1) es' cs') → LeftCells (wait (length cs) e k s) s (Now (w + 1)) (set ks f k) (set ds f waitingMark) es' cs'
+    pub wait-placed :
+        (k ≡ 0 → ⊥)
+        → w < length cs
+        → eq e e ≡ true
+        → (es' : List Float) (cs' : List ℕ)
+        → ((l : List Cell) → Heaped l w es cs → eq e e ≡ true → member k (cellsOf l) ≡ false → Heaped (insert cellBefore (cell e k) l) (w + 1) es' cs')
+        → LeftCells (wait (length cs) e k s) s (Now (w + 1)) (set ks f k) (set ds f waitingMark) es' cs'
     unfolding wait LeftCells
     wait-placed n l o es' cs' pushed =
         let m = h .marked in (
@@ -230,7 +246,13 @@ module _ (k : ℕ) (v : Float) (s : State) (ws vs : List ℕ) (n : ℕ) (ks : Li
   store-full l = rw (le-ltb (length (s .stored)) (length ks) (omega arith))
 
   module _ (l : n < length ks) (f : isFinite v ≡ true) where
-    stored : (ks' : List ℕ) (ds' : List Float) → Kept ks' → length ds' ≡ length ks' → look k ks' ds' ≡ some v → ((j : ℕ) → (j ≡ k → ⊥) → look j ks' ds' ≡ look j ks ds) → LeftRows (store (length ks) (marchedRow k v) s) s vs (Now (n + 1)) ks' ds'
+    stored :
+        (ks' : List ℕ) (ds' : List Float)
+        → Kept ks'
+        → length ds' ≡ length ks'
+        → look k ks' ds' ≡ some v
+        → ((j : ℕ) → (j ≡ k → ⊥) → look j ks' ds' ≡ look j ks ds)
+        → LeftRows (store (length ks) (marchedRow k v) s) s vs (Now (n + 1)) ks' ds'
     unfolding store LeftRows
     stored ks' ds' kept long new others =
         let m = insert-length rowBefore (marchedRow k v) (s .stored) in (

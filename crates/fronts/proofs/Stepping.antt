@@ -1,25 +1,24 @@
 -- Steps on all four lists: a row is stored, then cells wait; and a cell is taken. Assumes nothing.
 use mathlib.Core.Path.{_≡_, refl, sym, ap, subst, _∙_}
-use mathlib.Core.Bool.{Bool, true, false, cond, _||_}
+use mathlib.Core.Bool.{true, false, cond}
 use mathlib.Core.List.{List, [], _∷_}
-use mathlib.Core.Option.{Option, some, none}
-use Prim.Native.Nat.{ℕ, zero, suc, _+_, _-_, _<_, _≤_}
+use mathlib.Core.Option.{some, none}
+use Prim.Native.Nat.{ℕ, suc, _-_, _<_}
 use native.Mathlib.Nat.{not-suc-le-zero}
-use native.Mathlib.Omega.{arith}
 use borrow.Author.Tests.{ne-eqb}
 use lib.ListN.{length, getD}
 use lib.Ieee.{Float, le}
 use Rattle.floats.specs.Floats.{isFinite}
 use Rattle.heap.specs.Heap.{Heaped}
 use Rattle.heap.proofs.Laws.{heaped-key}
-use Rattle.table.specs.Keys.{member}
-use Rattle.marching.specs.March.{MarchedRow, marchedRow, Cell, State, state, Field, Rooms, rooms, Going, on, refused, andThen, keysOf, cellsOf, distanceOf, store, waitAll, settled, onward, spread, settle, visit, taking, take}
+use Rattle.search.specs.Keys.{member}
+use Rattle.marching.specs.March.{MarchedRow, marchedRow, Cell, State, state, Field, Rooms, rooms, Going, andThen, keysOf, cellsOf, distanceOf, store, waitAll, settled, onward, spread, settle, visit, taking, take}
 use Rattle.fronts.specs.declared.Stop.{Stop}
 use Rattle.fronts.specs.declared.Placed.{Placed}
 use Rattle.fronts.specs.declared.Placed.the-variants.{Now, Not}
 use Rattle.fronts.specs.declared.Step.{Step}
 use Rattle.fronts.specs.declared.Step.the-variants as step
-use Rattle.fronts.specs.Fronts.{Marked, Front, Held, Taken, roomsOf, Stopped, LeftRows, LeftCells, Left, DoesWait}
+use Rattle.fronts.specs.Fronts.{Marked, Front, Held, Taken, roomsOf, LeftRows, LeftCells, Left, DoesWait}
 use Rattle.fronts.proofs.Marking.{marked-skip, is-member, no-member}
 use Rattle.fronts.proofs.Walking.{stopped-then, stopped-by}
 
@@ -41,7 +40,13 @@ module _ (g : Going) (go : State → Going) (s : State) (w : ℕ) (es : List Flo
           heap = subst (λ (l : List Cell). Heaped l w es cs) (sym a) h;
         }
 
-    waited : (o : Placed) → q ≡ o → (t : State) → t .waiting ≡ s .waiting → Marked (t .stored) (cellsOf (s .waiting)) ks ds → LeftCells (go t) t o ks' ds' es' cs'
+    waited :
+        (o : Placed)
+        → q ≡ o
+        → (t : State)
+        → t .waiting ≡ s .waiting
+        → Marked (t .stored) (cellsOf (s .waiting)) ks ds
+        → LeftCells (go t) t o ks' ds' es' cs'
     waited o a t b m = subst (λ (o : Placed). LeftCells (go t) t o ks' ds' es' cs') a (then-did t (front t b m))
 
     pub no-cell : (why : Stop) → q ≡ Not why → Left (andThen g go) (step.Not why) ks' ds' es' cs'
@@ -63,13 +68,22 @@ module _ (g : Going) (go : State → Going) (s : State) (w : ℕ) (es : List Flo
         )
 
 -- an equal estimate serves as well
-pub with-size : (m : ℕ) (e e' : Float) (ns : List ℕ) (ks : List ℕ) (ds : List Float) (w : ℕ) (es : List Float) (cs : List ℕ) (q : Placed) (ks' : List ℕ) (ds' es' : List Float) (cs' : List ℕ) → e ≡ e' → DoesWait (waitAll m e ns) ks ds w es cs q ks' ds' es' cs' → DoesWait (waitAll m e' ns) ks ds w es cs q ks' ds' es' cs'
+pub with-size :
+    (m : ℕ) (e e' : Float) (ns : List ℕ) (ks : List ℕ) (ds : List Float) (w : ℕ) (es : List Float) (cs : List ℕ) (q : Placed) (ks' : List ℕ)
+    (ds' es' : List Float) (cs' : List ℕ)
+    → e ≡ e'
+    → DoesWait (waitAll m e ns) ks ds w es cs q ks' ds' es' cs'
+    → DoesWait (waitAll m e' ns) ks ds w es cs q ks' ds' es' cs'
 with-size m e e' ns ks ds w es cs q ks' ds' es' cs' a did = subst (λ (x : Float). DoesWait (waitAll m x ns) ks ds w es cs q ks' ds' es' cs') a did
 
 -- ---- the neighbours of a settled cell
 
 module _ (f : Field) (r : MarchedRow) (ks : List ℕ) (ds : List Float) (w : ℕ) (es : List Float) (cs : List ℕ) (e : Float) (o : e ≡ onward f (r .distance)) where
-  pub spread-waits : le e (f .most) ≡ true → (q : Placed) (ks' : List ℕ) (ds' es' : List Float) (cs' : List ℕ) → DoesWait (waitAll (length cs) e (f .near (r .key))) ks ds w es cs q ks' ds' es' cs' → DoesWait (spread f (length cs) r) ks ds w es cs q ks' ds' es' cs'
+  pub spread-waits :
+      le e (f .most) ≡ true
+      → (q : Placed) (ks' : List ℕ) (ds' es' : List Float) (cs' : List ℕ)
+      → DoesWait (waitAll (length cs) e (f .near (r .key))) ks ds w es cs q ks' ds' es' cs'
+      → DoesWait (spread f (length cs) r) ks ds w es cs q ks' ds' es' cs'
   unfolding spread
   spread-waits a q ks' ds' es' cs' did s h = subst (λ (g : Going). LeftCells g s q ks' ds' es' cs') (sym (rw (← o, a))) (did s h)
 
@@ -79,7 +93,12 @@ module _ (f : Field) (r : MarchedRow) (ks : List ℕ) (ds : List Float) (w : ℕ
 
 -- ---- a cell gets its distance
 
-pub settle-by : (f : Field) (m : Rooms) (k : ℕ) (s : State) (d : Float) → d ≡ settled f (s .stored) k → (r : Step) (ks : List ℕ) (ds : List Float) (es : List Float) (cs : List ℕ) → Left (andThen (store (m .rows) (marchedRow k d) s) (spread f (m .cells) (marchedRow k d))) r ks ds es cs → Left (settle f m k s) r ks ds es cs
+pub settle-by :
+    (f : Field) (m : Rooms) (k : ℕ) (s : State) (d : Float)
+    → d ≡ settled f (s .stored) k
+    → (r : Step) (ks : List ℕ) (ds : List Float) (es : List Float) (cs : List ℕ)
+    → Left (andThen (store (m .rows) (marchedRow k d) s) (spread f (m .cells) (marchedRow k d))) r ks ds es cs
+    → Left (settle f m k s) r ks ds es cs
 unfolding settle
 settle-by f m k s d e r ks ds es cs did =
     subst (λ (d : Float). Left (andThen (store (m .rows) (marchedRow k d) s) (spread f (m .cells) (marchedRow k d))) r ks ds es cs) e did
@@ -137,7 +156,11 @@ module _ (f : Field) (s : State) (n : ℕ) (ks : List ℕ) (ds : List Float) (w 
         ),
       )
 
-  pub take-settles : isFinite d ≡ false → (r : Step) (ks' : List ℕ) (ds' es'' : List Float) (cs'' : List ℕ) → ((t : State) → Taken (getD cs 0 0) t n ks ds (w - 1) es' cs' → Left (settle f (roomsOf ks cs') (getD cs 0 0) t) r ks' ds' es'' cs'') → Left (take f (roomsOf ks cs) s) r ks' ds' es'' cs''
+  pub take-settles :
+      isFinite d ≡ false
+      → (r : Step) (ks' : List ℕ) (ds' es'' : List Float) (cs'' : List ℕ)
+      → ((t : State) → Taken (getD cs 0 0) t n ks ds (w - 1) es' cs' → Left (settle f (roomsOf ks cs') (getD cs 0 0) t) r ks' ds' es'' cs'')
+      → Left (take f (roomsOf ks cs) s) r ks' ds' es'' cs''
   unfolding visit
   take-settles a r ks' ds' es'' cs'' did =
       let o : member (getD cs 0 0) (keysOf (s .stored)) ≡ false = no-member (getD cs 0 0) (s .stored) (here ∙ rw a) in

@@ -1,5 +1,5 @@
 -- What the functions of the fast march promise each other. The marched lists hold a mark for each stored and each waiting cell, in no order; the waiting lists are a heap.
-use Prim.Native.Nat.{ℕ, suc, _≤_}
+use Prim.Native.Nat.{ℕ, _≤_}
 use mathlib.Core.Path.{_≡_}
 use mathlib.Core.Bool.{Bool, true, false, cond}
 use mathlib.Core.List.{List, [], _∷_}
@@ -12,7 +12,7 @@ use Rattle.lists.specs.Padding.{padded}
 use Rattle.marks.specs.Marks.{look, Kept}
 use Rattle.neighbors.specs.Neighbors.{neighbours}
 use Rattle.refusals.specs.declared.Refusal.the-variants.{NoPlace, NoWaitingPlace}
-use Rattle.table.specs.Keys.{member, ascending}
+use Rattle.search.specs.Keys.{member, ascending}
 use Rattle.table.specs.Table.{Row}
 use Rattle.marching.specs.March.{MarchedRow, marchedRow, State, Going, on, refused, Rooms, rooms, keysOf, distancesOf, cellsOf, distanceOf, isSeed, sow, sowAll, nothing}
 use Rattle.fronts.specs.declared.Stop.{Stop}

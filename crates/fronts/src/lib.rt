@@ -11,7 +11,7 @@ ghost use mathlib.Core.List.{List};
 ghost use Prim.Native.Nat.{ℕ, suc, _≤_, _<_};
 ghost use lib.ListN.{length};
 ghost use Rattle.neighbors.specs.Neighbors.{neighbours};
-ghost use Rattle.table.specs.Keys.{member};
+ghost use Rattle.search.specs.Keys.{member};
 ghost use Rattle.table.specs.Table.{row, rowsOf};
 ghost use Rattle.marching.specs.March.{MarchedRow, marchedRow, State, keysOf, store, wait, waitAll, candidate, distanceOf, heard, nothing, isSeed, seeds, settled, sow, sowAll, spread, settle, take, takeUpTo};
 ghost use Rattle.marching.specs.Lattice.{lengthAt, lattice, marchFrom};

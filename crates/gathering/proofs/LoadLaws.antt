@@ -3,7 +3,7 @@
 use mathlib.Core.Path.{_≡_, refl, sym, ap, _∙_}
 use mathlib.Core.Bool.{Bool, true, false}
 use mathlib.Core.List.{List, [], _∷_}
-use Prim.Native.Nat.{ℕ, zero, suc, _+_, _<_, _≤_, zero-le, suc-le-suc}
+use Prim.Native.Nat.{ℕ, zero, suc, _+_, _<_, zero-le, suc-le-suc}
 use native.Mathlib.Omega.{arith}
 use lib.Dec.{eqb}
 use lib.ListN.{length, getD, take, set}
@@ -12,13 +12,13 @@ use Rattle.lists.proofs.Bools.{cases}
 use lib.Seq.{set-getD, getD-take, length-take-le, getD-set-same, getD-set-other}
 use lib.Ieee.{Float, nan, le, lt, eq, odd, ofBits, ofFields}
 use Rattle.floats.specs.Floats.{f32, zero32, between}
-use Rattle.table.specs.declared.Found.{Found}
-use Rattle.table.specs.declared.Found.the-variants.{At, Absent}
-use Rattle.table.specs.Keys.{ascending, find}
+use Rattle.search.specs.declared.Found.{Found}
+use Rattle.search.specs.declared.Found.the-variants.{At, Absent}
+use Rattle.search.specs.Keys.{ascending, find}
 use Rattle.table.specs.Table.{Row, row, Table, table, beside, rowsOf, rows, rowsOk, lengthsOk, put}
-use Rattle.table.proofs.KeyLaws.{found}
+use Rattle.search.proofs.KeyLaws.{found}
 use Rattle.table.proofs.RowLaws.{lengths-known}
-use Rattle.table.proofs.Laying.{columns, weightsOf}
+use Rattle.table.proofs.Laying.{columns}
 use Rattle.table.proofs.Putting.{rows-length, relaid-set}
 use Rattle.table.proofs.Keeping.{at-ok, relaid-rows}
 use Rattle.gathering.specs.declared.Values.{Values}
@@ -41,7 +41,12 @@ module _ (most : Float) (ks : List ℕ) (ds ws : List Float) (n : ℕ) (known : 
       ∙ ap (λ (u : Table). rows u) (relaid-set ks ds ws n known a k i (getD ds i nan) (getD ws i nan) e)
       ∙ rw (set-getD ds i nan, set-getD ws i nan)
 
-  stands-there : (k : ℕ) (d w : Float) (f : Found) → find k (take n ks) ≡ f → (record { distance = d; weight = w }) ≡ valuesAt f ds ws → standing most w ≡ true → put (row k d w) (rows t) ≡ rows t
+  stands-there :
+      (k : ℕ) (d w : Float) (f : Found)
+      → find k (take n ks) ≡ f
+      → (record { distance = d; weight = w }) ≡ valuesAt f ds ws
+      → standing most w ≡ true
+      → put (row k d w) (rows t) ≡ rows t
   unfolding valuesAt
   stands-there k d w (At i) q e s =
       let p : d ≡ getD ds i nan = ap (λ (v : Values). v .distance) e in
@@ -68,7 +73,13 @@ module _ (most : Float) (ks : List ℕ) (ds ws : List Float) (n : ℕ) (known : 
       (λ s. rest)
 
   -- a row that waits is not in the table
-  waits-there : rowsOk most (rows t) ≡ true → (k : ℕ) (d w : Float) (f : Found) → find k (take n ks) ≡ f → (record { distance = d; weight = w }) ≡ valuesAt f ds ws → standing most w ≡ false → f ≡ Absent
+  waits-there :
+      rowsOk most (rows t) ≡ true
+      → (k : ℕ) (d w : Float) (f : Found)
+      → find k (take n ks) ≡ f
+      → (record { distance = d; weight = w }) ≡ valuesAt f ds ws
+      → standing most w ≡ false
+      → f ≡ Absent
   unfolding valuesAt
   waits-there ok k d w Absent q e s = refl
   waits-there ok k d w (At i) q e s =
@@ -80,12 +91,25 @@ module _ (most : Float) (ks : List ℕ) (ds ws : List Float) (n : ℕ) (known : 
       let z : _≡_ {A = ℕ} 0 1 = cc in
       absurd (omega arith)
 
-  pub waits-loaded : rowsOk most (rows t) ≡ true → (ks' : List ℕ) (ds' ws' : List Float) (m : ℕ) → Loaded t ks' ds' ws' m → (q : ℕ) → q < m → standing most (getD ws' q nan) ≡ false → find (getD ks' q 0) (take n ks) ≡ Absent
+  pub waits-loaded :
+      rowsOk most (rows t) ≡ true
+      → (ks' : List ℕ) (ds' ws' : List Float) (m : ℕ)
+      → Loaded t ks' ds' ws' m
+      → (q : ℕ)
+      → q < m
+      → standing most (getD ws' q nan) ≡ false
+      → find (getD ks' q 0) (take n ks) ≡ Absent
   waits-loaded ok ks' ds' ws' m h q l s =
       waits-there ok (getD ks' q 0) (getD ds' q nan) (getD ws' q nan) (find (getD ks' q 0) (take n ks)) refl (h q l) s
 
 -- one own row more is loaded
-pub loaded-more : (t : Table) (ks : List ℕ) (ds ws : List Float) (i : ℕ) (v : Values) → i < length ds → i < length ws → v ≡ valuesAt (find (getD ks i 0) (take (t .count) (t .keys))) (t .distances) (t .weights) → Loaded t ks ds ws i → Loaded t ks (set ds i (v .distance)) (set ws i (v .weight)) (i + 1)
+pub loaded-more :
+    (t : Table) (ks : List ℕ) (ds ws : List Float) (i : ℕ) (v : Values)
+    → i < length ds
+    → i < length ws
+    → v ≡ valuesAt (find (getD ks i 0) (take (t .count) (t .keys))) (t .distances) (t .weights)
+    → Loaded t ks ds ws i
+    → Loaded t ks (set ds i (v .distance)) (set ws i (v .weight)) (i + 1)
 loaded-more t ks ds ws i v h g e l q m =
     cases (λ (b : Bool). (record { distance = getD (set ds i (v .distance)) q nan; weight = getD (set ws i (v .weight)) q nan }) ≡ valuesAt (find (getD ks q 0) (take (t .count) (t .keys))) (t .distances) (t .weights)) (eqb q i)
     (λ c. rw (eqb-true q i c, getD-set-same ds i (v .distance) nan h, getD-set-same ws i (v .weight) nan g) e)

@@ -3,13 +3,13 @@
 use mathlib.Core.Path.{_≡_, sym, _∙_}
 use mathlib.Core.Bool.{true}
 use mathlib.Core.List.{List}
-use Prim.Native.Nat.{ℕ, _+_, _-_, _<_, _≤_}
+use Prim.Native.Nat.{ℕ, _-_, _<_, _≤_}
 use native.Mathlib.Omega.{arith}
 use lib.ListN.{length, getD, take}
 use lib.Seq.{length-take-le, getD-take}
-use Rattle.table.specs.declared.Found.the-variants.{At, Absent}
-use Rattle.table.specs.Keys.{ascending, find, placeOf}
-use Rattle.table.proofs.KeyLaws.{lt-place, place-le, place-length, halved-place, findBy-find, found-here, found-another, found-past-count}
+use Rattle.search.specs.declared.Found.the-variants.{At, Absent}
+use Rattle.search.specs.Keys.{ascending, find, placeOf}
+use Rattle.search.proofs.KeyLaws.{lt-place, place-le, place-length, halved-place, findBy-find, found-here, found-another, found-past-count}
 
 module _ (k : ℕ) (ks : List ℕ) (n : ℕ) (g : n ≤ length ks) (a : ascending (take n ks) ≡ true) where
   -- a key below k at p: the place is past it

@@ -13,11 +13,12 @@ use lib.ListN.{length, getD, set, length-map}
 use lib.Ieee.{Float, nan}
 use Rattle.lists.proofs.Bools.{cases}
 use Rattle.lists.specs.Lists.{All}
-use Rattle.table.specs.declared.Found.the-variants.{At, Absent}
-use Rattle.table.specs.Keys.{ascending, find, next}
+use Rattle.search.specs.declared.Found.the-variants.{At, Absent}
+use Rattle.search.specs.Keys.{ascending, find, next}
 use Rattle.table.specs.Table.{Row, put}
-use Rattle.table.proofs.KeyLaws.{first-below, tail-ascends, absent-differs}
-use Rattle.table.proofs.Laying.{keysOf, distancesOf, weightsOf}
+use Rattle.search.proofs.KeyLaws.{first-below, tail-ascends, absent-differs}
+use Rattle.table.specs.Rows.{keysOf}
+use Rattle.table.proofs.Laying.{distancesOf, weightsOf}
 use Rattle.gathering.specs.Gathering.{standing, puts}
 
 pub three : (a b : ℕ) → (a < b) ⊎ ((a ≡ b) ⊎ (b < a))
@@ -64,7 +65,11 @@ pub put-swaps : (r s : Row) (l : List Row) → s .key < r .key → put r (put s 
 put-swaps r s [] h = ap (put r) (put-none s) ∙ past r s [] h ∙ ap {B = List Row} (λ t. s ∷ t) (put-none r) ∙ sym (front s r [] h) ∙ ap (put s) (sym (put-none r))
 put-swaps r s (x ∷ l) h = go (put-swaps r s l h) (three (x .key) (s .key)) (three (x .key) (r .key))
   where
-    go : put r (put s l) ≡ put s (put r l) → (x .key < s .key) ⊎ ((x .key ≡ s .key) ⊎ (s .key < x .key)) → (x .key < r .key) ⊎ ((x .key ≡ r .key) ⊎ (r .key < x .key)) → put r (put s (x ∷ l)) ≡ put s (put r (x ∷ l))
+    go :
+        put r (put s l) ≡ put s (put r l)
+        → (x .key < s .key) ⊎ ((x .key ≡ s .key) ⊎ (s .key < x .key))
+        → (x .key < r .key) ⊎ ((x .key ≡ r .key) ⊎ (r .key < x .key))
+        → put r (put s (x ∷ l)) ≡ put s (put r (x ∷ l))
     go ih (inl a) b = rw (past s x l a, past r x (put s l) (omega arith), past r x l (omega arith), past s x (put r l) a, ih)
     go ih (inr (inl a)) b = rw (here s x l a, past r s l h, past r x l (omega arith), here s x (put r l) a)
     go ih (inr (inr a)) (inl b) = rw (front s x l a, past r s (x ∷ l) h, past r x l b, front s x (put r l) a)
@@ -114,7 +119,11 @@ absent-put k r (x ∷ l) h a =
     let d = absent-differs k (x .key) (keysOf l) a in
     go (absent-put k r l h (d .1)) d (three (x .key) (r .key))
   where
-    go : find k (keysOf (put r l)) ≡ Absent → (x .key ≡ k → ⊥) × (find k (keysOf l) ≡ Absent) → (x .key < r .key) ⊎ ((x .key ≡ r .key) ⊎ (r .key < x .key)) → find k (keysOf (put r (x ∷ l))) ≡ Absent
+    go :
+        find k (keysOf (put r l)) ≡ Absent
+        → (x .key ≡ k → ⊥) × (find k (keysOf l) ≡ Absent)
+        → (x .key < r .key) ⊎ ((x .key ≡ r .key) ⊎ (r .key < x .key))
+        → find k (keysOf (put r (x ∷ l))) ≡ Absent
     go ih d (inl q) = rw (past r x l q) (absent-cons k x (put r l) (d .0) ih)
     go ih d (inr (inl q)) = rw (here r x l q) (absent-cons k r l h (d .1))
     go ih d (inr (inr q)) = rw (front r x l q) (absent-cons k r (x ∷ l) h a)
@@ -127,7 +136,11 @@ longer r (x ∷ l) a =
     let d = absent-differs (r .key) (x .key) (keysOf l) a in
     go (longer r l (d .1)) (d .0) (three (x .key) (r .key))
   where
-    go : length (put r l) ≡ suc (length l) → (x .key ≡ r .key → ⊥) → (x .key < r .key) ⊎ ((x .key ≡ r .key) ⊎ (r .key < x .key)) → length (put r (x ∷ l)) ≡ suc (suc (length l))
+    go :
+        length (put r l) ≡ suc (length l)
+        → (x .key ≡ r .key → ⊥)
+        → (x .key < r .key) ⊎ ((x .key ≡ r .key) ⊎ (r .key < x .key))
+        → length (put r (x ∷ l)) ≡ suc (suc (length l))
     go ih d (inl q) = rw (past r x l q) (ap suc ih)
     go ih d (inr (inl q)) = absurd (d q)
     go ih d (inr (inr q)) = rw (front r x l q)
@@ -153,7 +166,10 @@ unfolding put
 put-past r x [] h = front r x [] h
 put-past r x (y ∷ l) h = go (put-past r x l h) (three (y .key) (r .key))
   where
-    go : put r (l ++ x ∷ []) ≡ put r l ++ x ∷ [] → (y .key < r .key) ⊎ ((y .key ≡ r .key) ⊎ (r .key < y .key)) → put r (y ∷ (l ++ x ∷ [])) ≡ put r (y ∷ l) ++ x ∷ []
+    go :
+        put r (l ++ x ∷ []) ≡ put r l ++ x ∷ []
+        → (y .key < r .key) ⊎ ((y .key ≡ r .key) ⊎ (r .key < y .key))
+        → put r (y ∷ (l ++ x ∷ [])) ≡ put r (y ∷ l) ++ x ∷ []
     go ih (inl q) = rw (past r y (l ++ x ∷ []) q, past r y l q, ih)
     go ih (inr (inl q)) = rw (here r y (l ++ x ∷ []) q, here r y l q)
     go ih (inr (inr q)) = rw (front r y (l ++ x ∷ []) q, front r y l q)
@@ -180,12 +196,22 @@ module _ (most : Float) where
   puts-waits r own rs e = rw e
 
   -- by whether the first stands
-  pub by-first : (P : List Row → Type 0) (r : Row) (own rs : List Row) → (standing most (r .weight) ≡ true → P (put r (puts most own rs))) → (standing most (r .weight) ≡ false → P (puts most own rs)) → P (puts most (r ∷ own) rs)
+  pub by-first :
+      (P : List Row → Type 0) (r : Row) (own rs : List Row)
+      → (standing most (r .weight) ≡ true → P (put r (puts most own rs)))
+      → (standing most (r .weight) ≡ false → P (puts most own rs))
+      → P (puts most (r ∷ own) rs)
   unfolding puts
   by-first P r own rs f g = cases (λ (b : Bool). P (cond b (put r (puts most own rs)) (puts most own rs))) (standing most (r .weight)) f g
 
   -- a standing row in the place of one with its key is put last
-  pub puts-set : (own rs : List Row) (p : ℕ) (r : Row) → ascending (keysOf own) ≡ true → p < length own → getD (keysOf own) p 0 ≡ r .key → standing most (r .weight) ≡ true → puts most (set own p r) rs ≡ put r (puts most own rs)
+  pub puts-set :
+      (own rs : List Row) (p : ℕ) (r : Row)
+      → ascending (keysOf own) ≡ true
+      → p < length own
+      → getD (keysOf own) p 0 ≡ r .key
+      → standing most (r .weight) ≡ true
+      → puts most (set own p r) rs ≡ put r (puts most own rs)
   unfolding ascending
   puts-set [] rs p r a h e s = absurd (not-suc-le-zero h)
   puts-set (x ∷ own) rs zero r a h e s =
@@ -203,7 +229,11 @@ module _ (most : Float) where
           (λ w. puts-waits x (set own p r) rs w ∙ ih)
 
   -- a key that no standing row has stays absent
-  pub puts-absent : (own rs : List Row) (k : ℕ) → ((q : ℕ) → q < length own → standing most (getD (weightsOf own) q nan) ≡ true → getD (keysOf own) q 0 ≡ k → ⊥) → find k (keysOf rs) ≡ Absent → find k (keysOf (puts most own rs)) ≡ Absent
+  pub puts-absent :
+      (own rs : List Row) (k : ℕ)
+      → ((q : ℕ) → q < length own → standing most (getD (weightsOf own) q nan) ≡ true → getD (keysOf own) q 0 ≡ k → ⊥)
+      → find k (keysOf rs) ≡ Absent
+      → find k (keysOf (puts most own rs)) ≡ Absent
   unfolding puts
   puts-absent [] rs k h a = a
   puts-absent (x ∷ own) rs k h a =
@@ -229,7 +259,12 @@ module _ (most : Float) where
       (λ w. puts-waits r own (rs ++ x ∷ []) w ∙ puts-past own rs x (u .1))
 
   -- the last own row, which stands, goes to the end
-  pub puts-last : (own rs qs : List Row) (r : Row) → Under (r .key) own → standing most (r .weight) ≡ true → put r rs ≡ qs ++ r ∷ [] → puts most (own ++ r ∷ []) rs ≡ puts most own qs ++ r ∷ []
+  pub puts-last :
+      (own rs qs : List Row) (r : Row)
+      → Under (r .key) own
+      → standing most (r .weight) ≡ true
+      → put r rs ≡ qs ++ r ∷ []
+      → puts most (own ++ r ∷ []) rs ≡ puts most own qs ++ r ∷ []
   unfolding puts All
   puts-last [] rs qs r u s e = puts-stands r [] rs s ∙ e
   puts-last (x ∷ own) rs qs r u s e =

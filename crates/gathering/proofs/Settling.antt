@@ -8,15 +8,15 @@ use native.Mathlib.Nat.{lt-trans}
 use native.Mathlib.Omega.{arith}
 use borrow.Author.Tests.{ltb-true}
 use lib.Dec.{ltb}
-use lib.ListN.{length, getD, take, drop, set, length-append, length-set, take-append-drop}
+use lib.ListN.{length, take, drop, set, length-append, length-set, take-append-drop}
 use lib.Seq.{take-all, length-take-le, take-take, drop-cons, getD-set-same, take-set-le, drop-set-lt}
 use lib.Ieee.{Float}
 use Rattle.lists.proofs.Bools.{and-first, and-second}
 use Rattle.lists.specs.Lists.{All}
-use Rattle.table.specs.Keys.{ascending, risesFrom}
+use Rattle.search.specs.Keys.{ascending, risesFrom}
 use Rattle.table.specs.Table.{Row, put}
-use Rattle.table.proofs.KeyLaws.{tail-ascends}
-use Rattle.table.proofs.Laying.{keysOf}
+use Rattle.search.proofs.KeyLaws.{tail-ascends}
+use Rattle.table.specs.Rows.{keysOf}
 use Rattle.gathering.specs.Gathering.{standing, puts}
 use Rattle.gathering.proofs.PutLaws.{Under, put-end, put-last, puts-past, puts-last, puts-drops, puts-no-shorter}
 
@@ -76,7 +76,12 @@ pub record Settling (most : Float) (own before : List Row) (n total r j w : ℕ)
   pub whole : rest most own before j r ++ drop w held ≡ puts most own (take n before) ++ drop total before
 
 module _ (most : Float) (own before : List Row) (n total : ℕ) (fits : n ≤ length before) where
-  pub begins : (j : ℕ) → j ≡ length own → total ≤ length before → total ≡ length (puts most own (take n before)) → Settling most own before n total n j total before
+  pub begins :
+      (j : ℕ)
+      → j ≡ length own
+      → total ≤ length before
+      → total ≡ length (puts most own (take n before))
+      → Settling most own before n total n j total before
   begins j q l e =
       record {
         inside = omega arith;
@@ -94,7 +99,14 @@ module _ (most : Float) (own before : List Row) (n total : ℕ) (fits : n ≤ le
     reaches = omega (arith, s .place, puts-no-shorter most (take j own) (take r before), length-take-le r before (omega (arith, s .inside)))
 
     -- x is written at the last place that is not written yet
-    pub writes : (r' j' w' : ℕ) (x : Row) → w ≡ suc w' → r' ≤ r → j' ≤ j → w' < length held → rest most own before j r ≡ rest most own before j' r' ++ x ∷ [] → Settling most own before n total r' j' w' (set held w' x)
+    pub writes :
+        (r' j' w' : ℕ) (x : Row)
+        → w ≡ suc w'
+        → r' ≤ r
+        → j' ≤ j
+        → w' < length held
+        → rest most own before j r ≡ rest most own before j' r' ++ x ∷ []
+        → Settling most own before n total r' j' w' (set held w' x)
     writes r' j' w' x e h g l q =
         let p : w' ≡ length (rest most own before j' r') = omega (arith, s .place, ap length q, length-append (rest most own before j' r') (x ∷ [])) in
         let m : r' ≤ w' = omega (arith, p, puts-no-shorter most (take j' own) (take r' before), length-take-le r' before (omega (arith, s .inside))) in
@@ -145,7 +157,11 @@ module _ (most : Float) (own before : List Row) (n total : ℕ) (fits : n ≤ le
     under-own : Under (y .key) (take j' own)
     under-own = under-last (take j' own) y (rw split at (ascending-take own (suc j') up))
 
-    pub moves : (r' : ℕ) (x : Row) → take (suc r') before ≡ take r' before ++ x ∷ [] → y .key < x .key → rest most own before (suc j') (suc r') ≡ rest most own before (suc j') r' ++ x ∷ []
+    pub moves :
+        (r' : ℕ) (x : Row)
+        → take (suc r') before ≡ take r' before ++ x ∷ []
+        → y .key < x .key
+        → rest most own before (suc j') (suc r') ≡ rest most own before (suc j') r' ++ x ∷ []
     moves r' x e h =
         ap (λ (t : List Row). puts most (take (suc j') own) t) e
         ∙ puts-past most (take (suc j') own) (take r' before) x (rw split (under-snoc (x .key) (take j' own) y (under-more (y .key) (x .key) (take j' own) (omega arith) under-own) h))
@@ -153,18 +169,34 @@ module _ (most : Float) (own before : List Row) (n total : ℕ) (fits : n ≤ le
     pub waits : (r : ℕ) → standing most (y .weight) ≡ false → rest most own before (suc j') r ≡ rest most own before j' r
     waits r h = ap (λ (t : List Row). puts most t (take r before)) split ∙ puts-drops most (take j' own) (take r before) y h
 
-    put-at : (r r' : ℕ) → standing most (y .weight) ≡ true → put y (take r before) ≡ take r' before ++ y ∷ [] → rest most own before (suc j') r ≡ rest most own before j' r' ++ y ∷ []
+    put-at :
+        (r r' : ℕ)
+        → standing most (y .weight) ≡ true
+        → put y (take r before) ≡ take r' before ++ y ∷ []
+        → rest most own before (suc j') r ≡ rest most own before j' r' ++ y ∷ []
     put-at r r' h e = ap (λ (t : List Row). puts most t (take r before)) split ∙ puts-last most (take j' own) (take r before) (take r' before) y under-own h e
 
     below-last : (r' : ℕ) (x : Row) → suc r' ≤ n → take (suc r') before ≡ take r' before ++ x ∷ [] → Under (x .key) (take r' before)
     below-last r' x h e =
         under-last (take r' before) x (rw (take-take (suc r') n before h, e) at (ascending-take (take n before) (suc r') rise))
 
-    pub replaces : (r' : ℕ) (x : Row) → suc r' ≤ n → take (suc r') before ≡ take r' before ++ x ∷ [] → x .key ≡ y .key → standing most (y .weight) ≡ true → rest most own before (suc j') (suc r') ≡ rest most own before j' r' ++ y ∷ []
+    pub replaces :
+        (r' : ℕ) (x : Row)
+        → suc r' ≤ n
+        → take (suc r') before ≡ take r' before ++ x ∷ []
+        → x .key ≡ y .key
+        → standing most (y .weight) ≡ true
+        → rest most own before (suc j') (suc r') ≡ rest most own before j' r' ++ y ∷ []
     replaces r' x h e q s =
         put-at (suc r') r' s (ap (put y) e ∙ put-last y x (take r' before) q (rw q at (below-last r' x h e)))
 
-    pub adds : (r' : ℕ) (x : Row) → suc r' ≤ n → take (suc r') before ≡ take r' before ++ x ∷ [] → x .key < y .key → standing most (y .weight) ≡ true → rest most own before (suc j') (suc r') ≡ rest most own before j' (suc r') ++ y ∷ []
+    pub adds :
+        (r' : ℕ) (x : Row)
+        → suc r' ≤ n
+        → take (suc r') before ≡ take r' before ++ x ∷ []
+        → x .key < y .key
+        → standing most (y .weight) ≡ true
+        → rest most own before (suc j') (suc r') ≡ rest most own before j' (suc r') ++ y ∷ []
     adds r' x h e q s =
         put-at (suc r') (suc r') s (put-end y (take (suc r') before) (rw e (under-snoc (y .key) (take r' before) x (under-more (x .key) (y .key) (take r' before) (omega arith) (below-last r' x h e)) q)))
 

@@ -4,24 +4,25 @@ use mathlib.Core.Path.{_≡_, refl, sym, ap, subst, _∙_}
 use mathlib.Core.Logic.{_⊎_, inl, inr}
 use mathlib.Core.Bool.{Bool, true, false, cond}
 use mathlib.Core.List.{List, [], _∷_, _++_}
-use Prim.Native.Nat.{ℕ, zero, suc, _+_, _-_, _<_, _≤_}
+use Prim.Native.Nat.{ℕ, suc, _+_, _-_, _<_, _≤_}
 use native.Mathlib.Omega.{arith}
 use borrow.Author.Tests.{ltb-true, ltb-false, eqb-true, eqb-false}
 use lib.Dec.{ltb, eqb}
 use lib.ListN.{length, getD, take, drop, set, length-append}
-use lib.Seq.{take-take, length-take-le}
+use lib.Seq.{take-take}
 use lib.Ieee.{Float, nan}
 use Rattle.lists.proofs.Bools.{cases}
-use Rattle.table.specs.Keys.{ascending}
+use Rattle.search.specs.Keys.{ascending}
 use Rattle.table.specs.Table.{Row, row, table, beside, rowsOf, lengthsOk, relaid}
-use Rattle.table.proofs.RowLaws.{lengths-known}
-use Rattle.table.proofs.Laying.{keysOf, columns}
+use Rattle.table.proofs.RowLaws.{lengths-known, beside-length}
+use Rattle.table.specs.Rows.{keysOf}
+use Rattle.table.proofs.Laying.{columns}
 use Rattle.table.proofs.Putting.{rows-length}
 use Rattle.gathering.specs.declared.Turn.{Turn}
 use Rattle.gathering.specs.declared.Turn.the-variants.{Move, Skip, Put}
 use Rattle.gathering.specs.Gathering.{standing, puts}
 use Rattle.gathering.specs.Steps.{putOr, turnOf}
-use Rattle.gathering.proofs.Columns.{beside-length, beside-set, take-row, take-row-of, tables-laid}
+use Rattle.gathering.proofs.Columns.{beside-set, take-row, take-row-of, tables-laid}
 use Rattle.gathering.proofs.Settling.{rest, Settling, begins, reaches, writes, skips, ended, moves, waits, replaces, adds, adds-first}
 
 -- ---- what a turn says
@@ -107,7 +108,10 @@ module _ (most : Float) (ks₀ : List ℕ) (ds₀ ws₀ : List Float) (n : ℕ) 
         (reaches most mine before n total inside rows left place (beside ks ds ws) s, rw held-size at (s .room), omega (arith, s .left, own-size), s .inside)
 
     -- no own row is left: the table is relaid
-    pub laid-out : left ≤ 0 → total ≡ length (puts most mine (take n before)) → table ks ds ws total ≡ relaid (table ks₀ ds₀ ws₀ n) (puts most mine (take n before))
+    pub laid-out :
+        left ≤ 0
+        → total ≡ length (puts most mine (take n before))
+        → table ks ds ws total ≡ relaid (table ks₀ ds₀ ws₀ n) (puts most mine (take n before))
     laid-out z e =
         ap (λ (i : ℕ). table ks ds ws i) e
         ∙ tables-laid ks₀ ks ds₀ ws₀ ds ws n (puts most mine (take n before)) (fit .1) (fit .2) dl wl
@@ -121,7 +125,12 @@ module _ (most : Float) (ks₀ : List ℕ) (ds₀ ws₀ : List Float) (n : ℕ) 
       split = let b = bounds in take-row-of oks ods ows own j (own-fit .1) (own-fit .2) (omega (arith, own-fit)) (omega arith) (omega arith)
 
       -- a row written at the last place not written yet
-      written : (r' j' : ℕ) (k : ℕ) (d w : Float) → r' ≤ rows → j' ≤ left → rest most mine before left rows ≡ rest most mine before j' r' ++ row k d w ∷ [] → (0 < place) × Settling most mine before n total r' j' (place - 1) (beside (set ks (place - 1) k) (set ds (place - 1) d) (set ws (place - 1) w))
+      written :
+          (r' j' : ℕ) (k : ℕ) (d w : Float)
+          → r' ≤ rows
+          → j' ≤ left
+          → rest most mine before left rows ≡ rest most mine before j' r' ++ row k d w ∷ []
+          → (0 < place) × Settling most mine before n total r' j' (place - 1) (beside (set ks (place - 1) k) (set ds (place - 1) d) (set ws (place - 1) w))
       written r' j' k d w h g e =
           let z : 0 < place = omega (arith, s .place, ap length e, length-append (rest most mine before j' r') (row k d w ∷ [])) in
           let l : place - 1 < length (beside ks ds ws) = omega (arith, s .room) in
@@ -142,7 +151,9 @@ module _ (most : Float) (ks₀ : List ℕ) (ds₀ ws₀ : List Float) (n : ℕ) 
             sym k ∙ take-row ks ds ws m dl wl (omega arith)
             ∙ ap (λ (l : List Row). l ++ x ∷ []) (sym (take-take m (suc m) (beside ks ds ws) (omega arith)) ∙ ap (take m) k ∙ take-take m (suc m) before (omega arith))
 
-        pub moved : getD oks j 0 < getD ks m 0 → (0 < place) × Settling most mine before n total m left (place - 1) (beside (set ks (place - 1) (getD ks m 0)) (set ds (place - 1) (getD ds m nan)) (set ws (place - 1) (getD ws m nan)))
+        pub moved :
+            getD oks j 0 < getD ks m 0
+            → (0 < place) × Settling most mine before n total m left (place - 1) (beside (set ks (place - 1) (getD ks m 0)) (set ds (place - 1) (getD ds m nan)) (set ws (place - 1) (getD ws m nan)))
         moved h =
             written m left (getD ks m 0) (getD ds m nan) (getD ws m nan) (omega arith) (omega arith)
             (ap (λ (i : ℕ). rest-at i rows) more ∙ ap (rest-at (suc j)) last ∙ moves most mine before n total inside own-up rows-rise j y split m x row-split h ∙ ap (λ (i : ℕ). rest-at i m ++ x ∷ []) (sym more))
@@ -163,11 +174,16 @@ module _ (most : Float) (ks₀ : List ℕ) (ds₀ ws₀ : List Float) (n : ℕ) 
           (ap (λ (i : ℕ). rest-at i rows) more ∙ waits most mine before n total inside own-up rows-rise j y split rows b)
 
       -- the own row is put, and m rows of the table are left
-      pub put-down : (m : ℕ) → Says (standing most (getD ows j nan)) ks rows (getD oks j 0) (Put m) → (0 < place) × Settling most mine before n total m j (place - 1) (beside (set ks (place - 1) (getD oks j 0)) (set ds (place - 1) (getD ods j nan)) (set ws (place - 1) (getD ows j nan)))
+      pub put-down :
+          (m : ℕ)
+          → Says (standing most (getD ows j nan)) ks rows (getD oks j 0) (Put m)
+          → (0 < place) × Settling most mine before n total m j (place - 1) (beside (set ks (place - 1) (getD oks j 0)) (set ds (place - 1) (getD ods j nan)) (set ws (place - 1) (getD ows j nan)))
       unfolding Says
       put-down m h = go (h .1)
         where
-          go : (((0 < rows) × (getD ks (rows - 1) 0 < getD oks j 0) × (m ≡ rows)) ⊎ (((0 < rows) × (getD ks (rows - 1) 0 ≡ getD oks j 0) × (m ≡ rows - 1)) ⊎ ((rows ≡ 0) × (m ≡ 0)))) → (0 < place) × Settling most mine before n total m j (place - 1) (beside (set ks (place - 1) (getD oks j 0)) (set ds (place - 1) (getD ods j nan)) (set ws (place - 1) (getD ows j nan)))
+          go :
+              (((0 < rows) × (getD ks (rows - 1) 0 < getD oks j 0) × (m ≡ rows)) ⊎ (((0 < rows) × (getD ks (rows - 1) 0 ≡ getD oks j 0) × (m ≡ rows - 1)) ⊎ ((rows ≡ 0) × (m ≡ 0))))
+              → (0 < place) × Settling most mine before n total m j (place - 1) (beside (set ks (place - 1) (getD oks j 0)) (set ds (place - 1) (getD ods j nan)) (set ws (place - 1) (getD ows j nan)))
           go (inl g) =
               written m j (getD oks j 0) (getD ods j nan) (getD ows j nan) (omega arith) (omega arith)
               (added (rows - 1) (omega arith) (g .1) (h .0) ∙ ap (λ (i : ℕ). rest-at j i ++ y ∷ []) (sym (g .2)))

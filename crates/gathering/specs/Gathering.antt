@@ -6,9 +6,9 @@ use mathlib.Core.List.{List, [], _∷_}
 use lib.ListN.{getD, take}
 use lib.Ieee.{Float, nan}
 use Rattle.floats.specs.Floats.{f32, zero32, between}
-use Rattle.table.specs.declared.Found.{Found}
-use Rattle.table.specs.declared.Found.the-variants.{At, Absent}
-use Rattle.table.specs.Keys.{find}
+use Rattle.search.specs.declared.Found.{Found}
+use Rattle.search.specs.declared.Found.the-variants.{At, Absent}
+use Rattle.search.specs.Keys.{find}
 use Rattle.table.specs.Table.{Row, Table, put}
 use Rattle.gathering.specs.declared.Values.{Values}
 

@@ -15,8 +15,7 @@ use Rattle.lists.specs.Lists.{_∈_, Ordered}
 use Rattle.lists.proofs.ListLaws.{front-in, in-front, in-behind, front-ordered}
 use Rattle.lists.proofs.Bools.{or-cases}
 use Rattle.edges.specs.Edges.{Edge}
-use Rattle.groups.specs.Groups.{touches, numbersFrom, groupOf, one, countOf}
-use Rattle.groups.specs.Groups.{edgeAt, EndsAt}
+use Rattle.groups.specs.Groups.{touches, numbersFrom, groupOf, one, countOf, edgeAt, EndsAt}
 
 -- one of two numbers is the smaller, or they are the same
 pub compared : (a b : ℕ) → (a < b) ⊎ ((b < a) ⊎ (a ≡ b))

@@ -12,14 +12,14 @@ use Rattle.ids.specs.Key.{onLattice}
 use Rattle.lists.specs.Lists.{_∈_, Ordered, Distinct}
 use Rattle.lists.proofs.ListLaws.{in-map, ordered-weaken}
 use Rattle.neighbors.specs.Neighbors.{neighbours, adjacent}
-use Rattle.table.specs.Keys.{ascending}
+use Rattle.search.specs.Keys.{ascending}
 use Rattle.table.specs.Table.{Row}
-use Rattle.edges.specs.Rows.{keysOf}
+use Rattle.table.specs.Rows.{keysOf}
 use Rattle.edges.specs.Edges.{Edge}
 use Rattle.edges.specs.EdgeList.{pairOf, SamePair, IsEdgeList}
 use Rattle.edges.specs.Listing.{firsts, seconds}
 use Rattle.edges.specs.ZeroCrossing.{crossesZero, zeroCrossingEdges}
-use Rattle.edges.proofs.RowLaws.{ascending-keys}
+use Rattle.search.proofs.KeyLaws.{ascending-keys}
 use Rattle.edges.proofs.ZeroCrossingLaws.{lattice, demand-3-edges}
 use Rattle.groups.specs.Groups.{EndsAt, groupOf, groups}
 use Rattle.groups.specs.CellEdges.{edgeListsOk, cellEdges}
@@ -78,5 +78,9 @@ module _ (near : ℕ → List ℕ) (adjacent : ℕ → ℕ → Bool) (crosses : 
     part-exactly = rw call-hands-group ((λ i. (group-in es cell i, in-group es cell i)), group-ordered es cell)
 
 -- A cell's group from its own neighbourhood is its group, in the edge list of ascending rows.
-pub near-is-group : (rows : List Row) → ascending (keysOf rows) ≡ true → (cell : ℕ) → nearGroup (zeroCrossingEdges rows) cell ≡ groupOf (zeroCrossingEdges rows) cell
+pub near-is-group :
+    (rows : List Row)
+    → ascending (keysOf rows) ≡ true
+    → (cell : ℕ)
+    → nearGroup (zeroCrossingEdges rows) cell ≡ groupOf (zeroCrossingEdges rows) cell
 near-is-group rows up cell = gathered-is-group neighbours adjacent crossesZero rows (zeroCrossingEdges rows) lattice (demand-3-edges rows up) cell

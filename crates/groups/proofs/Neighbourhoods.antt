@@ -9,13 +9,13 @@ use mathlib.Core.List.{List, [], _∷_, List·Memᴰ·head, List·Memᴰ·tail, 
 use lib.ListN.{length, getD, drop, replicate, length-drop, drop-of-length-le}
 use lib.Seq.{drop-cons}
 use Rattle.lists.specs.Lists.{_∈_, Ordered, Distinct}
-use Rattle.lists.proofs.ListLaws.{at-in, ordered-at, ordered-weaken, map-ordered, one-order, no-more}
+use Rattle.lists.proofs.ListLaws.{at-in, ordered-at, ordered-weaken, map-ordered, one-order}
 use Rattle.table.specs.Table.{Row}
 use Rattle.edges.specs.Edges.{Edge, edge}
 use Rattle.edges.specs.EdgeList.{pairOf, SamePair, Neighbourhood, Before, IsEdgeList}
 use Rattle.edges.specs.Listing.{firsts}
-use Rattle.table.specs.declared.Found.{Found}
-use Rattle.table.specs.declared.Found.the-variants.{At, Absent}
+use Rattle.search.specs.declared.Found.{Found}
+use Rattle.search.specs.declared.Found.the-variants.{At, Absent}
 use Rattle.lists.specs.Padding.{padded}
 use Rattle.groups.specs.declared.Group.{Group}
 use Rattle.lists.proofs.Bools.{cases}
@@ -24,14 +24,18 @@ use Rattle.neighbors.proofs.NeighborLaws.{at-most-14}
 use Rattle.groups.specs.CellEdges.{edgesIn, pairsOk}
 use Rattle.groups.specs.Near.{pairNumber, withNumber, gathered, nearGroup, held, groupIn}
 use Rattle.groups.specs.Steps.{numbersOf, Open}
-use Rattle.groups.specs.Groups.{groupOf}
+use Rattle.groups.specs.Groups.{groupOf, edgeAt, EndsAt}
 use Rattle.groups.proofs.NumberLaws.{number-sound, number-complete}
 use Rattle.groups.proofs.PlacingLaws.{placed-length, placed-here, placed-kept, placed-only, placed-ordered, held-numbers, held-open}
-use Rattle.groups.specs.Groups.{edgeAt, EndsAt}
 use Rattle.groups.proofs.GroupLaws.{compared, group-in, in-group, group-ordered}
 
 -- numbers in ascending order, exactly those of the edges that have the cell as an end, are its group
-pub group-only : (es : List Edge) (cell : ℕ) (l : List ℕ) → Ordered _<_ l → ((i : ℕ) → i ∈ l → EndsAt es i cell) → ((i : ℕ) → EndsAt es i cell → i ∈ l) → l ≡ groupOf es cell
+pub group-only :
+    (es : List Edge) (cell : ℕ) (l : List ℕ)
+    → Ordered _<_ l
+    → ((i : ℕ) → i ∈ l → EndsAt es i cell)
+    → ((i : ℕ) → EndsAt es i cell → i ∈ l)
+    → l ≡ groupOf es cell
 group-only es cell l o sound complete =
     one-order _<_ (λ x y p q. omega arith) l (groupOf es cell) o (group-ordered es cell) (λ i m. in-group es cell i (sound i m)) (λ i m. complete i (group-in es cell i m))
 
@@ -137,7 +141,10 @@ group-few first second count cell =
 
 -- ---- the loop, from the last cell down
 
-pub gather-begun : (es : List Edge) (cell : ℕ) (others : List ℕ) (i : ℕ) → length others ≤ i → record { numbers = replicate 14 0; count = 0 } ≡ held (gathered es cell (drop i others))
+pub gather-begun :
+    (es : List Edge) (cell : ℕ) (others : List ℕ) (i : ℕ)
+    → length others ≤ i
+    → record { numbers = replicate 14 0; count = 0 } ≡ held (gathered es cell (drop i others))
 unfolding gathered padded
 gather-begun es cell others i h = rw (drop-of-length-le others {i = i} h)
 
@@ -146,7 +153,11 @@ module _ (es : List Edge) (cell : ℕ) (others : List ℕ) (i : ℕ) (g : Group)
   gather-open m =
       rw e (held-open (gathered es cell (drop i others)) (omega (arith, gathered-few es cell (drop i others), length-drop i others)))
 
-  pub gather-turn : (f : Found) (r : Group) → f ≡ pairNumber es cell (getD others (i - 1) 0) → r ≡ held (withNumber f (numbersOf g)) → r ≡ held (gathered es cell (drop (i - 1) others))
+  pub gather-turn :
+      (f : Found) (r : Group)
+      → f ≡ pairNumber es cell (getD others (i - 1) 0)
+      → r ≡ held (withNumber f (numbersOf g))
+      → r ≡ held (gathered es cell (drop (i - 1) others))
   unfolding gathered
   gather-turn f r q t =
       let next : suc (i - 1) ≡ i = omega arith in
@@ -180,14 +191,6 @@ module _ (near : ℕ → List ℕ) (adjacent : ℕ → ℕ → Bool) (crosses : 
       (λ e. (b, rw e at (nb .exactly a b .1 (c .2 .adjacency)), c .3 ∙ ap (λ (k : ℕ). pairOf k b) e))
       (λ e. (a, rw e at (nb .exactly b a .1 (nb .both b a ∙ c .2 .adjacency)), c .3 ∙ pair-either a b ∙ ap (λ (k : ℕ). pairOf k a) e))
       (pair-end a b cell ends)
-
-  -- so a cell has no more edges than neighbours
-  pub group-small : (cell : ℕ) → length (groupOf es cell) ≤ length (near cell)
-  group-small cell =
-      no-more (λ i n. (i < length es) × (edgeAt es i ≡ pairOf cell n)) (groupOf es cell) (near cell)
-      (ordered-weaken _<_ (λ x y. x ≡ y → ⊥) (groupOf es cell) (λ x y i j l e. omega arith) (group-ordered es cell))
-      (λ i m. let e = group-in es cell i m in let t = to-neighbour i cell e in (t .0, t .1, (e .numbered, t .2)))
-      (λ i j n p q. one-number i j (p .0) (q .0) (p .1 ∙ sym (q .1)))
 
   -- the first keys ascend, so a row's own edges stand together and are found by halves
   pub firsts-ascend : Ordered _≤_ (firsts es)

@@ -15,9 +15,9 @@ use borrow.Author.Tests.{lt-ltb, ltb-true, ltb-false, eqb-true, ne-eqb, eq-eqb}
 use Rattle.lists.specs.Lists.{Ordered}
 use Rattle.lists.proofs.Bools.{cases}
 use Rattle.lists.proofs.ListLaws.{at-in, ordered-at}
-use Rattle.table.specs.Keys.{placeOf, halving, halved}
-use Rattle.table.specs.declared.Found.the-variants.{At, Absent}
-use Rattle.table.proofs.KeyLaws.{place-le, place-length, mid, halfway}
+use Rattle.search.specs.Keys.{placeOf, halving, halved}
+use Rattle.search.specs.declared.Found.the-variants.{At, Absent}
+use Rattle.search.proofs.KeyLaws.{place-le, place-length, mid, halfway}
 use Rattle.edges.specs.Edges.{Edge, edge}
 use Rattle.edges.specs.Listing.{firsts}
 use Rattle.groups.specs.Groups.{edgeAt}
@@ -37,7 +37,15 @@ lt-place k (l ∷ ks) (suc i) o h g =
     rw (lt-ltb l k (omega arith)) (suc-le-suc (lt-place k ks i (o .1) h (le-of-suc-le-suc g)))
 
 -- the search ends at the place of k
-reaches : (k : ℕ) (ks : List ℕ) → Ordered _≤_ ks → (f lo hi : ℕ) → lo ≤ placeOf k ks → placeOf k ks ≤ hi → hi ≤ length ks → hi ≤ lo + f → halving f k ks lo hi ≡ placeOf k ks
+reaches :
+    (k : ℕ) (ks : List ℕ)
+    → Ordered _≤_ ks
+    → (f lo hi : ℕ)
+    → lo ≤ placeOf k ks
+    → placeOf k ks ≤ hi
+    → hi ≤ length ks
+    → hi ≤ lo + f
+    → halving f k ks lo hi ≡ placeOf k ks
 unfolding halving
 reaches k ks o zero lo hi p q h g = omega arith
 reaches k ks o (suc f) lo hi p q h g =
@@ -110,7 +118,13 @@ unfolding scanned Among
 scanned-sound n a b [] i e = absurd (absent-at i e)
 scanned-sound n a b (x ∷ es) i e = go (eqb (x .first) a) (eqb (x .second) b) refl refl (λ h. scanned-sound (suc n) a b es i h) e
   where
-    go : (p q : Bool) → eqb (x .first) a ≡ p → eqb (x .second) b ≡ q → (scanned (suc n) a b es ≡ At i → Among (suc n) a b es i) → cond p (cond q (At n) (scanned (suc n) a b es)) Absent ≡ At i → Among n a b (x ∷ es) i
+    go :
+        (p q : Bool)
+        → eqb (x .first) a ≡ p
+        → eqb (x .second) b ≡ q
+        → (scanned (suc n) a b es ≡ At i → Among (suc n) a b es i)
+        → cond p (cond q (At n) (scanned (suc n) a b es)) Absent ≡ At i
+        → Among n a b (x ∷ es) i
     go true true h k rest f =
         let same : n ≡ i = cc in
         let one = eqb-true (x .first) a h in
@@ -119,7 +133,12 @@ scanned-sound n a b (x ∷ es) i e = go (eqb (x .first) a) (eqb (x .second) b) r
     go true false h k rest f = let r = rest f in (suc (r .0), omega (arith, r .1), omega (arith, r .2), r .3)
     go false q h k rest f = absurd (absent-at i f)
 
-scanned-complete : (n a b : ℕ) (es : List Edge) (j : ℕ) → j < length es → edgeAt es j ≡ edge a b → ((k : ℕ) → k ≤ j → edgeAt es k .first ≡ a) → (i : ℕ) × (scanned n a b es ≡ At i)
+scanned-complete :
+    (n a b : ℕ) (es : List Edge) (j : ℕ)
+    → j < length es
+    → edgeAt es j ≡ edge a b
+    → ((k : ℕ) → k ≤ j → edgeAt es k .first ≡ a)
+    → (i : ℕ) × (scanned n a b es ≡ At i)
 unfolding scanned
 scanned-complete n a b [] j l e h = absurd (not-suc-le-zero l)
 scanned-complete n a b (x ∷ es) zero l e h =

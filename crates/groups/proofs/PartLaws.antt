@@ -14,8 +14,7 @@ use borrow.Author.Tests.{lt-ltb, le-ltb, eq-eqb, ne-eqb, le-leb, eqb-true}
 use Rattle.lists.specs.Lists.{_∈_, Ordered, joined}
 use Rattle.lists.proofs.ListLaws.{at-in}
 use Rattle.edges.specs.Edges.{Edge, edge}
-use Rattle.groups.specs.Groups.{touches, groupOf, groups, one, startOf, countOf, partOf}
-use Rattle.groups.specs.Groups.{edgeAt, EndsAt}
+use Rattle.groups.specs.Groups.{touches, groupOf, groups, one, startOf, countOf, partOf, edgeAt, EndsAt}
 use Rattle.groups.proofs.GroupLaws.{compared, numbers-length, group-in}
 
 -- ---- one end

@@ -6,9 +6,9 @@ use lib.Dec.{eqb}
 use lib.ListN.{length, drop}
 use Rattle.lists.specs.Padding.{padded}
 use Rattle.neighbors.specs.Neighbors.{neighbours}
-use Rattle.table.specs.Keys.{halved}
-use Rattle.table.specs.declared.Found.{Found}
-use Rattle.table.specs.declared.Found.the-variants.{At, Absent}
+use Rattle.search.specs.Keys.{halved}
+use Rattle.search.specs.declared.Found.{Found}
+use Rattle.search.specs.declared.Found.the-variants.{At, Absent}
 use Rattle.edges.specs.Edges.{Edge}
 use Rattle.edges.specs.Listing.{firsts}
 use Rattle.groups.specs.CellEdges.{paired, edgesIn, pairsOk}

@@ -3,19 +3,7 @@ use refusals::Refusal;
 ghost use mathlib.Core.Path.{_≡_};
 ghost use Prim.Native.Nat.{_+_, _^_, _<_};
 ghost use Rattle.ids.specs.Morton.{spread, gather, morton};
-ghost use Rattle.ids.specs.Key.{
-  headOf,
-  mortonOf,
-  tierOf,
-  frameOf,
-  lodOf,
-  xOf,
-  yOf,
-  zOf,
-  onLattice,
-  madeOf,
-  decodedOf,
-};
+ghost use Rattle.ids.specs.Key.{headOf, mortonOf, tierOf, frameOf, lodOf, xOf, yOf, zOf, onLattice, madeOf, decodedOf};
 
 // A key's coordinate: a whole number of cells along an axis.
 pub struct Cells(pub u16);

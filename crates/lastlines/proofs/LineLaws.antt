@@ -27,12 +27,12 @@ use Rattle.lines.specs.Lines.{lineOf}
 use Rattle.mesh.specs.declared.Meshed.{Meshed}
 use Rattle.mesh.specs.declared.Meshed.the-variants as meshed
 use Rattle.mesh.specs.Mesh.{edgesOf, trianglesOf, verticesOf, haveRoom, heldIn, meshCheck, meshedIf, meshAnswer}
-use Rattle.vertices.specs.Vertices.{xsOf, ysOf, zsOf}
+use Rattle.slopes.specs.Vertices.{xsOf, ysOf, zsOf}
 use Rattle.texts.specs.Texts.{hexDigits, hexField, decimalFrom, countsLine, vertexLine, badLine, refusedLine}
-use Rattle.tsdf.specs.declared.Fused.{Fused}
-use Rattle.tsdf.specs.declared.Fused.the-variants as fused
-use Rattle.tsdf.specs.declared.Reading.the-variants as reading
-use Rattle.tsdf.specs.Fusing.{outcome, fuse}
+use Rattle.fusing.specs.declared.Fused.{Fused}
+use Rattle.fusing.specs.declared.Fused.the-variants as fused
+use Rattle.measuring.specs.declared.Reading.the-variants as reading
+use Rattle.fusing.specs.Fusing.{outcome, fuse}
 use Rattle.ids.specs.Key.{madeOf}
 use Rattle.ids.specs.declared.Made.{Made}
 use Rattle.ids.specs.declared.Made.the-variants as made
@@ -43,30 +43,7 @@ use Rattle.lastlines.specs.declared.Setup.the-variants.{Ready, Refused}
 use Rattle.lastlines.specs.declared.Stepped.{Stepped}
 use Rattle.lastlines.specs.declared.Taken.{Taken}
 use Rattle.lastlines.specs.declared.Taken.the-variants as taken
-use Rattle.lastlines.specs.Lastcheck.{
-  placedOf,
-  givenOf,
-  settingsFrom,
-  setupOf,
-  cellOf,
-  takenOf,
-  fusedAs,
-  readingOf,
-  vertexLines,
-  printedFor,
-  meshText,
-  goesOn,
-  held,
-  After,
-  after,
-  afterSetup,
-  afterReading,
-  afterMesh,
-  afterLine,
-  stepOf,
-  steppedAs,
-  IsStep,
-}
+use Rattle.lastlines.specs.Lastcheck.{placedOf, givenOf, settingsFrom, setupOf, cellOf, takenOf, fusedAs, readingOf, vertexLines, printedFor, meshText, goesOn, held, After, after, afterSetup, afterReading, afterMesh, afterLine, stepOf, steppedAs, IsStep}
 use Rattle.lastlines.specs.Steps.{edgesIn, Prints}
 
 -- a vertex's line has 29 bytes
@@ -86,7 +63,9 @@ module _ (xs ys zs : List Float) where
   lines-none l at = refl
 
   -- the lines of i vertices and of one more
-  lines-step : (k i : ℕ) → vertexLines (k + 1) i xs ys zs ≡ vertexLines k i xs ys zs ++ vertexLine (getD xs (i + k) nan) (getD ys (i + k) nan) (getD zs (i + k) nan)
+  lines-step :
+      (k i : ℕ)
+      → vertexLines (k + 1) i xs ys zs ≡ vertexLines k i xs ys zs ++ vertexLine (getD xs (i + k) nan) (getD ys (i + k) nan) (getD zs (i + k) nan)
   unfolding vertexLines
   lines-step zero i = rw (add-zero i) (append-nil (vertexLine (getD xs i nan) (getD ys i nan) (getD zs i nan)))
   lines-step (suc k) i =
@@ -144,12 +123,21 @@ pub edges-few : {a : Meshed} {n m : ℕ} → a ≡ meshed.Done n m → edgesIn a
 edges-few e h = rw e at h
 
 -- what is written is what a step prints
-pub prints : (started : Bool) (s : Settings) (text : List ℕ) (goes : Bool) {n : ℕ} {l o : List ℕ} → n ≡ length text → o ≡ sets l 0 text → (t : Table) → Prints (after started s t text goes) (stepped started s n goes) l o
+pub prints :
+    (started : Bool) (s : Settings) (text : List ℕ) (goes : Bool) {n : ℕ} {l o : List ℕ}
+    → n ≡ length text
+    → o ≡ sets l 0 text
+    → (t : Table)
+    → Prints (after started s t text goes) (stepped started s n goes) l o
 prints started s text goes e f t = record { answer = ap (λ (n : ℕ). stepped started s n goes) e; text = f }
 
 -- P and D, case by case
 module _ (started : Bool) (s : Settings) where
-  pub setup-ready : (l : List ℕ) {w : Setup} {ready : Settings} → w ≡ Ready ready → (t : Table) → Prints (afterSetup w started s t) (stepped true ready 0 true) l l
+  pub setup-ready :
+      (l : List ℕ) {w : Setup} {ready : Settings}
+      → w ≡ Ready ready
+      → (t : Table)
+      → Prints (afterSetup w started s t) (stepped true ready 0 true) l l
   unfolding afterSetup
   setup-ready l e t = rw e (record { answer = refl; text = refl })
 
@@ -160,7 +148,9 @@ module _ (started : Bool) (s : Settings) where
   setup-refused e p t = rw e (p t)
 
   pub fused-refused :
-      {w : Fused} {why : Refusal} {r : Stepped} {l o : List ℕ} → w ≡ fused.Refused why → ((t : Table) → Prints (after started s t (refusedLine why) false) r l o) →
+      {w :
+      Fused} {why : Refusal} {r : Stepped} {l o : List ℕ} → w ≡ fused.Refused why → ((t : Table)
+      → Prints (after started s t (refusedLine why) false) r l o) →
       (t : Table) → Prints (afterReading w started s t) r l o
   unfolding afterReading
   fused-refused e p t = rw e (p t)
@@ -257,7 +247,12 @@ module _ (bytes : List ℕ) (n : ℕ) (started : Bool) (s : Settings) (t : Table
   unfolding stepOf
   one-line = ap (λ (q : Line). afterLine q n started s t) (sym (h ∙ ap (placedOf started) e))
 
-  is-step : {a : After} {r : Stepped} {t' : Table} {o : List ℕ} → afterLine g n started s t ≡ a → Prints a r l o → t' ≡ a .left → IsStep (stepOf bytes n started s t) r t' l o
+  is-step :
+      {a : After} {r : Stepped} {t' : Table} {o : List ℕ}
+      → afterLine g n started s t ≡ a
+      → Prints a r l o
+      → t' ≡ a .left
+      → IsStep (stepOf bytes n started s t) r t' l o
   unfolding stepOf
   is-step {a} q p k =
       let same : a ≡ stepOf bytes n started s t = sym (one-line ∙ q) in
@@ -268,7 +263,12 @@ module _ (bytes : List ℕ) (n : ℕ) (started : Bool) (s : Settings) (t : Table
         short = line-short started s t n (placedOf started (lineOf bytes));
       }
 
-  pub step-settings : {a b c : ℕ} {w : Setup} {r : Stepped} {o : List ℕ} → g ≡ line.Settings a b c → w ≡ setupOf a b c → Prints (afterSetup w started s t) r l o → IsStep (stepOf bytes n started s t) r t l o
+  pub step-settings :
+      {a b c : ℕ} {w : Setup} {r : Stepped} {o : List ℕ}
+      → g ≡ line.Settings a b c
+      → w ≡ setupOf a b c
+      → Prints (afterSetup w started s t) r l o
+      → IsStep (stepOf bytes n started s t) r t l o
   unfolding afterLine
   step-settings {w = w} k d p = is-step (rw (k, d)) p (setup-left started s t w)
 

@@ -11,16 +11,17 @@ use Rattle.ids.specs.Key.{sameParity}
 use Rattle.ids.specs.Morton.{respaced, morton}
 use Rattle.lists.specs.Padding.{padded}
 use Rattle.lists.specs.Lists.{joined, kept, insert, place}
-use Rattle.table.specs.Keys.{risesFrom, ascending, next, find}
+use Rattle.search.specs.Keys.{risesFrom, ascending, next, find}
 use Rattle.table.specs.Table.{beside, rowsOk, need, tableCheck, put, relaid}
-use Rattle.tsdf.specs.Fusing.{fusedVoxel, voxelAt, hasPlace, stored, fusedNear, fusedIf, fuseIf, fuse}
-use Rattle.tsdf.specs.Readings.{admitIf, admitted}
+use Rattle.fusing.specs.Fusing.{fusedVoxel, voxelAt, hasPlace, stored, fusedNear, fusedIf, fuseIf, fuse}
+use Rattle.measuring.specs.Readings.{admitIf, admitted}
 use Rattle.edges.specs.Edges.{edgesTo, edges}
-use Rattle.edges.specs.Rows.{stored as stored-edges}
+use Rattle.table.specs.Rows.{stored as stored-edges}
 use Rattle.edges.specs.ZeroCrossing.{crossing}
 use Rattle.neighbors.specs.Neighbors.{offsets, inside, reachedFrom, shown, neighboursBy}
-use Rattle.vertices.specs.Stored.{distanceAt, distanceOf as distanceOf-vertices, orZero}
-use Rattle.vertices.specs.Vertices.{partOf as partOf-vertices, vertexOf, vertexAt}
+use Rattle.slopes.specs.Stored.{distanceAt, orZero}
+use Rattle.vertices.specs.StoredRows.{distanceOf as distanceOf-vertices}
+use Rattle.slopes.specs.Vertices.{partOf as partOf-vertices, vertexOf, vertexAt}
 use Rattle.groups.specs.CellEdges.{paired, cellSpan, cellEdges}
 use Rattle.groups.specs.Groups.{numbersFrom}
 use Rattle.groups.specs.Near.{gathered}

@@ -22,11 +22,11 @@ use Rattle.refusals.specs.declared.Refusal.the-variants.{Setting, OffLattice, B
 use Rattle.table.specs.declared.Settings.{Settings}
 use Rattle.table.specs.Table.{Table, table, settingsOk}
 use Rattle.texts.specs.Texts.{countsLine, vertexLine, badLine, refusedLine}
-use Rattle.tsdf.specs.declared.Fused.{Fused}
-use Rattle.tsdf.specs.declared.Fused.the-variants as fused
-use Rattle.tsdf.specs.declared.Reading.the-variants as reading
-use Rattle.tsdf.specs.Fusing.{Outcome, outcome, fuse}
-use Rattle.vertices.specs.Vertices.{xsOf, ysOf, zsOf}
+use Rattle.fusing.specs.declared.Fused.{Fused}
+use Rattle.fusing.specs.declared.Fused.the-variants as fused
+use Rattle.measuring.specs.declared.Reading.the-variants as reading
+use Rattle.fusing.specs.Fusing.{Outcome, outcome, fuse}
+use Rattle.slopes.specs.Vertices.{xsOf, ysOf, zsOf}
 use Rattle.lastlines.specs.declared.Given.{Given}
 use Rattle.lastlines.specs.declared.Given.the-variants.{Number, NotNumber}
 use Rattle.lastlines.specs.declared.Taken.{Taken}

@@ -1,36 +1,20 @@
 // What one line does: the program `lastcheck` but for its reading and writing (document 01, `lastcheck`).
 use floats::Metres;
+use fusing::Fused;
 use ids::Cells;
 use ids::Made;
 use lines::Line;
 use mesh::Meshed;
 use refusals::Refusal;
 use table::Settings;
-use tsdf::Fused;
 ghost use mathlib.Core.Path.{_≡_};
 ghost use mathlib.Core.Bool.{false};
 ghost use Prim.Native.Nat.{_≤_};
 ghost use lib.ListN.{length};
 ghost use lib.Seq.{sets};
 ghost use Rattle.table.specs.Table.{Table, table};
-ghost use Rattle.tsdf.specs.Fusing.{outcome};
-ghost use Rattle.lastlines.specs.Lastcheck.{
-  placedOf,
-  givenOf,
-  settingsFrom,
-  setupOf,
-  takenOf,
-  readingOf,
-  vertexLines,
-  printedFor,
-  goesOn,
-  after,
-  afterSetup,
-  afterReading,
-  afterMesh,
-  stepOf,
-  IsStep,
-};
+ghost use Rattle.fusing.specs.Fusing.{outcome};
+ghost use Rattle.lastlines.specs.Lastcheck.{placedOf, givenOf, settingsFrom, setupOf, takenOf, readingOf, vertexLines, printedFor, goesOn, after, afterSetup, afterReading, afterMesh, stepOf, IsStep};
 ghost use Rattle.texts.specs.Texts.{badLine, refusedLine};
 ghost use Rattle.lastlines.specs.Steps.{edgesIn, Prints};
 
@@ -163,7 +147,7 @@ fn take_reading(
 {
     match read_cell(x, y, z, distance, confidence) {
         Taken::Refused(why) => Fused::Refused(why),
-        Taken::Direct(key, d, c) => tsdf::update_from_depth(
+        Taken::Direct(key, d, c) => fusing::update_from_depth(
             settings,
             keys,
             distances,

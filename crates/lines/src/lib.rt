@@ -2,17 +2,7 @@
 ghost use mathlib.Core.Path.{_≡_};
 ghost use Prim.Native.Nat.{_+_, _≤_, _<_};
 ghost use lib.ListN.{getD};
-ghost use Rattle.lines.specs.Lines.{
-  digitValue,
-  hexValue,
-  hexFrom,
-  wordAt,
-  digitsFrom,
-  numberAt,
-  settingsLine,
-  readingLine,
-  lineOf,
-};
+ghost use Rattle.lines.specs.Lines.{digitValue, hexValue, hexFrom, wordAt, digitsFrom, numberAt, settingsLine, readingLine, lineOf};
 ghost use Rattle.lines.specs.Steps.{endOf};
 
 // What a line is: P with three words of 32 bits, D with three coordinates and two words, M, or none of these.

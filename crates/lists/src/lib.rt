@@ -5,6 +5,9 @@ ghost use mathlib.Core.Path.{_≡_};
 ghost use Rattle.lists.specs.Places.{zeroF, filled, clearedFrom, inserted, firstDropped};
 ghost use Rattle.lists.specs.Listing.{roomFor, countOf};
 
+// The most places of a list that is filled or read, but for a table's own.
+pub const LONGEST_LIST: usize = 1_048_576;
+
 // What is answered to a list: how many it holds, or why it is refused.
 pub enum Listed {
     Count(usize),
@@ -68,12 +71,6 @@ pub fn clear_u64(list: &mut [u64])
     ensures { λ _. ⌜ now (list .exit) ≡ filled 0 (now (list .entry)) ⌝ }
 {
     clear_from_u64(list, 0);
-}
-
-pub fn clear_u32(list: &mut [u32])
-    ensures { λ _. ⌜ now (list .exit) ≡ filled 0 (now (list .entry)) ⌝ }
-{
-    clear_from_u32(list, 0);
 }
 
 pub fn clear_f32(list: &mut [f32])

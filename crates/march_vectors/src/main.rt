@@ -2,7 +2,7 @@
 // rows; B a gradient; X the statistics of a marched table.
 use esdf::Marched;
 use esdf_questions::Gradient;
-use esdf_questions::Statistics;
+use esdf_surveys::Statistics;
 use vectors::Field;
 use vectors::Line;
 use vectors::Score;
@@ -108,7 +108,7 @@ fn gradient_again(field: Field, words: [u64; 16]) -> bool {
 fn statistics_again(field: Field, words: [u64; 16]) -> bool {
     let keys = field.keys;
     let distances = field.distances;
-    match esdf_questions::stats(&keys, &distances, field.rows) {
+    match esdf_surveys::stats(&keys, &distances, field.rows) {
         Statistics::Of(s) => {
             let rows = (s.voxel_count as u64 == words[0])
                 & (s.obstacle_voxel_count as u64 == words[1]);

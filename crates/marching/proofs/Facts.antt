@@ -1,31 +1,32 @@
 -- What a march over an accepted table gives, in one place: each promise by its own theorem, from what the tests say of the rows. Assumes nothing.
-use mathlib.Core.Path.{_≡_, refl, sym, subst, _∙_}
+use mathlib.Core.Path.{_≡_, refl, sym, _∙_}
 use mathlib.Core.Logic.{_⊎_}
-use mathlib.Core.Bool.{Bool, true, false, cond, not, _&&_}
+use mathlib.Core.Bool.{Bool, true, cond, not, _&&_}
 use mathlib.Core.List.{List, [], _∷_}
 use Prim.Native.Nat.{ℕ}
 use lib.Dec.{ltb, eqb, lit≤}
-use lib.ListN.{length, take}
+use lib.ListN.{length}
 use lib.Ieee.{Float, lt, le, ofBits, toBits, binary32}
 use Rattle.floats.specs.Floats.{zero32, thousand, million, within, between, positiveTo}
 use Rattle.floats.proofs.Order.{within-size}
 use Rattle.ids.specs.Key.{onLattice}
 use Rattle.lists.specs.Lists.{_∈_, All}
 use Rattle.lists.proofs.Bools.{cases, and-first, and-second}
-use Rattle.neighbors.specs.Neighbors.{neighbours, adjacent}
+use Rattle.neighbors.specs.Neighbors.{neighbours}
 use Rattle.neighbors.proofs.Adjacency.{adjacent-sym, neighbour-adjacent, adjacent-neighbour}
 use Rattle.refusals.specs.declared.Refusal.the-variants.{Setting, Lengths, BadRow}
-use Rattle.table.specs.Keys.{ascending}
+use Rattle.search.specs.Keys.{ascending}
 use Rattle.table.specs.Table.{Row, Table, rows, rowOk, rowsOk, settingsOk, lengthsOk, farthestOk, tableOk, tableCheck}
 use Rattle.table.specs.declared.Settings.{Settings}
 use Rattle.table.specs.declared.Checked.the-variants as checked
-use Rattle.table.proofs.Laying.{keysOf as tableKeys, columns}
+use Rattle.table.specs.Rows.{keysOf as tableKeys}
+use Rattle.table.proofs.Laying.{columns}
 use Rattle.table.proofs.RowLaws.{lengths-known}
 use Rattle.marching.specs.March.{MarchedRow, State, Rooms, on, diagonal, seeds, settled}
 use Rattle.marching.specs.Lattice.{axial, lengthAt, lattice, marchFrom}
 use Rattle.marching.specs.Promises.{From, Marches}
-use Rattle.marching.proofs.Verdicts.{need-passed}
-use Rattle.marching.proofs.Sound.{After, after-on, Ended, takings-few}
+use Rattle.table.proofs.Checking.{need-passed}
+use Rattle.marching.proofs.Sound.{after-on, Ended, takings-few}
 use Rattle.marching.proofs.Bounded.{settled-within, march-within}
 use Rattle.marching.proofs.Lattice.{seeds-all, lattice-ends, lattice-keeps}
 use Rattle.marching.proofs.Least.{plain}
@@ -89,7 +90,10 @@ module _ (size most : Float) (p : positiveTo thousand size ≡ true) where
       let u = plain-positive size (and-first (lt zero32 size) (le size thousand) p) in
       said-small size (lengthAt i) d u (small-below size thousand 1000 u (and-second (lt zero32 size) (le size thousand) p) small-thousand) (length-plain i) (length-small i) h
 
-  settled-sure : (le zero32 most ≡ true) × (le most million ≡ true) → (ts : List MarchedRow) (k : ℕ) → Sure (lattice size most) (settled (lattice size most) ts k)
+  settled-sure :
+      (le zero32 most ≡ true) × (le most million ≡ true)
+      → (ts : List MarchedRow) (k : ℕ)
+      → Sure (lattice size most) (settled (lattice size most) ts k)
   settled-sure q ts k =
       sure (settled (lattice size most) ts k)
       (small-within (settled (lattice size most) ts k) most 1000000 (sym (within-size most (settled (lattice size most) ts k)) ∙ settled-within (lattice size most) ts k (q .0)) (small-most most (q .0) (q .1)))

@@ -2,7 +2,7 @@
 -- Assumes nothing.
 use mathlib.Core.Path.{_≡_, refl, sym, ap, subst, _∙_}
 use mathlib.Core.Logic.{_⊎_, inl, inr, ⊎-elim}
-use mathlib.Core.Bool.{Bool, true, false, cond, _||_, or-true, true≢false, false≢true}
+use mathlib.Core.Bool.{Bool, true, false, cond, _||_, or-true, true≢false}
 use mathlib.Core.List.{List, [], _∷_, List·Memᴰ·head, List·Memᴰ·tail, List·Memᴰ·cases-cons, List·Memᴰ·not-nil}
 use mathlib.Core.Option.{Option, none, some}
 use Prim.Native.Nat.{ℕ, zero, suc}
@@ -10,13 +10,13 @@ use native.Mathlib.Omega.{arith}
 use borrow.Author.Tests.{eqb-true, eq-eqb}
 use lib.Dec.{ltb, eqb}
 use lib.ListN.{length}
-use lib.Ieee.{Float, lt, le, neg}
-use Rattle.floats.specs.Floats.{largest, sizeOf, clampOf}
+use lib.Ieee.{Float, lt, le}
+use Rattle.floats.specs.Floats.{largest, sizeOf}
 use Rattle.lists.specs.Lists.{_∈_, All, insert}
-use Rattle.lists.proofs.Bools.{cases, or-first, or-second}
+use Rattle.lists.proofs.Bools.{cases, or-second}
 use Rattle.lists.proofs.Inserting.{among, insert-all}
-use Rattle.table.specs.Keys.{member}
-use Rattle.marching.specs.March.{MarchedRow, marchedRow, Cell, cell, State, state, Field, Rooms, Going, on, rowBefore, keysOf, distanceOf, isStored, store, cellBefore, waits, wait, waitAll, sow, sowAll, candidate, better, heard, settling, settled, onward, spread, settle, visit, taking, takeUpTo, nothing, march}
+use Rattle.search.specs.Keys.{member}
+use Rattle.marching.specs.March.{MarchedRow, marchedRow, Cell, cell, State, state, Field, Rooms, on, rowBefore, distanceOf, isStored, store, cellBefore, waits, wait, waitAll, sow, sowAll, candidate, better, heard, settling, settled, onward, spread, settle, visit, taking, takeUpTo, nothing, march}
 use Rattle.marching.specs.Promises.{Said, From}
 use Rattle.marching.proofs.KeysOnce.{insert-member}
 use Rattle.marching.proofs.Sound.{After, after-then, after-cond, after-weaken}
@@ -61,7 +61,11 @@ stored-grows l r rs h = insert-member rowBefore r (λ (x : MarchedRow). x .key) 
 stored-new : (r : MarchedRow) (rs : List MarchedRow) → isStored (r .key) (insert rowBefore r rs) ≡ true
 stored-new r rs = insert-member rowBefore r (λ (x : MarchedRow). x .key) (r .key) rs ∙ rw (eq-eqb (r .key) (r .key) refl)
 
-distance-grows : (n : ℕ) (r : MarchedRow) (rs : List MarchedRow) {d : Float} → isStored (r .key) rs ≡ false → distanceOf n rs ≡ some d → distanceOf n (insert rowBefore r rs) ≡ some d
+distance-grows :
+    (n : ℕ) (r : MarchedRow) (rs : List MarchedRow) {d : Float}
+    → isStored (r .key) rs ≡ false
+    → distanceOf n rs ≡ some d
+    → distanceOf n (insert rowBefore r rs) ≡ some d
 unfolding distanceOf insert member
 distance-grows n r [] {d} o h = absurd (let z : _≡_ {A = ℕ} 0 1 = cc in omega arith)
 distance-grows n r (s ∷ rs) {d} o h =
@@ -100,12 +104,21 @@ abbrev pub Beside : Field → List MarchedRow → ℕ → Type 0
 Beside f rs k = (l : ℕ) × ((l ∈ f .near k) × (isStored l rs ≡ true))
 
 -- then what wins was said by one
-settling-said : (f : Field) (rs : List MarchedRow) (k p : ℕ) (ns : List ℕ) (l : ℕ) → l ∈ ns → isStored l rs ≡ true → All (λ (r : MarchedRow). Sure f (r .distance)) rs → Said f rs k p ns (settling f rs k p largest ns)
+settling-said :
+    (f : Field) (rs : List MarchedRow) (k p : ℕ) (ns : List ℕ) (l : ℕ)
+    → l ∈ ns
+    → isStored l rs ≡ true
+    → All (λ (r : MarchedRow). Sure f (r .distance)) rs
+    → Said f rs k p ns (settling f rs k p largest ns)
 unfolding settling Said heard
 settling-said f rs k p [] l i h a = absurd (List·Memᴰ·not-nil i)
 settling-said f rs k p (n ∷ ns) l i h a = one (distanceOf n rs) refl (λ j. settling-said f rs k (suc p) ns l j h a)
   where
-    one : (o : Option Float) → distanceOf n rs ≡ o → (l ∈ ns → Said f rs k (suc p) ns (settling f rs k (suc p) largest ns)) → Said f rs k p (n ∷ ns) (settling f rs k (suc p) (heard (f .size) (f .reach k p) largest o) ns)
+    one :
+        (o : Option Float)
+        → distanceOf n rs ≡ o
+        → (l ∈ ns → Said f rs k (suc p) ns (settling f rs k (suc p) largest ns))
+        → Said f rs k p (n ∷ ns) (settling f rs k (suc p) (heard (f .size) (f .reach k p) largest o) ns)
     one none e later =
         inr (later (⊎-elim (λ (q : l ≡ n). absurd (true≢false (sym h ∙ ap (λ (x : ℕ). isStored x rs) q ∙ no-distance n rs e))) (λ j. j) (List·Memᴰ·cases-cons i)))
     one (some d) e later =
@@ -114,7 +127,12 @@ settling-said f rs k p (n ∷ ns) l i h a = one (distanceOf n rs) refl (λ j. se
         let b : better largest c ≡ c = rw w in
         rw b (settling-any f rs k (λ (x : Float). Said f rs k p (n ∷ ns) x) (suc p) c ns (inl (d, (e, refl))) (λ x s. inr s))
 
-said-grows : (f : Field) (r : MarchedRow) (rs : List MarchedRow) → isStored (r .key) rs ≡ false → (k p : ℕ) (ns : List ℕ) (x : Float) → Said f rs k p ns x → Said f (insert rowBefore r rs) k p ns x
+said-grows :
+    (f : Field) (r : MarchedRow) (rs : List MarchedRow)
+    → isStored (r .key) rs ≡ false
+    → (k p : ℕ) (ns : List ℕ) (x : Float)
+    → Said f rs k p ns x
+    → Said f (insert rowBefore r rs) k p ns x
 unfolding Said
 said-grows f r rs o k p [] x s = s
 said-grows f r rs o k p (n ∷ ns) x s =
@@ -146,17 +164,27 @@ module _ (f : Field) (m : Rooms) (back : (k l : ℕ) → l ∈ f .near k → k �
   near-beside : (r : MarchedRow) (rs : List MarchedRow) → All (Beside f (insert rowBefore r rs)) (f .near (r .key))
   near-beside r rs = among (Beside f (insert rowBefore r rs)) (f .near (r .key)) (λ k i. (r .key, (back (r .key) k i, stored-new r rs)))
 
-  beside-grows : (r : MarchedRow) (rs : List MarchedRow) (cs : List Cell) → All (λ (c : Cell). Beside f rs (c .key)) cs → All (λ (c : Cell). Beside f (insert rowBefore r rs) (c .key)) cs
+  beside-grows :
+      (r : MarchedRow) (rs : List MarchedRow) (cs : List Cell)
+      → All (λ (c : Cell). Beside f rs (c .key)) cs
+      → All (λ (c : Cell). Beside f (insert rowBefore r rs) (c .key)) cs
   beside-grows r rs cs a =
       all-map (λ (c : Cell). Beside f rs (c .key)) (λ (c : Cell). Beside f (insert rowBefore r rs) (c .key)) cs (λ c b. (b .0, (b .1 .0, stored-grows (b .0) r rs (b .1 .1)))) a
 
-  store-on : (r : MarchedRow) (s : State) → All (λ (c : Cell). Beside f (s .stored) (c .key)) (s .waiting) → After (WaitOn (insert rowBefore r (s .stored))) (store (m .rows) r s)
+  store-on :
+      (r : MarchedRow) (s : State)
+      → All (λ (c : Cell). Beside f (s .stored) (c .key)) (s .waiting)
+      → After (WaitOn (insert rowBefore r (s .stored))) (store (m .rows) r s)
   unfolding store After
   store-on r s a =
       after-cond (WaitOn (insert rowBefore r (s .stored))) (ltb (length (s .stored)) (m .rows)) _ _
       (λ _. record { rows = refl; cells = beside-grows r (s .stored) (s .waiting) a }) (λ _. tt)
 
-  spread-on : (ts : List MarchedRow) (r : MarchedRow) (s : State) → All (Beside f ts) (f .near (r .key)) → WaitOn ts s → After (WaitOn ts) (spread f (m .cells) r s)
+  spread-on :
+      (ts : List MarchedRow) (r : MarchedRow) (s : State)
+      → All (Beside f ts) (f .near (r .key))
+      → WaitOn ts s
+      → After (WaitOn ts) (spread f (m .cells) r s)
   unfolding spread After
   spread-on ts r s b h =
       after-cond (WaitOn ts) (le (onward f (r .distance)) (f .most)) (waitAll (m .cells) (onward f (r .distance)) (f .near (r .key)) s) (on s)
@@ -185,7 +213,11 @@ module _ (f : Field) (m : Rooms) (back : (k l : ℕ) → l ∈ f .near k → k �
       rows : All (λ (r : MarchedRow). (r ∈ rs₀) × Sure f (r .distance)) (s .stored)
       cells : All (λ (c : Cell). Beside f (s .stored) (c .key)) (s .waiting)
 
-    sowAll-begun : (rs : List MarchedRow) (s : State) → All (λ (r : MarchedRow). (r ∈ rs₀) × Sure f (r .distance)) rs → Begun s → After Begun (sowAll (f .near) m rs s)
+    sowAll-begun :
+        (rs : List MarchedRow) (s : State)
+        → All (λ (r : MarchedRow). (r ∈ rs₀) × Sure f (r .distance)) rs
+        → Begun s
+        → After Begun (sowAll (f .near) m rs s)
     unfolding sowAll sow After All
     sowAll-begun [] s a h = h
     sowAll-begun (r ∷ rs) s a h =
@@ -205,7 +237,12 @@ module _ (f : Field) (m : Rooms) (back : (k l : ℕ) → l ∈ f .near k → k �
         }
 
     -- a cell beside a stored one is settled from what one says
-    settled-from : (rs : List MarchedRow) (k : ℕ) → Beside f rs k → All (λ (r : MarchedRow). Sure f (r .distance)) rs → isStored k rs ≡ false → From f (insert rowBefore (marchedRow k (settled f rs k)) rs) (marchedRow k (settled f rs k))
+    settled-from :
+        (rs : List MarchedRow) (k : ℕ)
+        → Beside f rs k
+        → All (λ (r : MarchedRow). Sure f (r .distance)) rs
+        → isStored k rs ≡ false
+        → From f (insert rowBefore (marchedRow k (settled f rs k)) rs) (marchedRow k (settled f rs k))
     unfolding settled
     settled-from rs k b a o = (
       settling f rs k 0 largest (f .near k),
@@ -251,6 +288,10 @@ module _ (f : Field) (m : Rooms) (back : (k l : ℕ) → l ∈ f .near k → k �
         (sowAll-begun rs₀ nothing (both rs₀ (λ r i. i) sure₀) (record { rows = tt; cells = tt }))
         (λ s h. takeUpTo-fine (suc (m .rows)) s (begun-fine s h)))
       where
-        both : (l : List MarchedRow) → ((r : MarchedRow) → r ∈ l → r ∈ rs₀) → All (λ (r : MarchedRow). Sure f (r .distance)) l → All (λ (r : MarchedRow). (r ∈ rs₀) × Sure f (r .distance)) l
+        both :
+            (l : List MarchedRow)
+            → ((r : MarchedRow) → r ∈ l → r ∈ rs₀)
+            → All (λ (r : MarchedRow). Sure f (r .distance)) l
+            → All (λ (r : MarchedRow). (r ∈ rs₀) × Sure f (r .distance)) l
         both [] g a = tt
         both (r ∷ l) g a = ((g r (List·Memᴰ·head refl), a .0), both l (λ x i. g x (List·Memᴰ·tail i)) (a .1))

@@ -1,13 +1,12 @@
 -- Keys of which none stands twice, and what putting one in keeps. Assumes nothing.
-use mathlib.Core.Path.{_≡_, refl, sym, ap, _∙_}
-use mathlib.Core.Bool.{Bool, true, false, cond, _&&_, _||_}
-use mathlib.Core.List.{List, [], _∷_, map, List·Memᴰ, List·Memᴰ·head, List·Memᴰ·tail}
-use Prim.Native.Nat.{ℕ, zero, suc, _+_, _<_, _≤_, zero-le, suc-le-suc}
+use mathlib.Core.Path.{_≡_, refl, sym, _∙_}
+use mathlib.Core.Bool.{Bool, true, false, cond, _||_}
+use mathlib.Core.List.{List, [], _∷_, map}
+use Prim.Native.Nat.{ℕ, suc, _+_, _<_, _≤_, zero-le}
 use native.Mathlib.Omega.{arith}
-use borrow.Author.Tests.{lt-ltb, ltb-true, ltb-false, eqb-true, eqb-false, eq-eqb, ne-eqb}
+use borrow.Author.Tests.{lt-ltb, ltb-true, ltb-false, eqb-true, eqb-false, ne-eqb}
 use lib.Dec.{ltb, eqb}
-use lib.ListN.{length}
-use Rattle.table.specs.Keys.{member, risesFrom, ascending}
+use Rattle.search.specs.Keys.{member, risesFrom, ascending}
 use Rattle.lists.specs.Lists.{insert}
 use Rattle.marching.specs.March.{MarchedRow, rowBefore, keysOf}
 use Rattle.lists.proofs.Bools.{cases, and-first, and-second, or-first, or-second, or-swap}
@@ -57,7 +56,12 @@ ascending-once [] h = tt
 ascending-once (k ∷ ks) h = rises-once k ks h k (omega arith)
 
 module _ (r : MarchedRow) where
-  rises-insert : (j : ℕ) (rs : List MarchedRow) → j < r .key → risesFrom j (keysOf rs) ≡ true → member (r .key) (keysOf rs) ≡ false → risesFrom j (keysOf (insert rowBefore r rs)) ≡ true
+  rises-insert :
+      (j : ℕ) (rs : List MarchedRow)
+      → j < r .key
+      → risesFrom j (keysOf rs) ≡ true
+      → member (r .key) (keysOf rs) ≡ false
+      → risesFrom j (keysOf (insert rowBefore r rs)) ≡ true
   unfolding insert risesFrom member
   rises-insert j [] g h n = rw (lt-ltb j (r .key) g)
   rises-insert j (s ∷ rs) g h n =
@@ -70,7 +74,11 @@ module _ (r : MarchedRow) where
       let l : r .key ≤ s .key = ltb-false (s .key) (r .key) e in
       rw (lt-ltb j (r .key) g, lt-ltb (r .key) (s .key) (omega arith)) t)
 
-  pub ascending-insert : (rs : List MarchedRow) → ascending (keysOf rs) ≡ true → member (r .key) (keysOf rs) ≡ false → ascending (keysOf (insert rowBefore r rs)) ≡ true
+  pub ascending-insert :
+      (rs : List MarchedRow)
+      → ascending (keysOf rs) ≡ true
+      → member (r .key) (keysOf rs) ≡ false
+      → ascending (keysOf (insert rowBefore r rs)) ≡ true
   unfolding insert ascending risesFrom member
   ascending-insert [] h n = refl
   ascending-insert (s ∷ rs) h n =
@@ -94,7 +102,10 @@ both-none [] = refl
 both-none (k ∷ ks) = rw (both-none ks)
 
 -- one that stands in the second no more changes nothing
-pub both-insert : {A : Type 0} (before : A → A → Bool) (x : A) (key : A → ℕ) (l : List A) (ks : List ℕ) → member (key x) ks ≡ false → both (map key (insert before x l)) ks ≡ both (map key l) ks
+pub both-insert :
+    {A : Type 0} (before : A → A → Bool) (x : A) (key : A → ℕ) (l : List A) (ks : List ℕ)
+    → member (key x) ks ≡ false
+    → both (map key (insert before x l)) ks ≡ both (map key l) ks
 unfolding insert both
 both-insert before x key [] ks h = rw h
 both-insert before x key (y ∷ ys) ks h =

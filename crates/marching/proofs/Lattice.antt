@@ -1,9 +1,8 @@
 -- The march on the lattice, from a table's rows: the seeds of ascending rows ascend, and neighbours of lattice keys are on the lattice. Assumes nothing.
 use mathlib.Core.Path.{_≡_, refl}
-use mathlib.Core.Bool.{Bool, true, false, cond, _&&_}
-use mathlib.Core.List.{List, [], _∷_, map}
-use Prim.Native.Nat.{ℕ, _<_, _≤_}
-use native.Mathlib.Omega.{arith}
+use mathlib.Core.Bool.{Bool, true, cond}
+use mathlib.Core.List.{List, [], _∷_}
+use Prim.Native.Nat.{ℕ, _<_}
 use native.Mathlib.Nat.{lt-trans}
 use borrow.Author.Tests.{ltb-true, lt-ltb}
 use lib.Dec.{ltb}
@@ -11,11 +10,11 @@ use lib.Ieee.{Float}
 use Rattle.ids.specs.Key.{onLattice}
 use Rattle.neighbors.specs.Neighbors.{neighbours}
 use Rattle.neighbors.proofs.Adjacency.{neighbour-on-lattice}
-use Rattle.table.specs.Keys.{risesFrom, ascending}
+use Rattle.search.specs.Keys.{risesFrom, ascending}
 use Rattle.table.specs.Table.{Row}
-use Rattle.marching.specs.March.{MarchedRow, Rooms, keysOf, isSeed, seeds, march}
+use Rattle.marching.specs.March.{MarchedRow, Rooms, keysOf, isSeed, seeds}
 use Rattle.marching.specs.Lattice.{lattice, marchFrom}
-use Rattle.table.proofs.Laying.{keysOf as tableKeys}
+use Rattle.table.specs.Rows.{keysOf as tableKeys}
 use Rattle.lists.proofs.Bools.{cases, and-first, and-second}
 use Rattle.lists.specs.Lists.{All}
 use Rattle.lists.proofs.Inserting.{among}
@@ -70,7 +69,9 @@ module _ (size most : Float) (m : Rooms) (t : Float) (rs : List Row) where
   lattice-ends a = march-ends m (lattice size most) (seeds t rs) (seeds-ascend t rs a)
 
   -- every row is on the lattice
-  pub lattice-keeps : All (λ (r : Row). onLattice (r .key) ≡ true) rs → After (λ s. All (λ (r : MarchedRow). onLattice (r .key) ≡ true) (s .stored)) (marchFrom size most m t rs)
+  pub lattice-keeps :
+      All (λ (r : Row). onLattice (r .key) ≡ true) rs
+      → After (λ s. All (λ (r : MarchedRow). onLattice (r .key) ≡ true) (s .stored)) (marchFrom size most m t rs)
   unfolding All
   lattice-keeps h =
       march-rows (lattice size most) m (λ k. onLattice k ≡ true) (λ (r : MarchedRow). onLattice (r .key) ≡ true)
@@ -79,6 +80,9 @@ module _ (size most : Float) (m : Rooms) (t : Float) (rs : List Row) where
       (seeds t rs)
       (seeds-all t (λ (r : MarchedRow). (onLattice (r .key) ≡ true) × (onLattice (r .key) ≡ true)) rs (twice rs h))
     where
-      twice : (rs : List Row) → All (λ (r : Row). onLattice (r .key) ≡ true) rs → All (λ (r : Row). (onLattice (r .key) ≡ true) × (onLattice (r .key) ≡ true)) rs
+      twice :
+          (rs : List Row)
+          → All (λ (r : Row). onLattice (r .key) ≡ true) rs
+          → All (λ (r : Row). (onLattice (r .key) ≡ true) × (onLattice (r .key) ≡ true)) rs
       twice [] h = tt
       twice (r ∷ rs) h = ((h .0, h .0), twice rs (h .1))

@@ -8,9 +8,9 @@ use lib.Dec.{eqb}
 use lib.ListN.{getD}
 use lib.Ieee.{Float, nan}
 use Rattle.lists.proofs.Bools.{cases}
-use Rattle.table.specs.Keys.{member, find, next}
-use Rattle.table.specs.declared.Found.{Found}
-use Rattle.table.specs.declared.Found.the-variants.{At, Absent}
+use Rattle.search.specs.Keys.{member, find, next}
+use Rattle.search.specs.declared.Found.{Found}
+use Rattle.search.specs.declared.Found.the-variants.{At, Absent}
 use Rattle.marching.specs.March.{MarchedRow, keysOf, distancesOf, distanceOf}
 
 -- whether something was found

@@ -2,14 +2,14 @@
 use mathlib.Core.Path.{_≡_, refl}
 use mathlib.Core.Bool.{cond}
 use mathlib.Core.List.{List, [], _∷_, map}
-use Prim.Native.Nat.{ℕ, suc, _+_}
+use Prim.Native.Nat.{ℕ, _+_}
 use lib.Dec.{eqb}
 use lib.ListN.{length}
-use lib.Ieee.{Float, ofBits, toBits, binary32, add, mul, lt, eq, le, neg}
-use Rattle.ids.specs.Key.{keyOf, headOf, xOf, yOf, zOf}
+use lib.Ieee.{ofBits, toBits, binary32, add, mul, lt, eq, le, neg}
+use Rattle.ids.specs.Key.{keyOf}
 use Rattle.ids.specs.Morton.{morton, respaced}
 use Rattle.neighbors.specs.Neighbors.{offsets, inside, reachedFrom, shown, neighboursBy}
-use Rattle.table.specs.Keys.{member}
+use Rattle.search.specs.Keys.{member}
 use Rattle.lists.specs.Lists.{insert}
 use Rattle.table.specs.Table.{row}
 use Rattle.refusals.specs.Refusals.{numberOf}

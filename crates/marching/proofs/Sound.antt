@@ -1,14 +1,14 @@
 -- What every step of the march keeps, and that the march ends: takings and the waiting cells that are stored are at most the rows. Assumes nothing.
 use mathlib.Core.Path.{_≡_, refl, sym, ap, subst, _∙_}
 use mathlib.Core.Bool.{Bool, true, false, cond, _||_}
-use mathlib.Core.List.{List, [], _∷_, map}
+use mathlib.Core.List.{List, [], _∷_}
 use Prim.Native.Nat.{ℕ, zero, suc, _+_, _<_, _≤_, zero-le}
 use native.Mathlib.Omega.{arith}
 use borrow.Author.Tests.{ltb-true}
 use lib.Dec.{ltb, eqb}
 use lib.ListN.{length}
 use lib.Ieee.{Float, le}
-use Rattle.table.specs.Keys.{member, ascending}
+use Rattle.search.specs.Keys.{member, ascending}
 use Rattle.lists.specs.Lists.{insert}
 use Rattle.marching.specs.March.{MarchedRow, marchedRow, Cell, cell, State, state, Field, Rooms, Going, on, refused, andThen, rowBefore, keysOf, store, cellBefore, cellsOf, wait, waitAll, sow, sowAll, settled, onward, spread, settle, visit, taking, takeUpTo, nothing, march}
 use Rattle.lists.proofs.Bools.{cases, or-first, or-second}
@@ -78,7 +78,10 @@ module _ (m : Rooms) where
       })
       (λ q. tt))
 
-  pub waitAll-sound : (n : ℕ) (rs : List MarchedRow) (e : Float) (ks : List ℕ) (s : State) → SoundOn m n rs s → After (SoundOn m n rs) (waitAll (m .cells) e ks s)
+  pub waitAll-sound :
+      (n : ℕ) (rs : List MarchedRow) (e : Float) (ks : List ℕ) (s : State)
+      → SoundOn m n rs s
+      → After (SoundOn m n rs) (waitAll (m .cells) e ks s)
   unfolding waitAll After
   waitAll-sound n rs e [] s h = h
   waitAll-sound n rs e (k ∷ ks) s h = after-then (SoundOn m n rs) (SoundOn m n rs) (wait (m .cells) e k s) (waitAll (m .cells) e ks) (wait-sound n rs e k s h) (λ t u. waitAll-sound n rs e ks t u)
@@ -86,7 +89,15 @@ module _ (m : Rooms) where
   -- ---- storing
 
   -- a new row, after n takings; with it n and the waiting cells that are stored are at most the rows
-  store-sound : (n : ℕ) (r : MarchedRow) (s : State) → member (r .key) (keysOf (s .stored)) ≡ false → ascending (keysOf (s .stored)) ≡ true → Once (cellsOf (s .waiting)) → s .takings ≡ n → n + both (cellsOf (s .waiting)) (keysOf (insert rowBefore r (s .stored))) ≤ suc (length (s .stored)) → length (s .waiting) ≤ m .cells → After (SoundOn m n (insert rowBefore r (s .stored))) (store (m .rows) r s)
+  store-sound :
+      (n : ℕ) (r : MarchedRow) (s : State)
+      → member (r .key) (keysOf (s .stored)) ≡ false
+      → ascending (keysOf (s .stored)) ≡ true
+      → Once (cellsOf (s .waiting))
+      → s .takings ≡ n
+      → n + both (cellsOf (s .waiting)) (keysOf (insert rowBefore r (s .stored))) ≤ suc (length (s .stored))
+      → length (s .waiting) ≤ m .cells
+      → After (SoundOn m n (insert rowBefore r (s .stored))) (store (m .rows) r s)
   unfolding store After
   store-sound n r s h a o t c f =
       after-cond (SoundOn m n (insert rowBefore r (s .stored))) (ltb (length (s .stored)) (m .rows)) _ _
@@ -109,14 +120,23 @@ module _ (m : Rooms) where
   -- ---- seeds
 
   -- a seed that is not stored
-  pub sow-sound : (near : ℕ → List ℕ) (r : MarchedRow) (s : State) → Sound m 0 s → member (r .key) (keysOf (s .stored)) ≡ false → After (SoundOn m 0 (insert rowBefore r (s .stored))) (sow near m r s)
+  pub sow-sound :
+      (near : ℕ → List ℕ) (r : MarchedRow) (s : State)
+      → Sound m 0 s
+      → member (r .key) (keysOf (s .stored)) ≡ false
+      → After (SoundOn m 0 (insert rowBefore r (s .stored))) (sow near m r s)
   unfolding sow
   sow-sound near r s h n =
       let b = both-more (r .key) (keysOf (s .stored)) (keysOf (insert rowBefore r (s .stored))) (stored-more r (s .stored)) (cellsOf (s .waiting)) (h .once) in
       after-then (SoundOn m 0 (insert rowBefore r (s .stored))) (SoundOn m 0 (insert rowBefore r (s .stored))) (store (m .rows) r s) _ (store-sound 0 r s n (h .ascends) (h .once) (h .taken) (omega (arith, h .counted)) (h .cellsFit)) (λ t u. waitAll-sound 0 _ _ _ t u)
 
   -- seeds of which none is stored and none stands twice
-  pub sowAll-sound : (near : ℕ → List ℕ) (rs : List MarchedRow) (s : State) → Sound m 0 s → Once (keysOf rs) → both (keysOf rs) (keysOf (s .stored)) ≡ 0 → After (Sound m 0) (sowAll near m rs s)
+  pub sowAll-sound :
+      (near : ℕ → List ℕ) (rs : List MarchedRow) (s : State)
+      → Sound m 0 s
+      → Once (keysOf rs)
+      → both (keysOf rs) (keysOf (s .stored)) ≡ 0
+      → After (Sound m 0) (sowAll near m rs s)
   unfolding sowAll After Once both
   sowAll-sound near [] s h o b = h
   sowAll-sound near (r ∷ rs) s h o b =
@@ -144,7 +164,11 @@ module _ (m : Rooms) where
       (λ _. after-weaken (SoundOn m n rs) (Sound m n) w (λ t u. u .sound) (waitAll-sound n rs _ _ s h)) (λ _. h .sound)
 
   -- one taking more
-  pub take-sound : (f : Field) (n : ℕ) (c : Cell) (cs : List Cell) (s : State) → Sound m n s → s .waiting ≡ c ∷ cs → After (Sound m (suc n)) (taking f m (c ∷ cs) s)
+  pub take-sound :
+      (f : Field) (n : ℕ) (c : Cell) (cs : List Cell) (s : State)
+      → Sound m n s
+      → s .waiting ≡ c ∷ cs
+      → After (Sound m (suc n)) (taking f m (c ∷ cs) s)
   unfolding taking visit settle After Once both
   take-sound f n c cs s h e =
       let ks = keysOf (s .stored) in
@@ -191,7 +215,11 @@ module _ (m : Rooms) where
   takeUpTo-ends f zero n s h l = absurd (let t = takings-few n s h in omega arith)
   takeUpTo-ends f (suc i) n s h l = go (s .waiting) refl (λ t u. takeUpTo-ends f i (suc n) t u (omega arith))
     where
-      go : (cs : List Cell) → s .waiting ≡ cs → ((t : State) → Sound m (suc n) t → After Ended (takeUpTo f m i t)) → After Ended (andThen (taking f m cs s) (takeUpTo f m i))
+      go :
+          (cs : List Cell)
+          → s .waiting ≡ cs
+          → ((t : State) → Sound m (suc n) t → After Ended (takeUpTo f m i t))
+          → After Ended (andThen (taking f m cs s) (takeUpTo f m i))
       go [] e on-from = subst (After Ended) (sym (empty-stays f i s e)) (record { sound = subst (λ (x : ℕ). Sound m x s) (sym (h .taken)) h; empty = e })
       go (c ∷ cs) e on-from = after-then (Sound m (suc n)) Ended (taking f m (c ∷ cs) s) (takeUpTo f m i) (take-sound f n c cs s h e) on-from
 

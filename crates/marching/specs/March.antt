@@ -1,6 +1,6 @@
 -- Marching: distances carried outwards from the rows near the surface.
 use Prim.Native.Nat.{ℕ, zero, suc}
-use mathlib.Core.Bool.{Bool, true, false, cond, _&&_, _||_}
+use mathlib.Core.Bool.{Bool, cond, _&&_, _||_}
 use mathlib.Core.List.{List, [], _∷_, map}
 use mathlib.Core.Option.{Option, none, some}
 use lib.Dec.{ltb, eqb}
@@ -10,7 +10,7 @@ use Rattle.floats.specs.Floats.{f32, zero32, largest, sizeOf, signOf, clampOf}
 use Rattle.lists.specs.Lists.{insert}
 use Rattle.refusals.specs.declared.Refusal.{Refusal}
 use Rattle.refusals.specs.declared.Refusal.the-variants.{NoPlace, NoWaitingPlace}
-use Rattle.table.specs.Keys.{member}
+use Rattle.search.specs.Keys.{member}
 use Rattle.table.specs.Table.{Row}
 
 -- a row of the marched table

@@ -10,7 +10,7 @@ use lib.Ieee.{Float, neg}
 use Rattle.floats.specs.Floats.{clampOf, within}
 use Rattle.ids.specs.Key.{onLattice}
 use Rattle.lists.specs.Lists.{_∈_, All}
-use Rattle.table.specs.Keys.{ascending}
+use Rattle.search.specs.Keys.{ascending}
 use Rattle.marching.specs.March.{MarchedRow, State, Field, Rooms, keysOf, distanceOf, candidate}
 
 -- x is what a stored one of the neighbours from place p on says of k

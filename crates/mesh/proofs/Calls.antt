@@ -17,11 +17,12 @@ use Rattle.lists.proofs.Bools.{and-first, and-second, and-eq}
 use Rattle.lists.proofs.PaddingLaws.{padded-length}
 use Rattle.neighbors.specs.Neighbors.{neighbours, adjacent}
 use Rattle.refusals.specs.declared.Refusal.{Refusal}
-use Rattle.refusals.specs.declared.Refusal.the-variants.{Setting, Lengths, BadRow, NoPlace}
-use Rattle.table.specs.Table.{Table, table, rows, settingsOk, lengthsOk, tableOk, need, tableCheck}
+use Rattle.refusals.specs.declared.Refusal.the-variants.{NoPlace}
+use Rattle.table.specs.Table.{Table, table, rows, settingsOk}
 use Rattle.table.specs.declared.Settings.{Settings}
 use Rattle.table.specs.declared.Checked.{Checked}
 use Rattle.table.specs.declared.Checked.the-variants.{Passed, Refused as Rejected}
+use Rattle.table.proofs.Checking.{not-passed, setting-spares, lengths-spare, table-spares}
 use Rattle.edges.specs.Edges.{Edge}
 use Rattle.edges.specs.EdgeList.{IsEdgeList}
 use Rattle.edges.specs.ZeroCrossing.{crossesZero}
@@ -38,25 +39,6 @@ use Rattle.mesh.specs.declared.Meshed.the-variants.{Done, Refused}
 use Rattle.mesh.specs.Mesh.{edgesOf, groupsOf, trianglesOf, roomsOk, meshCheck, haveRoom, meshedIf, meshAnswer, heldIn}
 use Rattle.mesh.proofs.MeshLaws.{rise, rest-ok, pairs}
 
--- ---- no test answers 6
-
-not-passed : (why : Refusal) → Rejected why ≡ Passed → ⊥
-not-passed why e = let z : _≡_ {A = ℕ} 0 1 = cc in omega arith
-
-other-refusal : (b : Bool) (why : Refusal) (rest : Checked) → (why ≡ NoPlace → ⊥) → (rest ≡ Rejected NoPlace → ⊥) → need b why rest ≡ Rejected NoPlace → ⊥
-unfolding need
-other-refusal true why rest h g e = g e
-other-refusal false why rest h g e = h (cc)
-
-not-setting : Setting ≡ NoPlace → ⊥
-not-setting e = let z : _≡_ {A = ℕ} 0 1 = cc in omega arith
-
-not-lengths : Lengths ≡ NoPlace → ⊥
-not-lengths e = let z : _≡_ {A = ℕ} 0 1 = cc in omega arith
-
-not-row : BadRow ≡ NoPlace → ⊥
-not-row e = let z : _≡_ {A = ℕ} 0 1 = cc in omega arith
-
 never : (why : Refusal) (i j : ℕ) → Refused why ≡ Done i j → ⊥
 never why i j e = let z : _≡_ {A = ℕ} 0 1 = cc in omega arith
 
@@ -70,7 +52,14 @@ module _ (n first px m groups k t0 : ℕ) where
   small : (leb n first && (leb n px && (leb m groups && leb k t0))) ≡ false → Outgrown n first px m groups k t0
   small = go (leb n first) (leb n px) (leb m groups) (leb k t0) refl refl refl refl
     where
-      go : (p q u v : Bool) → leb n first ≡ p → leb n px ≡ q → leb m groups ≡ u → leb k t0 ≡ v → (p && (q && (u && v))) ≡ false → Outgrown n first px m groups k t0
+      go :
+          (p q u v : Bool)
+          → leb n first ≡ p
+          → leb n px ≡ q
+          → leb m groups ≡ u
+          → leb k t0 ≡ v
+          → (p && (q && (u && v))) ≡ false
+          → Outgrown n first px m groups k t0
       go false q u v a b c d e = inl (leb-false n first a)
       go true false u v a b c d e = inr (inl (leb-false n px b))
       go true true false v a b c d e = inr (inr (inl (leb-false m groups c)))
@@ -93,33 +82,43 @@ module _ (s : Settings) (ks : List ℕ) (ds ws : List Float) (cnt : ℕ) (r : Ro
   es = edgesOf t
 
   tests-spare-room : meshCheck s t r ≡ Rejected NoPlace → ⊥
-  unfolding meshCheck tableCheck
-  tests-spare-room =
-      other-refusal (settingsOk s) Setting _ not-setting
-      (other-refusal (roomsOk r) Lengths _ not-lengths
-      (other-refusal (settingsOk s) Setting _ not-setting
-      (other-refusal (lengthsOk (length ks) (length ds) (length ws) cnt) Lengths _ not-lengths
-      (other-refusal (tableOk (s .«max_weight») t) BadRow Passed not-row (λ e. not-passed NoPlace (sym e))))))
+  unfolding meshCheck
+  tests-spare-room = setting-spares (settingsOk s) _ (lengths-spare (roomsOk r) _ (table-spares s t))
 
   -- what an answer that is a mesh tells
   done : (c : Checked) (i j : ℕ) → meshedIf c t r ≡ Done i j → (c ≡ Passed) × (haveRoom t r ≡ true) × (i ≡ length es) × (j ≡ length (trianglesOf t))
   unfolding meshedIf
   done Passed i j e = go (haveRoom t r) refl e
     where
-      go : (b : Bool) → haveRoom t r ≡ b → cond b (Done (length es) (length (trianglesOf t))) (Refused NoPlace) ≡ Done i j → (Passed ≡ Passed) × (haveRoom t r ≡ true) × (i ≡ length es) × (j ≡ length (trianglesOf t))
+      go :
+          (b : Bool)
+          → haveRoom t r ≡ b
+          → cond b (Done (length es) (length (trianglesOf t))) (Refused NoPlace) ≡ Done i j
+          → (Passed ≡ Passed) × (haveRoom t r ≡ true) × (i ≡ length es) × (j ≡ length (trianglesOf t))
       go true q f = let x : i ≡ length es = cc in let y : j ≡ length (trianglesOf t) = cc in (refl, q, x, y)
       go false q f = absurd (never NoPlace i j f)
   done (Rejected why) i j e = absurd (never why i j e)
 
-  refused : (c : Checked) → (c ≡ Rejected NoPlace → ⊥) → (meshedIf c t r ≡ Refused NoPlace) ↔ ((c ≡ Passed) × Outgrown (length es) (r .first) (r .px) (length (groupsOf t)) (r .groups) (length (trianglesOf t)) (r .t0))
+  refused :
+      (c : Checked)
+      → (c ≡ Rejected NoPlace → ⊥)
+      → (meshedIf c t r ≡ Refused NoPlace) ↔ ((c ≡ Passed) × Outgrown (length es) (r .first) (r .px) (length (groupsOf t)) (r .groups) (length (trianglesOf t)) (r .t0))
   unfolding meshedIf
   refused Passed spare = (λ e. (refl, go (haveRoom t r) refl e), λ p. back (haveRoom t r) refl (p .1))
     where
-      go : (b : Bool) → haveRoom t r ≡ b → cond b (Done (length es) (length (trianglesOf t))) (Refused NoPlace) ≡ Refused NoPlace → Outgrown (length es) (r .first) (r .px) (length (groupsOf t)) (r .groups) (length (trianglesOf t)) (r .t0)
+      go :
+          (b : Bool)
+          → haveRoom t r ≡ b
+          → cond b (Done (length es) (length (trianglesOf t))) (Refused NoPlace) ≡ Refused NoPlace
+          → Outgrown (length es) (r .first) (r .px) (length (groupsOf t)) (r .groups) (length (trianglesOf t)) (r .t0)
       go true q e = absurd (never NoPlace (length es) (length (trianglesOf t)) (sym e))
       go false q e = small (length es) (r .first) (r .px) (length (groupsOf t)) (r .groups) (length (trianglesOf t)) (r .t0) q
 
-      back : (b : Bool) → haveRoom t r ≡ b → Outgrown (length es) (r .first) (r .px) (length (groupsOf t)) (r .groups) (length (trianglesOf t)) (r .t0) → cond b (Done (length es) (length (trianglesOf t))) (Refused NoPlace) ≡ Refused NoPlace
+      back :
+          (b : Bool)
+          → haveRoom t r ≡ b
+          → Outgrown (length es) (r .first) (r .px) (length (groupsOf t)) (r .groups) (length (trianglesOf t)) (r .t0)
+          → cond b (Done (length es) (length (trianglesOf t))) (Refused NoPlace) ≡ Refused NoPlace
       back true q o = absurd (outgrown (length es) (r .first) (r .px) (length (groupsOf t)) (r .groups) (length (trianglesOf t)) (r .t0) o q)
       back false q o = refl
   refused (Rejected why) spare = (λ e. absurd (spare (cc)), λ p. absurd (not-passed why (p .0)))

@@ -23,32 +23,32 @@ use Rattle.lists.proofs.PaddingLaws.{padded-length, padded-front}
 use Rattle.lists.proofs.Writing.{sets-front, cleared-whole}
 use Rattle.refusals.specs.declared.Refusal.{Refusal}
 use Rattle.refusals.specs.declared.Refusal.the-variants.{Setting, Lengths, NoPlace}
-use Rattle.table.specs.Keys.{ascending}
+use Rattle.search.specs.Keys.{ascending}
 use Rattle.table.specs.Table.{Table, table, rows, settingsOk, need, tableCheck}
 use Rattle.table.specs.declared.Settings.{Settings}
 use Rattle.table.specs.declared.Checked.{Checked}
 use Rattle.table.specs.declared.Checked.the-variants.{Passed, Refused as Rejected}
 use Rattle.table.proofs.Laying.{columns}
-use Rattle.edges.specs.Rows.{keysOf}
+use Rattle.table.specs.Rows.{keysOf}
+use Rattle.table.proofs.Checking.{need-passed}
 use Rattle.edges.specs.Edges.{Edge}
 use Rattle.edges.specs.Listing.{firsts, seconds, outputsOk, checkedFor, answerIf, edgesAnswer, firstsHeld, secondsHeld}
 use Rattle.edges.specs.Steps.{Accepted}
 use Rattle.edges.proofs.AnswerLaws.{accepted}
 use Rattle.edges.proofs.ListingLaws.{rows-rise}
 use Rattle.edges.proofs.Calls.{counted-only, answered-with-edges}
-use Rattle.vertices.specs.declared.Vertex.{Vertex}
-use Rattle.vertices.specs.declared.Normal.{Normal}
-use Rattle.vertices.specs.Stored.{Lookup, distanceIn, distanceBy}
-use Rattle.vertices.specs.Vertices.{xsOf, ysOf, zsOf}
-use Rattle.vertices.specs.Vertices.{verticesOf as besideOf}
-use Rattle.vertices.specs.Normals.{normalsOf, partsX, partsY, partsZ}
+use Rattle.slopes.specs.declared.Vertex.{Vertex}
+use Rattle.slopes.specs.declared.Normal.{Normal}
+use Rattle.slopes.specs.Stored.{Lookup, distanceBy}
+use Rattle.vertices.specs.StoredRows.{distanceIn}
+use Rattle.slopes.specs.Vertices.{xsOf, ysOf, zsOf, verticesOf as besideOf}
+use Rattle.slopes.specs.Normals.{normalsOf, partsX, partsY, partsZ}
 use Rattle.vertices.proofs.TableLaws.{distance-by, vertices-of-edges}
 use Rattle.groups.specs.Groups.{groups}
 use Rattle.groups.specs.CellEdges.{pairsOk}
 use Rattle.triangles.specs.Threes.{Three, column0, column1, column2}
 use Rattle.triangles.specs.Triangles.{triangles}
-use Rattle.triangles.specs.Building.{Source, source, groupsAt, trianglesAt, cellsOf, sizesOk, roomForBoth, builtAnswer, groupsHeld, held0, held1, held2}
-use Rattle.triangles.specs.Building.{Rooms as Lent, rooms as roomsFor}
+use Rattle.triangles.specs.Building.{Source, source, groupsAt, trianglesAt, cellsOf, sizesOk, roomForBoth, builtAnswer, groupsHeld, held0, held1, held2, Rooms as Lent, rooms as roomsFor}
 use Rattle.triangles.proofs.Built.{groups-built, triangles-built}
 use Rattle.mesh.specs.declared.Rooms.{Rooms}
 use Rattle.mesh.specs.declared.Meshed.{Meshed}
@@ -94,24 +94,24 @@ edges-known : (e : Listed) (room : ℕ) (b : Listed) (i j : ℕ) → withEdges e
 edges-known (listed.Count n) room b i j q = let k = vertices-known n room b i j q in (ap listed.Count (k .0), omega (arith, k .0, k .1), k .2)
 edges-known (listed.Refused why) room b i j q = absurd (never why i j q)
 
-done-known : (c : Checked) (e : Listed) (room : ℕ) (b : Listed) (i j : ℕ) → answerFor c e room b ≡ Done i j → (c ≡ Passed) × (e ≡ listed.Count i) × (i ≤ room) × (b ≡ listed.Count j)
+done-known :
+    (c : Checked) (e : Listed) (room : ℕ) (b : Listed) (i j : ℕ)
+    → answerFor c e room b ≡ Done i j
+    → (c ≡ Passed) × (e ≡ listed.Count i) × (i ≤ room) × (b ≡ listed.Count j)
 unfolding answerFor
 done-known Passed e room b i j q = let k = edges-known e room b i j q in (refl, k .0, k .1, k .2)
 done-known (Rejected why) e room b i j q = absurd (never why i j q)
 
 -- the answers of the parts, where the tests passed and the edges have room
-both : (n m : ℕ) (p q : Bool) → cond p (withBuilt n (cond q (listed.Count m) (listed.Refused NoPlace))) (Refused NoPlace) ≡ cond (p && q) (Done n m) (Refused NoPlace)
+both :
+    (n m : ℕ) (p q : Bool)
+    → cond p (withBuilt n (cond q (listed.Count m) (listed.Refused NoPlace))) (Refused NoPlace) ≡ cond (p && q) (Done n m) (Refused NoPlace)
 both n m true true = refl
 both n m true false = refl
 both n m false true = refl
 both n m false false = refl
 
 -- ---- what the tests tell
-
-need-passed : (b : Bool) (why : Refusal) (rest : Checked) → need b why rest ≡ Passed → (b ≡ true) × (rest ≡ Passed)
-unfolding need
-need-passed true why rest e = (refl, e)
-need-passed false why rest e = let z : _≡_ {A = ℕ} 0 1 = cc in let un : ⊥ = omega arith in absurd un
 
 need-true : (b : Bool) (why : Refusal) (rest : Checked) → b ≡ true → need b why rest ≡ rest
 unfolding need
@@ -307,12 +307,20 @@ module _ (s : Settings) (ks : List ℕ) (ds ws : List Float) (cnt : ℕ) (r : Ro
 
     -- ---- the lists
 
-    pub first-settled : (l : List ℕ) → length f' ≡ r .first → l ≡ clearedFrom 0 (keptOf a (length f')) f' → l ≡ heldIn 0 (meshAnswer s t r) (r .first) (firsts es)
+    pub first-settled :
+        (l : List ℕ)
+        → length f' ≡ r .first
+        → l ≡ clearedFrom 0 (keptOf a (length f')) f'
+        → l ≡ heldIn 0 (meshAnswer s t r) (r .first) (firsts es)
     first-settled l long e' =
         finish 0 a (length f') f' l (firsts es) (r .first) e' long (λ i j q. cleared-past 0 f' ∙ f-held (passes i j q) (fitting i j q))
         ∙ ap (λ (w : Meshed). heldIn 0 w (r .first) (firsts es)) answer-is
 
-    pub second-settled : (l : List ℕ) → length s' ≡ r .second → l ≡ clearedFrom 0 (keptOf a (length s')) s' → l ≡ heldIn 0 (meshAnswer s t r) (r .second) (seconds es)
+    pub second-settled :
+        (l : List ℕ)
+        → length s' ≡ r .second
+        → l ≡ clearedFrom 0 (keptOf a (length s')) s'
+        → l ≡ heldIn 0 (meshAnswer s t r) (r .second) (seconds es)
     second-settled l long e' =
         finish 0 a (length s') s' l (seconds es) (r .second) e' long (λ i j q. cleared-past 0 s' ∙ s-held (passes i j q) (fitting i j q))
         ∙ ap (λ (w : Meshed). heldIn 0 w (r .second) (seconds es)) answer-is
@@ -355,27 +363,57 @@ module _ (s : Settings) (ks : List ℕ) (ds ws : List Float) (cnt : ℕ) (r : Ro
           length-map (firsts es) _ ∙ length-map es (λ (x : Edge). x .first),
         )
 
-    pub px-settled : (l l' l″ : List Float) → length l ≡ r .px → l' ≡ sets l 0 (xsOf found-vertices) → l″ ≡ clearedFrom zero32 (keptOf a n) l' → l″ ≡ heldIn zero32 (meshAnswer s t r) (r .px) (xsOf (verticesOf s t))
+    pub px-settled :
+        (l l' l″ : List Float)
+        → length l ≡ r .px
+        → l' ≡ sets l 0 (xsOf found-vertices)
+        → l″ ≡ clearedFrom zero32 (keptOf a n) l'
+        → l″ ≡ heldIn zero32 (meshAnswer s t r) (r .px) (xsOf (verticesOf s t))
     px-settled l l' l″ same wrote e' =
         column (λ (x : Vertex). x .x .0) found-vertices (verticesOf s t) l l' l″ (r .px) same (λ i j q. let k = vertices-known-as i j q in (k .0, k .1, refl)) wrote e'
 
-    pub py-settled : (l l' l″ : List Float) → length l ≡ r .py → l' ≡ sets l 0 (ysOf found-vertices) → l″ ≡ clearedFrom zero32 (keptOf a n) l' → l″ ≡ heldIn zero32 (meshAnswer s t r) (r .py) (ysOf (verticesOf s t))
+    pub py-settled :
+        (l l' l″ : List Float)
+        → length l ≡ r .py
+        → l' ≡ sets l 0 (ysOf found-vertices)
+        → l″ ≡ clearedFrom zero32 (keptOf a n) l'
+        → l″ ≡ heldIn zero32 (meshAnswer s t r) (r .py) (ysOf (verticesOf s t))
     py-settled l l' l″ same wrote e' =
         column (λ (x : Vertex). x .y .0) found-vertices (verticesOf s t) l l' l″ (r .py) same (λ i j q. let k = vertices-known-as i j q in (k .0, k .1, six (passes i j q) .0 .0)) wrote e'
 
-    pub pz-settled : (l l' l″ : List Float) → length l ≡ r .pz → l' ≡ sets l 0 (zsOf found-vertices) → l″ ≡ clearedFrom zero32 (keptOf a n) l' → l″ ≡ heldIn zero32 (meshAnswer s t r) (r .pz) (zsOf (verticesOf s t))
+    pub pz-settled :
+        (l l' l″ : List Float)
+        → length l ≡ r .pz
+        → l' ≡ sets l 0 (zsOf found-vertices)
+        → l″ ≡ clearedFrom zero32 (keptOf a n) l'
+        → l″ ≡ heldIn zero32 (meshAnswer s t r) (r .pz) (zsOf (verticesOf s t))
     pz-settled l l' l″ same wrote e' =
         column (λ (x : Vertex). x .z .0) found-vertices (verticesOf s t) l l' l″ (r .pz) same (λ i j q. let k = vertices-known-as i j q in (k .0, k .1, six (passes i j q) .0 .1)) wrote e'
 
-    pub nx-settled : (l l' l″ : List Float) → length l ≡ r .nx → l' ≡ sets l 0 (partsX found-normals) → l″ ≡ clearedFrom zero32 (keptOf a n) l' → l″ ≡ heldIn zero32 (meshAnswer s t r) (r .nx) (partsX (normals s t))
+    pub nx-settled :
+        (l l' l″ : List Float)
+        → length l ≡ r .nx
+        → l' ≡ sets l 0 (partsX found-normals)
+        → l″ ≡ clearedFrom zero32 (keptOf a n) l'
+        → l″ ≡ heldIn zero32 (meshAnswer s t r) (r .nx) (partsX (normals s t))
     nx-settled l l' l″ same wrote e' =
         column (λ (x : Normal). x .x) found-normals (normals s t) l l' l″ (r .nx) same (λ i j q. let k = normals-known-as i j q in (k .0, k .1, six (passes i j q) .1 .0)) wrote e'
 
-    pub ny-settled : (l l' l″ : List Float) → length l ≡ r .ny → l' ≡ sets l 0 (partsY found-normals) → l″ ≡ clearedFrom zero32 (keptOf a n) l' → l″ ≡ heldIn zero32 (meshAnswer s t r) (r .ny) (partsY (normals s t))
+    pub ny-settled :
+        (l l' l″ : List Float)
+        → length l ≡ r .ny
+        → l' ≡ sets l 0 (partsY found-normals)
+        → l″ ≡ clearedFrom zero32 (keptOf a n) l'
+        → l″ ≡ heldIn zero32 (meshAnswer s t r) (r .ny) (partsY (normals s t))
     ny-settled l l' l″ same wrote e' =
         column (λ (x : Normal). x .y) found-normals (normals s t) l l' l″ (r .ny) same (λ i j q. let k = normals-known-as i j q in (k .0, k .1, six (passes i j q) .1 .1)) wrote e'
 
-    pub nz-settled : (l l' l″ : List Float) → length l ≡ r .nz → l' ≡ sets l 0 (partsZ found-normals) → l″ ≡ clearedFrom zero32 (keptOf a n) l' → l″ ≡ heldIn zero32 (meshAnswer s t r) (r .nz) (partsZ (normals s t))
+    pub nz-settled :
+        (l l' l″ : List Float)
+        → length l ≡ r .nz
+        → l' ≡ sets l 0 (partsZ found-normals)
+        → l″ ≡ clearedFrom zero32 (keptOf a n) l'
+        → l″ ≡ heldIn zero32 (meshAnswer s t r) (r .nz) (partsZ (normals s t))
     nz-settled l l' l″ same wrote e' =
         column (λ (x : Normal). x .z) found-normals (normals s t) l l' l″ (r .nz) same (λ i j q. let k = normals-known-as i j q in (k .0, k .1, six (passes i j q) .1 .2)) wrote e'
 
@@ -391,7 +429,9 @@ module _ (s : Settings) (ks : List ℕ) (ds ws : List Float) (cnt : ℕ) (r : Ro
         let f = fitting i j q in
         ap (λ (w : Listed). heldFor 0 w room (found built-from)) (sym built ∙ known i j q .3) ∙ ap (padded 0 room) (ap found (src-is p f) ∙ is p f)
 
-    built-settled : (room : ℕ) (found : Source → List ℕ) (right : List ℕ) → ((p : meshCheck s t r ≡ Passed) (f : length es ≤ r .first) → found (src p f) ≡ right) →
+    built-settled :
+        (room : ℕ) (found : Source → List ℕ) (right : List ℕ)
+        → ((p : meshCheck s t r ≡ Passed) (f : length es ≤ r .first) → found (src p f) ≡ right) →
         (l l' : List ℕ) → length l ≡ room → l ≡ heldFor 0 (builtAnswer built-from (roomsFor (r .groups) (r .t0) (r .t1) (r .t2))) room (found built-from) →
         l' ≡ clearedFrom 0 (keptOf a (length l)) l → l' ≡ heldIn 0 (meshAnswer s t r) room right
     built-settled room found right is l l' long was e' =
@@ -401,14 +441,34 @@ module _ (s : Settings) (ks : List ℕ) (ds ws : List Float) (cnt : ℕ) (r : Ro
     abbrev lent : Lent
     lent = roomsFor (r .groups) (r .t0) (r .t1) (r .t2)
 
-    pub groups-settled : (l l' : List ℕ) → length l ≡ r .groups → l ≡ groupsHeld built-from lent → l' ≡ clearedFrom 0 (keptOf a (length l)) l → l' ≡ heldIn 0 (meshAnswer s t r) (r .groups) (groupsOf t)
+    pub groups-settled :
+        (l l' : List ℕ)
+        → length l ≡ r .groups
+        → l ≡ groupsHeld built-from lent
+        → l' ≡ clearedFrom 0 (keptOf a (length l)) l
+        → l' ≡ heldIn 0 (meshAnswer s t r) (r .groups) (groupsOf t)
     groups-settled l l' long was e' = built-settled (r .groups) (λ (x : Source). groupsAt x (cellsOf x)) (groupsOf t) (λ p f. groups-are p f) l l' long was e'
 
-    pub t0-settled : (l l' : List ℕ) → length l ≡ r .t0 → l ≡ held0 built-from lent → l' ≡ clearedFrom 0 (keptOf a (length l)) l → l' ≡ heldIn 0 (meshAnswer s t r) (r .t0) (column0 (trianglesOf t))
+    pub t0-settled :
+        (l l' : List ℕ)
+        → length l ≡ r .t0
+        → l ≡ held0 built-from lent
+        → l' ≡ clearedFrom 0 (keptOf a (length l)) l
+        → l' ≡ heldIn 0 (meshAnswer s t r) (r .t0) (column0 (trianglesOf t))
     t0-settled l l' long was e' = built-settled (r .t0) (λ (x : Source). column0 (trianglesAt x (cellsOf x))) (column0 (trianglesOf t)) (λ p f. ap column0 (triangles-are p f)) l l' long was e'
 
-    pub t1-settled : (l l' : List ℕ) → length l ≡ r .t1 → l ≡ held1 built-from lent → l' ≡ clearedFrom 0 (keptOf a (length l)) l → l' ≡ heldIn 0 (meshAnswer s t r) (r .t1) (column1 (trianglesOf t))
+    pub t1-settled :
+        (l l' : List ℕ)
+        → length l ≡ r .t1
+        → l ≡ held1 built-from lent
+        → l' ≡ clearedFrom 0 (keptOf a (length l)) l
+        → l' ≡ heldIn 0 (meshAnswer s t r) (r .t1) (column1 (trianglesOf t))
     t1-settled l l' long was e' = built-settled (r .t1) (λ (x : Source). column1 (trianglesAt x (cellsOf x))) (column1 (trianglesOf t)) (λ p f. ap column1 (triangles-are p f)) l l' long was e'
 
-    pub t2-settled : (l l' : List ℕ) → length l ≡ r .t2 → l ≡ held2 built-from lent → l' ≡ clearedFrom 0 (keptOf a (length l)) l → l' ≡ heldIn 0 (meshAnswer s t r) (r .t2) (column2 (trianglesOf t))
+    pub t2-settled :
+        (l l' : List ℕ)
+        → length l ≡ r .t2
+        → l ≡ held2 built-from lent
+        → l' ≡ clearedFrom 0 (keptOf a (length l)) l
+        → l' ≡ heldIn 0 (meshAnswer s t r) (r .t2) (column2 (trianglesOf t))
     t2-settled l l' long was e' = built-settled (r .t2) (λ (x : Source). column2 (trianglesAt x (cellsOf x))) (column2 (trianglesOf t)) (λ p f. ap column2 (triangles-are p f)) l l' long was e'

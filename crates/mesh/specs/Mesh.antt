@@ -14,15 +14,15 @@ use Rattle.table.specs.Table.{Table, rows, settingsOk, need, tableCheck}
 use Rattle.table.specs.declared.Settings.{Settings}
 use Rattle.table.specs.declared.Checked.{Checked}
 use Rattle.table.specs.declared.Checked.the-variants as checked
-use Rattle.edges.specs.Rows.{keysOf}
+use Rattle.table.specs.Rows.{keysOf}
 use Rattle.edges.specs.Edges.{Edge}
 use Rattle.edges.specs.ZeroCrossing.{zeroCrossingEdges}
 use Rattle.edges.specs.Listing.{firsts, seconds, outputsOk}
-use Rattle.vertices.specs.declared.Vertex.{Vertex}
-use Rattle.vertices.specs.declared.Normal.{Normal}
-use Rattle.vertices.specs.Stored.{distanceIn}
-use Rattle.vertices.specs.Vertices.{vertexAt, xsOf, ysOf, zsOf}
-use Rattle.vertices.specs.Normals.{normalsOf, partsX, partsY, partsZ}
+use Rattle.slopes.specs.declared.Vertex.{Vertex}
+use Rattle.slopes.specs.declared.Normal.{Normal}
+use Rattle.vertices.specs.StoredRows.{distanceIn}
+use Rattle.slopes.specs.Vertices.{vertexAt, xsOf, ysOf, zsOf}
+use Rattle.slopes.specs.Normals.{normalsOf, partsX, partsY, partsZ}
 use Rattle.groups.specs.Groups.{groups}
 use Rattle.triangles.specs.Threes.{Three, column0, column1, column2}
 use Rattle.triangles.specs.Triangles.{triangles}

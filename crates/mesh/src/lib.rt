@@ -1,4 +1,5 @@
 // The mesh of a table (src/layers/mesh.rs, extract_mesh_from_tsdf): edges, vertices with normals, groups and triangles.
+use lists::LONGEST_LIST;
 use lists::Listed;
 use refusals::Refusal;
 use table::Checked;
@@ -9,9 +10,6 @@ ghost use Rattle.lists.specs.Places.{zeroF, clearedFrom};
 ghost use Rattle.table.specs.Table.{table};
 ghost use Rattle.mesh.specs.Mesh.{rooms as roomsOf, roomsOk, meshCheck, IsMesh};
 ghost use Rattle.mesh.specs.Steps.{withBuilt, withVertices, withEdges, answerFor, keptOf};
-
-// The longest list that is filled.
-const LONGEST_LIST: usize = 1_048_576;
 
 // What is answered to a mesh: how many edges, which are as many vertices, and how many triangles; or why it is refused.
 pub enum Meshed {

@@ -10,11 +10,8 @@ use Rattle.lists.specs.Listing.{roomFor, heldFor}
 use Rattle.lists.specs.declared.Listed.{Listed}
 use Rattle.lists.specs.declared.Listed.the-variants as listed
 use Rattle.refusals.specs.declared.Refusal.the-variants.{Lengths, OffLattice}
-use Rattle.refusals.specs.Refusals.{numberOf}
 use Rattle.neighbors.specs.declared.Cell.{Cell}
 use Rattle.neighbors.specs.declared.Cell.the-variants as cell
-use Rattle.neighbors.specs.declared.Neighbor.{Neighbor}
-use Rattle.neighbors.specs.declared.Neighbor.the-variants as neighbor
 use Rattle.neighbors.specs.declared.Near.{Near}
 
 -- a step of -2 to 2 along an axis, kept 2 larger so that it is a whole number
@@ -96,24 +93,6 @@ oneStep a b c =
 unfoldable pub adjacent : ℕ → ℕ → Bool
 adjacent k l =
     eqb (headOf k) (headOf l) && oneStep (apart (xOf k) (xOf l)) (apart (yOf k) (yOf l)) (apart (zOf k) (zOf l))
-
--- the answer for a cell
-unfoldable pub answerOf : Cell → Neighbor
-answerOf (cell.At key) = neighbor.At key
-answerOf cell.Outside = neighbor.Outside
-
--- the neighbour by the offset at a place; past the 14 there is none
-unfoldable pub neighborAt : ℕ → ℕ → Neighbor
-neighborAt key place =
-    cond (onLattice key)
-    (cond (ltb place 14) (answerOf (reached key (offsetAt place))) neighbor.Outside)
-    (neighbor.Refused OffLattice)
-
--- document 01's number of an answer, 0 where it is no refusal
-abbrev pub neighborNumber : Neighbor → ℕ
-neighborNumber (neighbor.At key) = 0
-neighborNumber neighbor.Outside = 0
-neighborNumber (neighbor.Refused why) = numberOf why
 
 -- the answer to a list of `room` places: 2 past 1,048,576 places, 4 off the lattice, 6 where the neighbours have no place
 unfoldable pub listedOf : ℕ → ℕ → Listed

@@ -1,4 +1,5 @@
 // The neighbours of a key (src/neighbors.rs, neighbors_index64; src/lattice.rs, BCC_NEIGHBORS_14).
+use lists::LONGEST_LIST;
 use lists::Listed;
 use refusals::Refusal;
 ghost use mathlib.Core.Path.{_≡_};
@@ -7,18 +8,8 @@ ghost use mathlib.Core.List.{map};
 ghost use lib.ListN.{length, take};
 ghost use Rattle.ids.specs.Morton.{gather};
 ghost use Rattle.lists.specs.Padding.{padded};
-ghost use Rattle.neighbors.specs.Neighbors.{
-  offsets,
-  neighbours,
-  neighborAt,
-  listedOf,
-  listingOf,
-  nearOf,
-};
+ghost use Rattle.neighbors.specs.Neighbors.{offsets, neighbours, listedOf, listingOf, nearOf};
 ghost use Rattle.neighbors.specs.Steps.{stepsAlong, Narrow, joinOf, lowOf, cellOf};
-
-// The longest list that is taken.
-const MAX_PLACES: usize = 1_048_576;
 
 // Where the head begins.
 const HEAD: u64 = 0x1_0000_0000_0000;
@@ -41,13 +32,6 @@ struct Along {
 enum Cell {
     At(u64),
     Outside,
-}
-
-// The neighbour at a place.
-pub enum Neighbor {
-    At(u64),
-    Outside,
-    Refused(Refusal),
 }
 
 // The neighbours by value: a room of 14, and how many there are.
@@ -115,23 +99,6 @@ fn cell_of(key: u64, low: u64) -> Cell
     }
 }
 
-// The neighbour at a place of the 14; past them there is none.
-pub fn neighbor_at(key: u64, place: usize) -> Neighbor
-    ensures { λ r. ⌜ r ≡ neighborAt key place ⌝ }
-{
-    if !ids::is_on_lattice(key) {
-        return Neighbor::Refused(Refusal::OffLattice);
-    }
-    if 14 <= place {
-        return Neighbor::Outside;
-    }
-    let parts = lower_parts(key);
-    match cell_of(key, parts[place]) {
-        Cell::At(k) => Neighbor::At(k),
-        Cell::Outside => Neighbor::Outside,
-    }
-}
-
 // The cells that the 14 offsets lead to from a key, on the lattice or not.
 pub fn around(key: u64) -> Near
     ensures { λ r. ⌜ r ≡ nearOf key ⌝ }
@@ -172,7 +139,7 @@ fn answer(key: u64, count: usize, room: usize) -> Listed
     requires { ⌜ count ≡ length (neighbours key) ⌝ }
     ensures { λ r. ⌜ r ≡ listedOf key room ⌝ }
 {
-    if MAX_PLACES < room {
+    if LONGEST_LIST < room {
         return Listed::Refused(Refusal::Lengths);
     }
     if !ids::is_on_lattice(key) {

@@ -1,4 +1,3 @@
-pub mod Sets
 pub mod AreaLaws
 pub mod BoxLaws
 pub mod Samples

@@ -11,27 +11,38 @@ use Rattle.lists.proofs.Bools.{and-first, and-second, and-eq}
 use Rattle.floats.specs.Floats.{thousand, sizeOf, isFinite, within, positiveTo}
 use Rattle.floats.proofs.Order.{within-size}
 use Rattle.root.specs.Root.{rootOf}
-use Rattle.vertices.specs.declared.Vertex.{Vertex}
-use Rattle.vertices.specs.Vertices.{half, vertexOf, vertexAt, verticesOf}
-use Rattle.vertices.specs.Stored.{Lookup, orZero}
-use Rattle.vertices.specs.Normals.{squares, lengthOf}
+use Rattle.slopes.specs.declared.Vertex.{Vertex}
+use Rattle.slopes.specs.Vertices.{half, vertexOf, vertexAt, verticesOf}
+use Rattle.slopes.specs.Stored.{Lookup, orZero}
+use Rattle.slopes.specs.Normals.{squares}
 use Rattle.floats.proofs.Sizes.{Small, Held, true-is, le-of, small-wider, mul-small, sub-small, small-finite}
-use Rattle.vertices.proofs.LengthLaws.{length-root}
-use Rattle.vertices.proofs.Reach.{vertex-within}
+use Rattle.slopes.proofs.LengthLaws.{length-root}
+use Rattle.slopes.proofs.Reach.{vertex-within}
 use Rattle.surfaces.specs.declared.Arrow.{Arrow}
-use Rattle.surfaces.specs.Corners.{every, farthest, vertexOk}
+use Rattle.corners.specs.Corners.{every, farthest, vertexOk}
 use Rattle.surfaces.specs.Areas.{arrowOf, crossOf, areaBetween}
 
 -- ---- a vertex of an accepted table passes
 
 -- at an accepted voxel size, and between finite distances, the test of 10 lets the vertex pass
-pub made-vertex-ok : (size : Float) → positiveTo thousand size ≡ true → (k1 : ℕ) (d1 : Float) (k2 : ℕ) (d2 : Float) → isFinite d1 ≡ true → vertexOk (vertexOf size k1 d1 k2 d2) ≡ true
+pub made-vertex-ok :
+    (size : Float)
+    → positiveTo thousand size ≡ true
+    → (k1 : ℕ) (d1 : Float) (k2 : ℕ) (d2 : Float)
+    → isFinite d1 ≡ true
+    → vertexOk (vertexOf size k1 d1 k2 d2) ≡ true
 made-vertex-ok size s k1 d1 k2 d2 f =
     let w = vertex-within size s k1 d1 k2 d2 f in
     and-eq (w .0) (and-eq (w .1) (w .2))
 
 -- so every vertex of a mesh passes, and area and box never refuse it with 10 (finite distances: stored-finite of vertices)
-pub mesh-ok : (size : Float) → positiveTo thousand size ≡ true → (look : Lookup) → ((k : ℕ) → isFinite (orZero (look k)) ≡ true) → (ks ls : List ℕ) → every vertexOk (verticesOf look size ks ls) ≡ true
+pub mesh-ok :
+    (size : Float)
+    → positiveTo thousand size ≡ true
+    → (look : Lookup)
+    → ((k : ℕ) → isFinite (orZero (look k)) ≡ true)
+    → (ks ls : List ℕ)
+    → every vertexOk (verticesOf look size ks ls) ≡ true
 unfolding every verticesOf vertexAt
 mesh-ok size s look f [] ls = refl
 mesh-ok size s look f (k ∷ ks) [] = refl
@@ -57,7 +68,13 @@ arrow-small x y p q =
     (sub-small 100000000 100000000 x y (record { q = 1562500; j = 7; is = refl; digits = lit< tt; places = lit≤ tt }) (small-of x (sym (within-size farthest x) ∙ p)) (small-of y (sym (within-size farthest y) ∙ q)))
     (lit≤ tt)
 
-cross-finite : (a b c d : Float) → Small (2 ^ 28) a → Small (2 ^ 28) b → Small (2 ^ 28) c → Small (2 ^ 28) d → isFinite (sub binary32 (mul binary32 a b) (mul binary32 c d)) ≡ true
+cross-finite :
+    (a b c d : Float)
+    → Small (2 ^ 28) a
+    → Small (2 ^ 28) b
+    → Small (2 ^ 28) c
+    → Small (2 ^ 28) d
+    → isFinite (sub binary32 (mul binary32 a b) (mul binary32 c d)) ≡ true
 cross-finite a b c d p q r s =
     let h : Held (2 ^ 28 * 2 ^ 28) = record { q = 1; j = 56; is = refl; digits = lit< tt; places = lit≤ tt } in
     small-finite (2 ^ 28 * 2 ^ 28 + 2 ^ 28 * 2 ^ 28) (sub binary32 (mul binary32 a b) (mul binary32 c d))

@@ -7,7 +7,7 @@ use Rattle.floats.specs.Floats.{zero32}
 use Rattle.surfaces.specs.declared.Area.the-variants.{Square}
 use Rattle.surfaces.specs.declared.Bounds.the-variants.{Absent}
 use Rattle.surfaces.specs.declared.MeshStats.the-variants.{HasNormals}
-use Rattle.surfaces.specs.Corners.{beside, every}
+use Rattle.corners.specs.Corners.{beside, every}
 use Rattle.surfaces.specs.Areas.{areaFrom, areaAnswer}
 use Rattle.surfaces.specs.Boxes.{boxOf, boxAnswer}
 use Rattle.surfaces.specs.Stats.{statsAnswer}

@@ -7,13 +7,13 @@ use lib.Ieee.{Float, binary32, add, sub, mul}
 use Rattle.floats.specs.Floats.{zero32}
 use Rattle.refusals.specs.Refusals.{numberOf}
 use Rattle.refusals.specs.declared.Refusal.the-variants.{Lengths, BadVertex}
-use Rattle.vertices.specs.declared.Vertex.{Vertex}
-use Rattle.vertices.specs.Vertices.{half}
-use Rattle.vertices.specs.Normals.{lengthOf}
+use Rattle.slopes.specs.declared.Vertex.{Vertex}
+use Rattle.slopes.specs.Vertices.{half}
+use Rattle.slopes.specs.Normals.{lengthOf}
 use Rattle.surfaces.specs.declared.Arrow.{Arrow}
 use Rattle.surfaces.specs.declared.Area.{Area}
 use Rattle.surfaces.specs.declared.Area.the-variants.{Square, Refused}
-use Rattle.surfaces.specs.Corners.{setOk, every, vertex, verticesIn, vertexOk, Triangle, trianglesIn, triangleOk}
+use Rattle.corners.specs.Corners.{setOk, every, vertex, verticesIn, vertexOk, Triangle, trianglesIn, triangleOk}
 
 -- from one vertex to another
 unfoldable pub arrowOf : Vertex → Vertex → Arrow

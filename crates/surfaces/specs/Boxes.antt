@@ -7,10 +7,10 @@ use lib.Ieee.{Float}
 use Rattle.floats.specs.Floats.{smallerOf, largerOf}
 use Rattle.refusals.specs.Refusals.{numberOf, absentNumber}
 use Rattle.refusals.specs.declared.Refusal.the-variants.{Lengths, BadVertex}
-use Rattle.vertices.specs.declared.Vertex.{Vertex}
+use Rattle.slopes.specs.declared.Vertex.{Vertex}
 use Rattle.surfaces.specs.declared.Bounds.{Bounds}
 use Rattle.surfaces.specs.declared.Bounds.the-variants.{Corners, Absent, Refused}
-use Rattle.surfaces.specs.Corners.{setOk, every, vertex, verticesIn, vertexOk}
+use Rattle.corners.specs.Corners.{setOk, every, vertex, verticesIn, vertexOk}
 
 -- the smaller coordinates of two vertices, and the larger
 unfoldable pub lowerOf : Vertex → Vertex → Vertex

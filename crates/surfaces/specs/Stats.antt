@@ -7,11 +7,11 @@ use lib.Ieee.{Float, eq}
 use Rattle.floats.specs.Floats.{zero32}
 use Rattle.refusals.specs.Refusals.{numberOf}
 use Rattle.refusals.specs.declared.Refusal.the-variants.{Lengths}
-use Rattle.vertices.specs.declared.Normal.{Normal}
-use Rattle.vertices.specs.Normals.{normal}
+use Rattle.slopes.specs.declared.Normal.{Normal}
+use Rattle.slopes.specs.Normals.{normal}
 use Rattle.surfaces.specs.declared.MeshStats.{MeshStats}
 use Rattle.surfaces.specs.declared.MeshStats.the-variants.{HasNormals, Refused}
-use Rattle.surfaces.specs.Corners.{setOk, beside, every}
+use Rattle.corners.specs.Corners.{setOk, beside, every}
 
 -- the normals of the first n places
 abbrev pub normalsIn : List Float → List Float → List Float → ℕ → List Normal

@@ -1,25 +1,24 @@
 // Area, box and statistics of a mesh (src/layers/mesh.rs).
+use corners::set_ok;
+use corners::triangles_ok;
+use corners::vertices_ok;
 use floats::Metres;
 use floats::larger;
 use floats::smaller;
-use floats::within;
 use refusals::Refusal;
-use vertices::Vertex;
+use slopes::Vertex;
 ghost use mathlib.Core.Path.{_≡_};
 ghost use mathlib.Core.Bool.{true};
 ghost use Prim.Native.Nat.{_<_};
 ghost use lib.ListN.{length, getD};
 ghost use lib.Ieee.{nan};
 ghost use Rattle.floats.specs.Floats.{zero32};
-ghost use Rattle.vertices.specs.Normals.{normal};
-ghost use Rattle.surfaces.specs.Corners.{setOk, every, vertex, verticesIn, vertexOk, triangle, trianglesIn, triangleOk};
+ghost use Rattle.slopes.specs.Normals.{normal};
+ghost use Rattle.corners.specs.Corners.{every, vertex, verticesIn, trianglesIn, triangleOk};
 ghost use Rattle.surfaces.specs.Areas.{arrowOf, crossOf, areaBetween, areaFrom, areaAnswer};
 ghost use Rattle.surfaces.specs.Boxes.{lowerOf, upperOf, boxOf, boxAnswer};
 ghost use Rattle.surfaces.specs.Stats.{isNone, normalsIn, statsAnswer};
-ghost use Rattle.surfaces.specs.Steps.{Lent};
-
-// The longest list that is taken.
-const LONGEST: usize = 1_048_576;
+ghost use Rattle.corners.specs.Steps.{Lent};
 
 // From one vertex to another.
 struct Arrow {
@@ -45,57 +44,6 @@ pub enum Bounds {
 pub enum MeshStats {
     HasNormals(bool),
     Refused(Refusal),
-}
-
-// Three lists of equal length within the limit, and no more entries than places.
-fn set_ok(a: usize, b: usize, c: usize, n: usize) -> bool
-    ensures { λ r. ⌜ r ≡ setOk a b c n ⌝ }
-{
-    (a == b) & ((a == c) & ((a <= LONGEST) & (n <= a)))
-}
-
-// A vertex is in its range.
-fn vertex_ok(x: f32, y: f32, z: f32) -> bool
-    ensures { λ r. ⌜ r ≡ vertexOk (vertex x y z) ⌝ }
-{
-    within(100000000.0, x) & (within(100000000.0, y) & within(100000000.0, z))
-}
-
-// Every vertex is in its range.
-fn vertices_ok(px: &[f32], py: &[f32], pz: &[f32], vertices: usize) -> bool
-    requires { ⌜ Lent (now px) (now py) (now pz) vertices ⌝ }
-    ensures { λ r. ⌜ r ≡ every vertexOk (verticesIn (now (px .entry)) (now (py .entry)) (now (pz .entry)) vertices) ⌝ }
-{
-    let mut i = 0;
-    while i < vertices {
-        if !vertex_ok(px[i], py[i], pz[i]) {
-            return false;
-        }
-        i += 1;
-    }
-    true
-}
-
-// A triangle names three of so many vertices.
-fn triangle_ok(vertices: usize, a: u32, b: u32, c: u32) -> bool
-    ensures { λ r. ⌜ r ≡ triangleOk vertices (triangle a b c) ⌝ }
-{
-    ((a as usize) < vertices) & (((b as usize) < vertices) & ((c as usize) < vertices))
-}
-
-// Every triangle names three vertices.
-fn triangles_ok(vertices: usize, t0: &[u32], t1: &[u32], t2: &[u32], triangles: usize) -> bool
-    requires { ⌜ Lent (now t0) (now t1) (now t2) triangles ⌝ }
-    ensures { λ r. ⌜ r ≡ every (triangleOk vertices) (trianglesIn (now (t0 .entry)) (now (t1 .entry)) (now (t2 .entry)) triangles) ⌝ }
-{
-    let mut i = 0;
-    while i < triangles {
-        if !triangle_ok(vertices, t0[i], t1[i], t2[i]) {
-            return false;
-        }
-        i += 1;
-    }
-    true
 }
 
 // From one vertex to another.
@@ -125,7 +73,7 @@ fn area_between(v0: Vertex, v1: Vertex, v2: Vertex) -> f32
     ensures { λ r. ⌜ r ≡ areaBetween v0 v1 v2 ⌝ }
 {
     let c = cross_of(arrow_of(v0, v1), arrow_of(v0, v2));
-    0.5 * vertices::length(c.x, c.y, c.z)
+    0.5 * slopes::length(c.x, c.y, c.z)
 }
 
 // The vertex at a place.

@@ -1,22 +1,23 @@
 -- What a table that passed the tests is: each test that passed says its own part.
 -- Assumes nothing.
-use mathlib.Core.Path.{_≡_, refl}
+use mathlib.Core.Path.{_≡_, refl, sym}
 use mathlib.Core.Bool.{Bool, true, false}
 use Prim.Native.Nat.{ℕ}
 use native.Mathlib.Omega.{arith}
 use lib.ListN.{length, take}
 use Rattle.lists.proofs.Bools.{and-first, and-second}
 use Rattle.refusals.specs.declared.Refusal.{Refusal}
+use Rattle.refusals.specs.declared.Refusal.the-variants.{Setting, Lengths, BadRow, NoPlace}
 use Rattle.table.specs.declared.Settings.{Settings}
 use Rattle.table.specs.declared.Checked.{Checked}
-use Rattle.table.specs.declared.Checked.the-variants.{Passed}
-use Rattle.table.specs.Keys.{ascending}
+use Rattle.table.specs.declared.Checked.the-variants.{Passed, Refused}
+use Rattle.search.specs.Keys.{ascending}
 use Rattle.table.specs.Table.{Table, settingsOk, lengthsOk, rows, rowsOk, tableOk, need, tableCheck}
 
-pub passed : (b : Bool) (why : Refusal) (rest : Checked) → need b why rest ≡ Passed → (b ≡ true) × (rest ≡ Passed)
+pub need-passed : (b : Bool) (why : Refusal) (rest : Checked) → need b why rest ≡ Passed → (b ≡ true) × (rest ≡ Passed)
 unfolding need
-passed true why rest e = (refl, e)
-passed false why rest e = let z : _≡_ {A = ℕ} 0 1 = cc in absurd (omega arith)
+need-passed true why rest e = (refl, e)
+need-passed false why rest e = let z : _≡_ {A = ℕ} 0 1 = cc in absurd (omega arith)
 
 -- settings in range, lists of equal length, rows in range, and ascending keys
 pub record Sound (s : Settings) (t : Table) : Type 0 where
@@ -28,12 +29,39 @@ pub record Sound (s : Settings) (t : Table) : Type 0 where
 pub sound : (s : Settings) (t : Table) → tableCheck s t ≡ Passed → Sound s t
 unfolding tableCheck
 sound s t e =
-    let a = passed (settingsOk s) _ _ e in
-    let b = passed (lengthsOk (length (t .keys)) (length (t .distances)) (length (t .weights)) (t .count)) _ _ (a .1) in
-    let c = passed (tableOk (s .«max_weight») t) _ _ (b .1) in
+    let a = need-passed (settingsOk s) _ _ e in
+    let b = need-passed (lengthsOk (length (t .keys)) (length (t .distances)) (length (t .weights)) (t .count)) _ _ (a .1) in
+    let c = need-passed (tableOk (s .«max_weight») t) _ _ (b .1) in
     record {
       settings = a .0;
       lengths = b .0;
       ranges = and-first _ _ (c .0);
       order = and-second (rowsOk (s .«max_weight») (rows t)) _ (c .0);
     }
+
+-- ---- no test answers 6
+
+pub not-passed : (why : Refusal) → Refused why ≡ Passed → ⊥
+not-passed why e = let z : _≡_ {A = ℕ} 0 1 = cc in omega arith
+
+other-refusal : (b : Bool) (why : Refusal) (rest : Checked) → (why ≡ NoPlace → ⊥) → (rest ≡ Refused NoPlace → ⊥) → need b why rest ≡ Refused NoPlace → ⊥
+unfolding need
+other-refusal true why rest h g e = g e
+other-refusal false why rest h g e = h (cc)
+
+-- a test that answers 1, 2 or 3 adds no 6
+pub setting-spares : (b : Bool) (rest : Checked) → (rest ≡ Refused NoPlace → ⊥) → need b Setting rest ≡ Refused NoPlace → ⊥
+setting-spares b rest = other-refusal b Setting rest (λ e. let z : _≡_ {A = ℕ} 0 1 = cc in omega arith)
+
+pub lengths-spare : (b : Bool) (rest : Checked) → (rest ≡ Refused NoPlace → ⊥) → need b Lengths rest ≡ Refused NoPlace → ⊥
+lengths-spare b rest = other-refusal b Lengths rest (λ e. let z : _≡_ {A = ℕ} 0 1 = cc in omega arith)
+
+pub row-spares : (b : Bool) (rest : Checked) → (rest ≡ Refused NoPlace → ⊥) → need b BadRow rest ≡ Refused NoPlace → ⊥
+row-spares b rest = other-refusal b BadRow rest (λ e. let z : _≡_ {A = ℕ} 0 1 = cc in omega arith)
+
+pub table-spares : (s : Settings) (t : Table) → tableCheck s t ≡ Refused NoPlace → ⊥
+unfolding tableCheck
+table-spares s t =
+    setting-spares (settingsOk s) _
+    (lengths-spare (lengthsOk (length (t .keys)) (length (t .distances)) (length (t .weights)) (t .count)) _
+    (row-spares (tableOk (s .«max_weight») t) _ (λ e. not-passed NoPlace (sym e))))

@@ -5,9 +5,6 @@ use Rattle.table.proofs.Settings.new.Reads as new
 use Rattle.table.proofs.settings_ok.Reads as settings_ok
 use Rattle.table.proofs.lengths_ok.Reads as lengths_ok
 use Rattle.table.proofs.check_table.Reads as check_table
-use Rattle.table.proofs.place_of.Reads as place_of
-use Rattle.table.proofs.find_row.Reads as find_row
-use Rattle.table.proofs.nearby.find_above.Reads as find_above
 
 pub new-determined : (κs : _) (a : _) (r r' : _) (s s' : _) → new.Post κs a r s → new.Post κs a r' s' → r ≡ r'
 new-determined κs a r r' s s' p q = p ∙ sym q
@@ -20,12 +17,3 @@ lengths-ok-determined κs a r r' s s' p q = p ∙ sym q
 
 pub check-table-determined : (κs : _) (a : _) (r r' : _) (s s' : _) → check_table.Post κs a r s → check_table.Post κs a r' s' → r ≡ r'
 check-table-determined κs a r r' s s' p q = p ∙ sym q
-
-pub place-of-determined : (κs : _) (a : _) (r r' : _) (s s' : _) → place_of.Post κs a r s → place_of.Post κs a r' s' → r ≡ r'
-place-of-determined κs a r r' s s' p q = p ∙ sym q
-
-pub find-row-determined : (κs : _) (a : _) (r r' : _) (s s' : _) → find_row.Post κs a r s → find_row.Post κs a r' s' → r ≡ r'
-find-row-determined κs a r r' s s' p q = p ∙ sym q
-
-pub find-above-determined : (κs : _) (a : _) (r r' : _) (s s' : _) → find_above.Post κs a r s → find_above.Post κs a r' s' → r ≡ r'
-find-above-determined κs a r r' s s' p q = p ∙ sym q

@@ -1,7 +1,7 @@
 -- A row in range, put into a table that passes, leaves a table that passes: the other rows stand, and the keys still ascend.
 -- Assumes nothing.
 use mathlib.Core.Path.{_≡_, refl, sym, ap}
-use mathlib.Core.Bool.{Bool, true, false, cond}
+use mathlib.Core.Bool.{Bool, true, cond}
 use mathlib.Core.List.{List, [], _∷_, _++_}
 use Prim.Native.Nat.{ℕ, zero, suc, _<_, _≤_, zero-le, suc-le-suc}
 use native.Mathlib.Nat.{not-suc-le-zero, le-of-suc-le-suc}
@@ -16,16 +16,21 @@ use Rattle.ids.specs.Key.{onLattice}
 use Rattle.lists.proofs.Bools.{and-first, and-second, cases}
 use Rattle.table.specs.declared.Settings.{Settings}
 use Rattle.table.specs.declared.Checked.the-variants.{Passed}
-use Rattle.table.specs.Keys.{risesFrom, ascending}
+use Rattle.search.specs.Keys.{risesFrom, ascending}
 use Rattle.table.specs.Table.{Row, Table, beside, rowsOf, rows, put, laid, relaid, rowOk, rowsOk, lengthsOk, need, tableCheck}
 use Rattle.table.proofs.RowLaws.{lengths-known}
-use Rattle.table.proofs.Laying.{keysOf, distancesOf, weightsOf}
+use Rattle.table.specs.Rows.{keysOf}
+use Rattle.table.proofs.Laying.{distancesOf, weightsOf}
 use Rattle.table.proofs.Checking.{sound}
 
 -- ---- putting a row
 
 -- rows in range with one in range
-pub put-rowsOk : (most : Float) (r : Row) (rs : List Row) → rowOk most (r .key) (r .distance) (r .weight) ≡ true → rowsOk most rs ≡ true → rowsOk most (put r rs) ≡ true
+pub put-rowsOk :
+    (most : Float) (r : Row) (rs : List Row)
+    → rowOk most (r .key) (r .distance) (r .weight) ≡ true
+    → rowsOk most rs ≡ true
+    → rowsOk most (put r rs) ≡ true
 unfolding put rowsOk
 put-rowsOk most r [] h g = rw h
 put-rowsOk most r (s ∷ rs) h g =
@@ -91,7 +96,13 @@ lengths-say : (a b c n : ℕ) → n ≤ a → b ≡ a → c ≡ a → a ≤ 6553
 lengths-say a b c n h p q g = rw (eq-eqb a b (sym p), eq-eqb a c (sym q), le-leb a 65536 g, le-leb n a h)
 
 -- a table that passes, with other rows that pass
-pub relaid-check : (s : Settings) (t : Table) (rs : List Row) → tableCheck s t ≡ Passed → length rs ≤ length (t .keys) → rowsOk (s .«max_weight») rs ≡ true → ascending (keysOf rs) ≡ true → tableCheck s (relaid t rs) ≡ Passed
+pub relaid-check :
+    (s : Settings) (t : Table) (rs : List Row)
+    → tableCheck s t ≡ Passed
+    → length rs ≤ length (t .keys)
+    → rowsOk (s .«max_weight») rs ≡ true
+    → ascending (keysOf rs) ≡ true
+    → tableCheck s (relaid t rs) ≡ Passed
 unfolding tableCheck need relaid
 relaid-check s t rs e h g a =
     let k = sound s t e in

@@ -12,16 +12,14 @@ use lib.ListN.{length, getD, take, drop, set, length-map, length-set, length-app
 use lib.Seq.{length-take-le, set-append-left, take-take}
 use lib.Ieee.{Float}
 use Rattle.lists.specs.Places.{opened}
-use Rattle.table.specs.declared.Found.the-variants.{Absent}
-use Rattle.table.specs.Keys.{find, placeOf, ascending}
+use Rattle.search.specs.declared.Found.the-variants.{Absent}
+use Rattle.search.specs.Keys.{find, placeOf, ascending}
 use Rattle.table.specs.Table.{Row, beside, rowsOf, put, laid}
+use Rattle.table.specs.Rows.{keysOf}
 use Rattle.lists.proofs.Bools.{cases}
-use Rattle.table.proofs.KeyLaws.{first-below, tail-ascends, absent-differs}
+use Rattle.search.proofs.KeyLaws.{first-below, tail-ascends, absent-differs}
 
 -- ---- the columns of the rows are the lists
-
-abbrev pub keysOf : List Row → List ℕ
-keysOf rs = map (λ (r : Row). r .key) rs
 
 abbrev pub distancesOf : List Row → List Float
 distancesOf rs = map (λ (r : Row). r .distance) rs
@@ -29,7 +27,11 @@ distancesOf rs = map (λ (r : Row). r .distance) rs
 abbrev pub weightsOf : List Row → List Float
 weightsOf rs = map (λ (r : Row). r .weight) rs
 
-pub columns : (ks : List ℕ) (ds ws : List Float) (n : ℕ) → length ds ≡ length ks → length ws ≡ length ks → (keysOf (rowsOf ks ds ws n) ≡ take n ks) × (distancesOf (rowsOf ks ds ws n) ≡ take n ds) × (weightsOf (rowsOf ks ds ws n) ≡ take n ws)
+pub columns :
+    (ks : List ℕ) (ds ws : List Float) (n : ℕ)
+    → length ds ≡ length ks
+    → length ws ≡ length ks
+    → (keysOf (rowsOf ks ds ws n) ≡ take n ks) × (distancesOf (rowsOf ks ds ws n) ≡ take n ds) × (weightsOf (rowsOf ks ds ws n) ≡ take n ws)
 unfolding beside
 columns ks ds ws zero p q = (refl, refl, refl)
 columns [] [] [] (suc n) p q = (refl, refl, refl)
@@ -53,7 +55,10 @@ put-set r (s ∷ rs) (suc i) a h e =
     rw (lt-ltb (s .key) (r .key) l) (ap {B = List Row} (λ t. s ∷ t) (put-set r rs i (tail-ascends (s .key) (keysOf rs) a) (le-of-suc-le-suc h) e))
 
 -- as a new row
-pub put-open : (r : Row) (rs : List Row) → find (r .key) (keysOf rs) ≡ Absent → put r rs ≡ take (placeOf (r .key) (keysOf rs)) rs ++ r ∷ drop (placeOf (r .key) (keysOf rs)) rs
+pub put-open :
+    (r : Row) (rs : List Row)
+    → find (r .key) (keysOf rs) ≡ Absent
+    → put r rs ≡ take (placeOf (r .key) (keysOf rs)) rs ++ r ∷ drop (placeOf (r .key) (keysOf rs)) rs
 unfolding put placeOf
 put-open r [] a = refl
 put-open r (s ∷ rs) a =

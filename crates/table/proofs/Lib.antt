@@ -1,8 +1,7 @@
-pub mod KeyLaws
 pub mod RowLaws
 pub mod Laying
 pub mod Checking
 pub mod Putting
 pub mod Keeping
 pub mod Determined
-pub mod NearbyLaws
+pub mod StoredLaws

@@ -11,10 +11,10 @@ use lib.ListN.{length, take, drop, set, length-map, length-set, length-append, l
 use lib.Seq.{length-take-le, getD-take, set-getD}
 use lib.Ieee.{Float}
 use Rattle.lists.specs.Places.{opened, inserted}
-use Rattle.table.specs.declared.Found.the-variants.{At, Absent}
-use Rattle.table.specs.Keys.{ascending, find, placeOf}
+use Rattle.search.specs.declared.Found.the-variants.{At, Absent}
+use Rattle.search.specs.Keys.{ascending, find, placeOf}
 use Rattle.table.specs.Table.{Row, row, Table, table, rowsOf, lengthsOk, put, relaid}
-use Rattle.table.proofs.KeyLaws.{found, place-length}
+use Rattle.search.proofs.KeyLaws.{found, place-length}
 use Rattle.table.proofs.RowLaws.{lengths-known}
 use Rattle.table.proofs.Laying.{columns, put-set, put-open, laid-set, laid-open}
 
@@ -52,7 +52,11 @@ module _ (ks : List ℕ) (ds ws : List Float) (n : ℕ) (known : lengthsOk (leng
       sym (length-map rs (λ (r : Row). r .key)) ∙ ap length (columns ks ds ws n (f .1) (f .2) .0) ∙ length-take-le n ks (f .0)
 
   -- the row at i is changed in place
-  pub relaid-set : ascending (take n ks) ≡ true → (k i : ℕ) (d w : Float) → find k (take n ks) ≡ At i → relaid t (put (row k d w) rs) ≡ table ks (set ds i d) (set ws i w) n
+  pub relaid-set :
+      ascending (take n ks) ≡ true
+      → (k i : ℕ) (d w : Float)
+      → find k (take n ks) ≡ At i
+      → relaid t (put (row k d w) rs) ≡ table ks (set ds i d) (set ws i w) n
   unfolding relaid
   relaid-set a k i d w e =
       let f = fit in
@@ -67,7 +71,13 @@ module _ (ks : List ℕ) (ds ws : List Float) (n : ℕ) (known : lengthsOk (leng
       (length-set rs i (row k d w) ∙ rows-length))
 
   -- a new row opens a place
-  pub relaid-open : (k : ℕ) (d w : Float) → find k (take n ks) ≡ Absent → n < length ks → (p : ℕ) → p ≡ placeOf k (take n ks) → relaid t (put (row k d w) rs) ≡ table (inserted ks n p k) (inserted ds n p d) (inserted ws n p w) (n + 1)
+  pub relaid-open :
+      (k : ℕ) (d w : Float)
+      → find k (take n ks) ≡ Absent
+      → n < length ks
+      → (p : ℕ)
+      → p ≡ placeOf k (take n ks)
+      → relaid t (put (row k d w) rs) ≡ table (inserted ks n p k) (inserted ds n p d) (inserted ws n p w) (n + 1)
   unfolding relaid
   relaid-open k d w e g p q =
       let f = fit in

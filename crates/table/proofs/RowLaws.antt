@@ -1,6 +1,6 @@
 -- Rows that stand side by side in three lists of equal length.
 -- Assumes nothing.
-use mathlib.Core.Path.{_≡_, refl, sym}
+use mathlib.Core.Path.{_≡_, refl, sym, ap}
 use mathlib.Core.Bool.{Bool, true, false}
 use mathlib.Core.List.{List, [], _∷_}
 use Prim.Native.Nat.{ℕ, zero, suc, _<_, _≤_}
@@ -24,8 +24,22 @@ lengths-known a b c n e =
       leb-true a 65536 (and-first _ _ t),
     )
 
+-- as many rows as places
+pub beside-length : (ks : List ℕ) (ds ws : List Float) → length ds ≡ length ks → length ws ≡ length ks → length (beside ks ds ws) ≡ length ks
+unfolding beside
+beside-length [] ds ws p q = refl
+beside-length (k ∷ ks) [] ws p q = absurd (suc-ne-zero _ (sym p))
+beside-length (k ∷ ks) (d ∷ ds) [] p q = absurd (suc-ne-zero _ (sym q))
+beside-length (k ∷ ks) (d ∷ ds) (w ∷ ws) p q = ap suc (beside-length ks ds ws (suc-inj p) (suc-inj q))
+
 -- the row at place i, and those after it
-pub row-at : (ks : List ℕ) (ds ws : List Float) (n i : ℕ) → length ds ≡ length ks → length ws ≡ length ks → i < n → n ≤ length ks → drop i (rowsOf ks ds ws n) ≡ row (getD ks i 0) (getD ds i nan) (getD ws i nan) ∷ drop (suc i) (rowsOf ks ds ws n)
+pub row-at :
+    (ks : List ℕ) (ds ws : List Float) (n i : ℕ)
+    → length ds ≡ length ks
+    → length ws ≡ length ks
+    → i < n
+    → n ≤ length ks
+    → drop i (rowsOf ks ds ws n) ≡ row (getD ks i 0) (getD ds i nan) (getD ws i nan) ∷ drop (suc i) (rowsOf ks ds ws n)
 unfolding beside
 row-at ks ds ws zero i p q h g = absurd (not-suc-le-zero h)
 row-at [] ds ws (suc n) i p q h g = absurd (not-suc-le-zero g)

@@ -1,3 +1,2 @@
-pub mod Keys
 pub mod Table
-pub mod Nearby
+pub mod Rows

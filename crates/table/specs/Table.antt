@@ -10,11 +10,10 @@ use Rattle.floats.specs.declared.Metres.{Metres}
 use Rattle.ids.specs.Key.{onLattice}
 use Rattle.refusals.specs.declared.Refusal.{Refusal}
 use Rattle.refusals.specs.declared.Refusal.the-variants.{Setting, Lengths, BadRow}
-use Rattle.refusals.specs.Refusals.{numberOf}
 use Rattle.table.specs.declared.Settings.{Settings}
 use Rattle.table.specs.declared.Checked.{Checked}
 use Rattle.table.specs.declared.Checked.the-variants.{Passed, Refused}
-use Rattle.table.specs.Keys.{ascending}
+use Rattle.search.specs.Keys.{ascending}
 
 -- the default maximum weight is 100 and the default voxel size 0.02
 abbrev pub defaults : Metres → Metres → Settings
@@ -98,11 +97,6 @@ tableCheck s t =
     need (settingsOk s) Setting
     (need (lengthsOk (length (t .keys)) (length (t .distances)) (length (t .weights)) (t .count)) Lengths
     (need (tableOk (s .«max_weight») t) BadRow Passed))
-
--- document 01's number of a verdict, 0 where it passed
-abbrev pub checkedNumber : Checked → ℕ
-checkedNumber Passed = 0
-checkedNumber (Refused why) = numberOf why
 
 -- r in the place of the row with its key, or as a new row before the first with a larger key
 unfoldable pub put : Row → List Row → List Row

@@ -1,19 +1,17 @@
 // The table: three lent lists whose first `count` places are rows, ascending by key (src/layers/tsdf.rs, the map).
-pub mod nearby;
-
 use floats::Metres;
 use floats::between;
 use floats::positive_to;
 use floats::within;
 use refusals::Refusal;
+use search::keys_ascend;
 ghost use mathlib.Core.Path.{_≡_};
 ghost use Prim.Native.Nat.{_≤_};
-ghost use lib.ListN.{length, take};
-ghost use Rattle.table.specs.Keys.{ascending, halved, findBy};
+ghost use lib.ListN.{length};
 ghost use Rattle.table.specs.Table.{defaults, table, rowsOf, farthestOk, settingsOk, lengthsOk, rowOk, rowsOk, tableCheck};
 
 // The most places that a table has.
-const LONGEST: usize = 65536;
+pub const LONGEST_TABLE: usize = 65536;
 
 // The four settings.
 pub struct Settings {
@@ -43,12 +41,6 @@ pub enum Checked {
     Refused(Refusal),
 }
 
-// Where a key stands.
-pub enum Found {
-    At(usize),
-    Absent,
-}
-
 // From 0 to 1,000,000, and not -0.
 fn farthest_ok(x: f32) -> bool
     ensures { λ r. ⌜ r ≡ farthestOk x ⌝ }
@@ -73,7 +65,7 @@ pub fn settings_ok(settings: Settings) -> bool
 pub fn lengths_ok(keys: usize, distances: usize, weights: usize, count: usize) -> bool
     ensures { λ r. ⌜ r ≡ lengthsOk keys distances weights count ⌝ }
 {
-    (keys == distances) & ((keys == weights) & ((keys <= LONGEST) & (count <= keys)))
+    (keys == distances) & ((keys == weights) & ((keys <= LONGEST_TABLE) & (count <= keys)))
 }
 
 // A row is in its ranges.
@@ -98,22 +90,6 @@ fn rows_ok(most: f32, keys: &[u64], distances: &[f32], weights: &[f32], count: u
     true
 }
 
-// Each key is above the one before it.
-fn keys_ascend(keys: &[u64], count: usize) -> bool
-    requires { ⌜ count ≤ length (now keys) ⌝ }
-    ensures { λ r. ⌜ r ≡ ascending (take count (now (keys .entry))) ⌝ }
-{
-    let mut i = 0;
-    while i + 1 < count {
-        let next = i + 1;
-        if keys[next] <= keys[i] {
-            return false;
-        }
-        i = next;
-    }
-    true
-}
-
 // Refusals 1, 2 and 3.
 pub fn check_table(
     settings: Settings,
@@ -134,40 +110,4 @@ pub fn check_table(
         return Checked::Refused(Refusal::BadRow);
     }
     Checked::Passed
-}
-
-// The place that `key` has or would take, by halving the first `count` keys.
-pub fn place_of(keys: &[u64], count: usize, key: u64) -> usize
-    ensures { λ r. ⌜ r ≡ halved key (take count (now (keys .entry))) ⌝ }
-{
-    let mut low = 0;
-    let mut high = if count <= keys.len() {
-        count
-    } else {
-        keys.len()
-    };
-    while low < high {
-        let middle = low + (high - low) / 2;
-        if keys[middle] < key {
-            low = middle + 1;
-        } else {
-            high = middle;
-        }
-    }
-    low
-}
-
-// Where `key` stands among the first `count` keys, by halves.
-pub fn find_row(keys: &[u64], count: usize, key: u64) -> Found
-    ensures { λ r. ⌜ r ≡ findBy key (take count (now (keys .entry))) ⌝ }
-{
-    let place = place_of(keys, count, key);
-    if place < count {
-        if place < keys.len() {
-            if keys[place] == key {
-                return Found::At(place);
-            }
-        }
-    }
-    Found::Absent
 }

@@ -6,15 +6,7 @@ ghost use mathlib.Core.List.{[], _∷_};
 ghost use lib.ListN.{length};
 ghost use lib.Seq.{sets};
 ghost use lib.Ieee.{toBits, binary32};
-ghost use Rattle.texts.specs.Texts.{
-  glyph,
-  hexField,
-  decimal,
-  countsLine,
-  vertexLine,
-  badLine,
-  refusedLine,
-};
+ghost use Rattle.texts.specs.Texts.{glyph, hexField, decimal, countsLine, vertexLine, badLine, refusedLine};
 ghost use Rattle.texts.specs.Steps.{Wrote};
 
 // A byte at a place, and the place after it.

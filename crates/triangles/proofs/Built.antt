@@ -7,9 +7,9 @@ use mathlib.Core.Bool.{true}
 use mathlib.Core.List.{List, [], _∷_, _++_}
 use lib.ListN.{length}
 use Rattle.lists.specs.Lists.{joined}
-use Rattle.table.specs.Keys.{ascending}
+use Rattle.search.specs.Keys.{ascending}
 use Rattle.table.specs.Table.{Row}
-use Rattle.edges.specs.Rows.{keysOf}
+use Rattle.table.specs.Rows.{keysOf}
 use Rattle.edges.specs.Edges.{Edge}
 use Rattle.edges.specs.Listing.{firsts, seconds}
 use Rattle.edges.specs.ZeroCrossing.{zeroCrossingEdges}
@@ -38,7 +38,9 @@ module _ (rows : List Row) (up : ascending (keysOf rows) ≡ true) where
     pub groups-built : (cells : List ℕ) → joined (groupIn (firsts es ++ xs) (seconds es ++ ys) (length es)) cells ≡ groups es cells
     groups-built cells = joined-same (groupIn (firsts es ++ xs) (seconds es ++ ys) (length es)) (groupOf es) cells group-built
 
-    pub triangles-built : (cells : List ℕ) → joined (λ (cell : ℕ). threes (groupIn (firsts es ++ xs) (seconds es ++ ys) (length es) cell)) cells ≡ triangles es cells
+    pub triangles-built :
+        (cells : List ℕ)
+        → joined (λ (cell : ℕ). threes (groupIn (firsts es ++ xs) (seconds es ++ ys) (length es) cell)) cells ≡ triangles es cells
     triangles-built cells =
         joined-same (λ (cell : ℕ). threes (groupIn (firsts es ++ xs) (seconds es ++ ys) (length es) cell)) (λ (cell : ℕ). threes (groupOf es cell)) cells
         (λ cell. ap threes (group-built cell))

@@ -5,9 +5,9 @@ use mathlib.Core.Path.{_≡_}
 use mathlib.Core.Bool.{Bool, true}
 use mathlib.Core.List.{List}
 use Rattle.neighbors.specs.Neighbors.{neighbours, adjacent}
-use Rattle.table.specs.Keys.{ascending}
+use Rattle.search.specs.Keys.{ascending}
 use Rattle.table.specs.Table.{Row}
-use Rattle.edges.specs.Rows.{keysOf}
+use Rattle.table.specs.Rows.{keysOf}
 use Rattle.edges.specs.Edges.{Edge}
 use Rattle.edges.specs.EdgeList.{IsEdgeList}
 use Rattle.edges.specs.ZeroCrossing.{crossesZero, zeroCrossingEdges}
@@ -33,6 +33,9 @@ module _ (near : ℕ → List ℕ) (adjacent : ℕ → ℕ → Bool) (crosses : 
   demand-3-one-cell t c d m n = one-cell es (keysOf rows) (covered near adjacent crosses rows es up h) (distinct-edges es (h .once)) t c d m n
 
 -- the same of the zero crossings
-pub zero-crossing-triangles : (rows : List Row) → ascending (keysOf rows) ≡ true → IsTriangleList (zeroCrossingEdges rows) (triangles (zeroCrossingEdges rows) (keysOf rows))
+pub zero-crossing-triangles :
+    (rows : List Row)
+    → ascending (keysOf rows) ≡ true
+    → IsTriangleList (zeroCrossingEdges rows) (triangles (zeroCrossingEdges rows) (keysOf rows))
 zero-crossing-triangles rows up =
     demand-3-triangles neighbours adjacent crossesZero rows (zeroCrossingEdges rows) up (demand-3-edges rows up)

@@ -1,30 +1,16 @@
 // The triangles of the surface (src/layers/mesh.rs, build_triangles_naive): every three edges that meet in a cell.
+use lists::LONGEST_LIST;
 use lists::Listed;
 use refusals::Refusal;
+use table::LONGEST_TABLE;
 ghost use mathlib.Core.Path.{_≡_};
 ghost use mathlib.Core.Bool.{cond};
 ghost use Prim.Native.Nat.{_≤_};
 ghost use lib.ListN.{length, take};
 ghost use lib.Seq.{sets};
 ghost use Rattle.triangles.specs.Threes.{threes, threesOf, column0, column1, column2};
-ghost use Rattle.triangles.specs.Building.{
-  source,
-  rooms,
-  groupsAt,
-  trianglesAt,
-  lengthsOk,
-  builtAnswer,
-  groupsHeld,
-  held0,
-  held1,
-  held2,
-};
+ghost use Rattle.triangles.specs.Building.{source, rooms, groupsAt, trianglesAt, lengthsOk, builtAnswer, groupsHeld, held0, held1, held2};
 ghost use Rattle.triangles.specs.Steps.{Ready, filledWith, answerFor, keptOf};
-
-// The longest table and the longest list that are taken.
-const LONGEST: usize = 65536;
-
-const LONGEST_LIST: usize = 1_048_576;
 
 // How many threes there are among 0 to 14.
 const THREES: [usize; 15] = [0, 0, 0, 1, 4, 10, 20, 35, 56, 84, 120, 165, 220, 286, 364];
@@ -141,7 +127,7 @@ fn lengths_ok(
 ) -> bool
     ensures { λ r. ⌜ r ≡ lengthsOk keys rows first second edges groups t0 t1 t2 ⌝ }
 {
-    ((keys <= LONGEST) & (rows <= keys))
+    ((keys <= LONGEST_TABLE) & (rows <= keys))
         & (((first == second) & ((first <= LONGEST_LIST) & (edges <= first)))
             & ((groups <= LONGEST_LIST) & (((t0 == t1) & (t0 == t2)) & (t0 <= LONGEST_LIST))))
 }

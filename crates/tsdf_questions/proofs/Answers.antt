@@ -1,24 +1,15 @@
 -- What a passed check tells the work behind it, and what the list holds after it.
 -- Assumes nothing.
 use Prim.Native.Nat.{ℕ}
-use native.Mathlib.Omega.{arith}
-use mathlib.Core.Path.{_≡_, refl, ap, _∙_}
+use mathlib.Core.Path.{_≡_}
 use mathlib.Core.List.{List}
-use lib.Dec.{leb}
 use lib.Ieee.{Float}
 use lib.ListN.{length}
-use lib.Seq.{sets, length-sets}
-use Rattle.lists.specs.Places.{clearedFrom}
-use Rattle.lists.specs.Listing.{roomFor, countOf, heldFor}
-use Rattle.lists.specs.declared.Listed.{Listed}
-use Rattle.lists.proofs.Held.{written-held}
 use Rattle.table.specs.declared.Settings.{Settings}
-use Rattle.table.specs.declared.Checked.{Checked}
 use Rattle.table.specs.declared.Checked.the-variants as checked
-use Rattle.table.specs.Table.{Table, table, rows, settingsOk, need, tableCheck}
-use Rattle.table.proofs.Checking.{passed, sound}
+use Rattle.table.specs.Table.{table, tableCheck}
+use Rattle.table.proofs.Checking.{sound}
 use Rattle.table.proofs.RowLaws.{lengths-known}
-use Rattle.tsdf_questions.specs.Surface.{surfaceKeys, andThen, listCheck, listedIf, surfaceListed}
 use Rattle.tsdf_questions.specs.Steps.{Accepted}
 
 -- ---- what the tests tell
@@ -28,37 +19,3 @@ accepted s ks ds ws n e =
     let k = sound s (table ks ds ws n) e in
     let l = lengths-known (length ks) (length ds) (length ws) n (k .lengths) in
     record { fits = l .0; distances = l .1; weights = l .2; small = l .3; ascends = k .order }
-
-went-on : (c rest : Checked) → andThen c rest ≡ checked.Passed → c ≡ checked.Passed
-unfolding andThen
-went-on checked.Passed rest e = refl
-went-on (checked.Refused why) rest e = let z : _≡_ {A = ℕ} 0 1 = cc in absurd (omega arith)
-
-pub list-accepted : (s : Settings) (ks : List ℕ) (ds ws : List Float) (n : ℕ) (threshold : Float) (room : ℕ) → listCheck s (table ks ds ws n) threshold room ≡ checked.Passed → Accepted ks ds ws n
-unfolding listCheck
-list-accepted s ks ds ws n threshold room e =
-    accepted s ks ds ws n (went-on (tableCheck s (table ks ds ws n)) _ (passed (leb room 1048576) _ _ (passed (settingsOk s) _ _ e .1) .1))
-
--- ---- the surface's cells
-
--- found and written, the answer r is by the list's room
-module _ (xs l : List ℕ) (n : ℕ) (l' : List ℕ) (e : n ≡ length xs) (w : l' ≡ sets l 0 xs) (r : Listed) (told : r ≡ roomFor n (length l')) where
-  by-room : r ≡ roomFor n (length l)
-  by-room = told ∙ ap (λ (k : ℕ). roomFor n k) (ap length w ∙ length-sets l 0 xs)
-
-  pub answer-room : r ≡ listedIf checked.Passed xs (length l)
-  unfolding listedIf
-  answer-room = by-room ∙ ap (λ (k : ℕ). roomFor k (length l)) e
-
-  pub keys-held : clearedFrom 0 (countOf r) l' ≡ heldFor 0 r (length l) xs
-  keys-held = rw by-room (written-held 0 l xs n l' e w)
-
--- the whole call: its verdict v, and its answer r
-module _ (s : Settings) (t : Table) (threshold : Float) (room : ℕ) (v : Checked) (verdict : v ≡ listCheck s t threshold room) (r : Listed) (answer : r ≡ listedIf v (surfaceKeys threshold (rows t)) room) where
-  pub answered : r ≡ surfaceListed s t threshold room
-  unfolding surfaceListed
-  answered = answer ∙ ap (λ (c : Checked). listedIf c (surfaceKeys threshold (rows t)) room) verdict
-
-  pub cleared-to : (n : ℕ) → n ≡ countOf r → (l l' : List ℕ) → l' ≡ clearedFrom 0 n l → clearedFrom 0 (countOf r) l ≡ heldFor 0 r room (surfaceKeys threshold (rows t)) → l' ≡ heldFor 0 (surfaceListed s t threshold room) room (surfaceKeys threshold (rows t))
-  cleared-to n c l l' w h =
-      w ∙ ap (λ (k : ℕ). clearedFrom 0 k l) c ∙ h ∙ ap (λ (x : Listed). heldFor 0 x room (surfaceKeys threshold (rows t))) answered

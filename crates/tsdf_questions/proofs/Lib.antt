@@ -1,4 +1,2 @@
 pub mod Answers
-pub mod RowByRow
 pub mod Determined
-pub mod Samples

@@ -1,4 +1,2 @@
 pub mod Lookups
-pub mod Surface
-pub mod Statistics
 pub mod Steps

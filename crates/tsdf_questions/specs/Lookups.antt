@@ -10,9 +10,9 @@ use Rattle.refusals.specs.declared.Refusal.the-variants.{OffLattice, BadReading
 use Rattle.table.specs.declared.Settings.{Settings}
 use Rattle.table.specs.declared.Checked.{Checked}
 use Rattle.table.specs.declared.Checked.the-variants as checked
-use Rattle.table.specs.declared.Found.{Found}
-use Rattle.table.specs.declared.Found.the-variants as found
-use Rattle.table.specs.Keys.{find}
+use Rattle.search.specs.declared.Found.{Found}
+use Rattle.search.specs.declared.Found.the-variants as found
+use Rattle.search.specs.Keys.{find}
 use Rattle.table.specs.Table.{Table, tableCheck}
 use Rattle.tsdf_questions.specs.declared.Looked.{Looked}
 use Rattle.tsdf_questions.specs.declared.Looked.the-variants as looked

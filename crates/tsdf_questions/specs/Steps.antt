@@ -5,7 +5,7 @@ use mathlib.Core.Bool.{true}
 use mathlib.Core.List.{List}
 use lib.ListN.{length, take}
 use lib.Ieee.{Float}
-use Rattle.table.specs.Keys.{ascending}
+use Rattle.search.specs.Keys.{ascending}
 
 -- three lists of one length, at most 65,536, with n rows whose keys ascend
 pub record Accepted (ks : List ℕ) (ds ws : List Float) (n : ℕ) : Type 0 where

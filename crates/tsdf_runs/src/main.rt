@@ -1,8 +1,8 @@
 // Runs of fusing: document 01's sample of a weight so small that the mean outgrows the range, a batch that stops at its second reading, and a ray.
+use batching::Batched;
 use floats::Metres;
+use fusing::Fused;
 use table::Settings;
-use tsdf::Batched;
-use tsdf::Fused;
 
 fn line(word: &[u8]) {
     io::write_all(1, word);
@@ -49,7 +49,7 @@ fn small_weight() {
     let mut distances = [0.0f32; 2];
     let mut weights = [0.0f32; 2];
     let mut count: usize = 0;
-    say(tsdf::update_from_depth(
+    say(fusing::update_from_depth(
         s,
         &mut keys,
         &mut distances,
@@ -59,7 +59,7 @@ fn small_weight() {
         Metres(10.0),
         1.0,
     ));
-    say(tsdf::update_from_depth(
+    say(fusing::update_from_depth(
         s,
         &mut keys,
         &mut distances,
@@ -82,7 +82,7 @@ fn batch_and_ray() {
     let cells = [8u64, 6, 7];
     let sdfs = [0.5f32; 3];
     let confidences = [1.0f32; 3];
-    say_batch(tsdf::batch_update(
+    say_batch(batches::batch_update(
         s,
         &mut keys,
         &mut distances,
@@ -93,7 +93,7 @@ fn batch_and_ray() {
         &confidences,
     ));
     numbered(b"rows ", count as u64);
-    say(tsdf::update_from_depth_ray(
+    say(fusing::update_from_depth_ray(
         s,
         &mut keys,
         &mut distances,
@@ -106,7 +106,7 @@ fn batch_and_ray() {
         Metres(4.5),
         1.0,
     ));
-    say(tsdf::update_from_depth_ray(
+    say(fusing::update_from_depth_ray(
         s,
         &mut keys,
         &mut distances,

@@ -3,18 +3,18 @@
 use mathlib.Core.Path.{_≡_, refl, sym, _∙_}
 use mathlib.Core.Logic.{⊎-elim}
 use mathlib.Core.List.{List, [], _∷_, map}
-use Prim.Native.Nat.{ℕ, zero, suc, _+_, _<_, _≤_, min}
+use Prim.Native.Nat.{ℕ, _+_, _<_, _≤_, min}
 use native.Mathlib.Numerals.{add-one}
 use native.Mathlib.Omega.{arith}
 use lib.ListN.{length, getD, take, drop, set, length-take, drop-of-length-le}
 use lib.Seq.{sets, drop-cons, getD-take}
 use lib.Ieee.{Float}
 use Rattle.floats.proofs.Values.{le-or-lt}
-use Rattle.vertices.specs.declared.Vertex.{Vertex}
-use Rattle.vertices.specs.declared.Normal.{Normal}
-use Rattle.vertices.specs.Stored.{Lookup}
-use Rattle.vertices.specs.Vertices.{vertexAt, verticesOf}
-use Rattle.vertices.specs.Normals.{normalAt, normalsOf}
+use Rattle.slopes.specs.declared.Vertex.{Vertex}
+use Rattle.slopes.specs.declared.Normal.{Normal}
+use Rattle.slopes.specs.Stored.{Lookup}
+use Rattle.slopes.specs.Vertices.{vertexAt, verticesOf}
+use Rattle.slopes.specs.Normals.{normalAt, normalsOf}
 
 -- ---- one column
 
@@ -47,7 +47,10 @@ module _ (look : Lookup) (size : Float) (n : ℕ) (first second : List ℕ) wher
   abbrev pub verticesFrom : ℕ → List Vertex
   verticesFrom i = verticesOf look size (drop i (take n first)) (drop i (take n second))
 
-  pub vertex-next : (i : ℕ) → i < min n (min (length first) (length second)) → verticesFrom i ≡ vertexAt look size (getD first i 0) (getD second i 0) ∷ verticesFrom (i + 1)
+  pub vertex-next :
+      (i : ℕ)
+      → i < min n (min (length first) (length second))
+      → verticesFrom i ≡ vertexAt look size (getD first i 0) (getD second i 0) ∷ verticesFrom (i + 1)
   unfolding verticesOf
   vertex-next i h = rw (front-next n first i (omega arith) (omega arith), front-next n second i (omega arith) (omega arith))
 

@@ -2,23 +2,23 @@
 -- Assumes nothing.
 use mathlib.Core.Path.{_≡_, sym, _∙_}
 use denote.Ref.{now}
-use Rattle.vertices.proofs.distance_of.Reads as distance_of
-use Rattle.vertices.proofs.vertex_of.Reads as vertex_of
-use Rattle.vertices.proofs.length.Reads as length
-use Rattle.vertices.proofs.compute_normal.Reads as compute_normal
 use Rattle.vertices.proofs.list_vertices.Reads as list_vertices
 
-pub distance-of-determined : (κs : _) (a : _) (r r' : _) (s s' : _) → distance_of.Post κs a r s → distance_of.Post κs a r' s' → r ≡ r'
-distance-of-determined κs a r r' s s' p q = p ∙ sym q
-
-pub vertex-of-determined : (κs : _) (a : _) (r r' : _) (s s' : _) → vertex_of.Post κs a r s → vertex_of.Post κs a r' s' → r ≡ r'
-vertex-of-determined κs a r r' s s' p q = p ∙ sym q
-
-pub length-determined : (κs : _) (a : _) (r r' : _) (s s' : _) → length.Post κs a r s → length.Post κs a r' s' → r ≡ r'
-length-determined κs a r r' s s' p q = p ∙ sym q
-
-pub compute-normal-determined : (κs : _) (a : _) (r r' : _) (s s' : _) → compute_normal.Post κs a r s → compute_normal.Post κs a r' s' → r ≡ r'
-compute-normal-determined κs a r r' s s' p q = p ∙ sym q
-
-pub list-vertices-determined : (κs : _) (a : _) (r r' : _) (s s' : _) → list_vertices.Post κs a r s → list_vertices.Post κs a r' s' → (now (s .1 .1 .1 .1 .1 .1 .1 .0) ≡ now (s' .1 .1 .1 .1 .1 .1 .1 .0)) × (now (s .1 .1 .1 .1 .1 .1 .1 .1 .0) ≡ now (s' .1 .1 .1 .1 .1 .1 .1 .1 .0)) × (now (s .1 .1 .1 .1 .1 .1 .1 .1 .1 .0) ≡ now (s' .1 .1 .1 .1 .1 .1 .1 .1 .1 .0)) × (now (s .1 .1 .1 .1 .1 .1 .1 .1 .1 .1 .0) ≡ now (s' .1 .1 .1 .1 .1 .1 .1 .1 .1 .1 .0)) × (now (s .1 .1 .1 .1 .1 .1 .1 .1 .1 .1 .1 .0) ≡ now (s' .1 .1 .1 .1 .1 .1 .1 .1 .1 .1 .1 .0)) × (now (s .1 .1 .1 .1 .1 .1 .1 .1 .1 .1 .1 .1 .0) ≡ now (s' .1 .1 .1 .1 .1 .1 .1 .1 .1 .1 .1 .1 .0))
-list-vertices-determined κs a r r' s s' p q = (p .0 ∙ sym (q .0), p .1 .0 ∙ sym (q .1 .0), p .1 .1 .0 ∙ sym (q .1 .1 .0), p .1 .1 .1 .0 ∙ sym (q .1 .1 .1 .0), p .1 .1 .1 .1 .0 ∙ sym (q .1 .1 .1 .1 .0), p .1 .1 .1 .1 .1 ∙ sym (q .1 .1 .1 .1 .1))
+pub list-vertices-determined :
+    (κs : _) (a : _) (r r' : _) (s s' : _)
+    → list_vertices.Post κs a r s
+    → list_vertices.Post κs a r' s'
+    → (now (s .1 .1 .1 .1 .1 .1 .1 .0) ≡ now (s' .1 .1 .1 .1 .1 .1 .1 .0))
+    × (now (s .1 .1 .1 .1 .1 .1 .1 .1 .0) ≡ now (s' .1 .1 .1 .1 .1 .1 .1 .1 .0))
+    × (now (s .1 .1 .1 .1 .1 .1 .1 .1 .1 .0) ≡ now (s' .1 .1 .1 .1 .1 .1 .1 .1 .1 .0))
+    × (now (s .1 .1 .1 .1 .1 .1 .1 .1 .1 .1 .0) ≡ now (s' .1 .1 .1 .1 .1 .1 .1 .1 .1 .1 .0))
+    × (now (s .1 .1 .1 .1 .1 .1 .1 .1 .1 .1 .1 .0) ≡ now (s' .1 .1 .1 .1 .1 .1 .1 .1 .1 .1 .1 .0))
+    × (now (s .1 .1 .1 .1 .1 .1 .1 .1 .1 .1 .1 .1 .0) ≡ now (s' .1 .1 .1 .1 .1 .1 .1 .1 .1 .1 .1 .1 .0))
+list-vertices-determined κs a r r' s s' p q = (
+  p .0 ∙ sym (q .0),
+  p .1 .0 ∙ sym (q .1 .0),
+  p .1 .1 .0 ∙ sym (q .1 .1 .0),
+  p .1 .1 .1 .0 ∙ sym (q .1 .1 .1 .0),
+  p .1 .1 .1 .1 .0 ∙ sym (q .1 .1 .1 .1 .0),
+  p .1 .1 .1 .1 .1 ∙ sym (q .1 .1 .1 .1 .1),
+)

@@ -1,6 +1,5 @@
 -- Document 01's sample of a vertex marked P, computed on the definitions: (10, 10, 10) at 0.25 and (11, 11, 11) at -0.25 have one edge, with the vertex (10.5, 10.5, 10.5).
 -- Assumes nothing.
-use Prim.Native.Nat.{ℕ}
 use mathlib.Core.Path.{_≡_, refl}
 use mathlib.Core.List.{List, [], _∷_, map}
 use lib.Ieee.{binary32, ofBits, toBits, add, sub, mul, div, neg, lt, ne, ofInt}
@@ -9,13 +8,14 @@ use Rattle.ids.specs.Morton.{respaced, morton}
 use Rattle.ids.specs.Key.{keyOf}
 use Rattle.neighbors.specs.Neighbors.{offsets, inside, reachedFrom, shown, neighboursBy}
 use Rattle.table.specs.Table.{Row, row}
-use Rattle.edges.specs.Rows.{stored}
+use Rattle.table.specs.Rows.{stored}
 use Rattle.edges.specs.Edges.{edges}
 use Rattle.edges.specs.ZeroCrossing.{crossing, zeroCrossingEdges}
 use Rattle.edges.specs.Listing.{firsts, seconds}
-use Rattle.vertices.specs.declared.Vertex.{Vertex}
-use Rattle.vertices.specs.Stored.{distanceOf, distanceIn, orZero}
-use Rattle.vertices.specs.Vertices.{partOf, vertexOf, vertexAt, verticesOf, xsOf, ysOf, zsOf}
+use Rattle.slopes.specs.declared.Vertex.{Vertex}
+use Rattle.vertices.specs.StoredRows.{distanceOf, distanceIn}
+use Rattle.slopes.specs.Stored.{orZero}
+use Rattle.slopes.specs.Vertices.{partOf, vertexOf, vertexAt, verticesOf, xsOf, ysOf, zsOf}
 
 pub rows : List Row
 rows =

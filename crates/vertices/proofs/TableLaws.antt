@@ -10,30 +10,31 @@ use mathlib.Core.Option.{some}
 use borrow.Author.Tests.{lt-ltb}
 use lib.Dec.{eqb}
 use lib.Ieee.{Float, ofBits}
-use lib.ListN.{length, take, length-map}
+use lib.ListN.{length, take}
 use Rattle.lists.specs.Lists.{_∈_}
 use Rattle.lists.proofs.Bools.{cases, and-first, and-second}
 use Rattle.ids.specs.Key.{onLattice}
 use Rattle.floats.specs.Floats.{million, isFinite}
 use Rattle.floats.proofs.Order.{within-finite}
 use Rattle.floats.proofs.Values.{le-or-lt}
-use Rattle.table.specs.Keys.{ascending, findBy}
+use Rattle.search.specs.Keys.{ascending, findBy}
 use Rattle.table.specs.Table.{Row, rowsOf, rowOk, rowsOk}
-use Rattle.table.specs.declared.Found.{Found}
-use Rattle.table.specs.declared.Found.the-variants as found
-use Rattle.edges.specs.Rows.{keysOf, stored}
+use Rattle.search.specs.declared.Found.{Found}
+use Rattle.search.specs.declared.Found.the-variants as found
+use Rattle.table.specs.Rows.{keysOf, stored}
 use Rattle.edges.specs.Edges.{Edge, edge}
 use Rattle.edges.specs.ZeroCrossing.{zeroCrossingEdges}
 use Rattle.edges.specs.Listing.{firsts, seconds}
 use Rattle.edges.specs.Steps.{Accepted}
 use Rattle.edges.proofs.EdgeLaws.{pair-up, pair-down}
-use Rattle.edges.proofs.RowLaws.{ascending-rows, in-stored}
+use Rattle.table.proofs.StoredLaws.{ascending-rows, in-stored}
 use Rattle.edges.proofs.ListingLaws.{place-below, none-stored, one-stored}
 use Rattle.edges.proofs.ZeroCrossingLaws.{demand-3-edges}
-use Rattle.vertices.specs.declared.Vertex.{Vertex}
-use Rattle.vertices.specs.Stored.{Lookup, distanceOf, distanceIn, distanceAt, distanceBy, orZero}
-use Rattle.vertices.specs.Vertices.{vertexOf, vertexAt, verticesOf}
-use Rattle.vertices.specs.Normals.{normalAt, normalsOf}
+use Rattle.slopes.specs.declared.Vertex.{Vertex}
+use Rattle.slopes.specs.Stored.{Lookup, distanceAt, distanceBy, orZero}
+use Rattle.vertices.specs.StoredRows.{distanceOf, distanceIn}
+use Rattle.slopes.specs.Vertices.{vertexAt, verticesOf}
+use Rattle.slopes.specs.Normals.{normalsOf}
 use Rattle.vertices.specs.EdgeVertices.{EdgeVertex}
 
 -- ---- the lookup by halves is the lookup among the rows
@@ -70,13 +71,6 @@ module _ (look : Lookup) (size : Float) where
   vertices-of-edges [] = refl
   vertices-of-edges (e ∷ es) = ap {B = List Vertex} (λ vs. vertexAt look size (e .first) (e .second) ∷ vs) (vertices-of-edges es)
 
-  -- as many vertices and normals as edges
-  pub vertices-count : (es : List Edge) → length (verticesOf look size (firsts es) (seconds es)) ≡ length es
-  vertices-count es = ap length (vertices-of-edges es) ∙ length-map es (λ (e : Edge). vertexAt look size (e .first) (e .second))
-
-  pub normals-count : (es : List Edge) → length (normalsOf look size (firsts es)) ≡ length es
-  normals-count es = length-map (firsts es) (λ (k : ℕ). normalAt look size k) ∙ length-map es (λ (e : Edge). e .first)
-
 -- on an accepted table, as document 01 says it over the rows
 module _ (ks : List ℕ) (ds ws : List Float) (n : ℕ) (acc : Accepted ks ds ws n) (size : Float) (es : List Edge) where
   pub own-vertices : verticesOf (distanceBy ks ds n) size (firsts es) (seconds es) ≡ map (λ (e : Edge). vertexAt (distanceIn (rowsOf ks ds ws n)) size (e .first) (e .second)) es
@@ -93,7 +87,13 @@ module _ (size : Float) (rows : List Row) (up : ascending (keysOf rows) ≡ true
   unfolding orZero distanceOf
   found-row r m = rw (in-stored rows (ascending-rows rows up) r m)
 
-  both-found : (r s : Row) → r ∈ rows → s ∈ rows → (e : Edge) → e ≡ edge (r .key) (s .key) → EdgeVertex rows size e (vertexAt (distanceIn rows) size (e .first) (e .second))
+  both-found :
+      (r s : Row)
+      → r ∈ rows
+      → s ∈ rows
+      → (e : Edge)
+      → e ≡ edge (r .key) (s .key)
+      → EdgeVertex rows size e (vertexAt (distanceIn rows) size (e .first) (e .second))
   unfolding vertexAt
   both-found r s m o e q =
       record {

@@ -5,8 +5,8 @@ use lib.Ieee.{Float}
 use Rattle.lists.specs.Lists.{_∈_}
 use Rattle.table.specs.Table.{Row}
 use Rattle.edges.specs.Edges.{Edge, edge}
-use Rattle.vertices.specs.declared.Vertex.{Vertex}
-use Rattle.vertices.specs.Vertices.{vertexOf}
+use Rattle.slopes.specs.declared.Vertex.{Vertex}
+use Rattle.slopes.specs.Vertices.{vertexOf}
 
 -- v lies on the edge e, between the two stored rows that e joins
 pub record EdgeVertex (rows : List Row) (size : Float) (e : Edge) (v : Vertex) : Type 0 where

@@ -1,4 +1,2 @@
-pub mod Stored
-pub mod Vertices
-pub mod Normals
 pub mod EdgeVertices
+pub mod StoredRows

@@ -2,7 +2,7 @@
 -- Assumes nothing.
 use mathlib.Core.Path.{sym, _∙_}
 use lib.Seq.{length-take-le}
-use Rattle.table.proofs.NearbyLaws.{found-above}
+use Rattle.search.proofs.NearbyLaws.{found-above}
 use borrow.Author.Needs.{needs}
 use Rattle.edges.proofs.find_beside.Statement.{statement}
 use Rattle.edges.proofs.find_beside.Tie as tie

@@ -4,7 +4,8 @@ use mathlib.Core.Path.{refl}
 use Rattle.table.specs.Table.{rowsOf}
 use Rattle.edges.specs.ZeroCrossing.{zeroCrossingEdges}
 use Rattle.edges.specs.Listing.{answerIf, firsts, seconds}
-use Rattle.edges.proofs.AnswerLaws.{refused-held, answer-room, firsts-held, seconds-held}
+use Rattle.lists.proofs.Held.{refused-held}
+use Rattle.edges.proofs.AnswerLaws.{answer-room, firsts-held, seconds-held}
 use borrow.Author.Needs.{needs}
 use Rattle.edges.proofs.list_checked.Statement.{statement}
 use Rattle.edges.proofs.list_checked.Tie as tie
@@ -15,7 +16,8 @@ enum-known-verdict c = search needs
 returns : tie.Need-returns
 unfolding answerIf
 returns c =
-    let a = c .before .before .before .before .before .before .before .before .args in
+    let at-start = c .before .before .before .before .before .before .before .before in
+    let a = at-start .args in
     let es = zeroCrossingEdges (rowsOf (a .keys .now) (a .distances .now) (a .weights .now) (a .count)) in
     (rw (c .before .verdict .given .1) refl, (refused-held 0 _ (a .first .now) (firsts es), refused-held 0 _ (a .second .now) (seconds es)))
 
@@ -23,7 +25,9 @@ enum-told : tie.Need-enum-told
 enum-told c = search needs
 
 list-edges-requires : tie.Need-list-edges-requires
-list-edges-requires c κs = c .before .before .before .before .before .before .before .before .before .pre (c .before .before .enum-told .given .1)
+list-edges-requires c κs =
+    let at-start = c .before .before .before .before .before .before .before .before .before in
+    at-start .pre (c .before .before .enum-told .given .1)
 
 room-for-requires : tie.Need-room-for-requires
 room-for-requires c κs = search needs
@@ -36,10 +40,12 @@ same-length-2 c = search needs
 
 returns-2 : tie.Need-returns-2
 returns-2 c =
-    let passed = c .before .before .before .before .before .before .before .before .enum-told .given .1 in
+    let at-enum-told = c .before .before .before .before .before .before .before .before in
+    let at-start = at-enum-told .before .before .before .before .before .before .before in
+    let passed = at-enum-told .enum-told .given .1 in
     let w = c .before .before .before .before .before .list-edges .ensures in
     let e = c .room-for .ensures in
-    (rw passed (answer-room _ _ _ _ _ _ w _ e), (firsts-held _ _ _ _ _ _ w _ e, seconds-held _ _ _ _ _ _ w _ e (c .before .before .before .before .before .before .before .before .before .before .before .before .before .before .before .pre passed .1)))
+    (rw passed (answer-room _ _ _ _ _ _ w _ e), (firsts-held _ _ _ _ _ _ w _ e, seconds-held _ _ _ _ _ _ w _ e (at-start .pre passed .1)))
 
 pub list-checked-spec : {M : Type 1} → statement M
 list-checked-spec =

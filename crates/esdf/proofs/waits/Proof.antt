@@ -3,7 +3,7 @@
 use Prim.Native.Nat.{_≤_, _-_}
 use mathlib.Core.Path.{_≡_, refl, sym, _∙_}
 use lib.ListN.{take, drop}
-use Rattle.table.specs.Keys.{member}
+use Rattle.search.specs.Keys.{member}
 use Rattle.esdf.proofs.Walking.{member-here, member-later, member-nowhere}
 use borrow.Author.Needs.{needs}
 use Rattle.esdf.proofs.waits.Statement.{statement}

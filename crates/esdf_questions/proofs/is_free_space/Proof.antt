@@ -1,7 +1,7 @@
 -- `esdf_questions::is_free_space` meets its contract: the verdict, then what is stored.
 -- Assumes nothing.
-use Rattle.esdf_questions.specs.Marched.{marchedTable}
-use Rattle.esdf_questions.proofs.MarchedLaws.{accepted}
+use Rattle.marched.specs.Marched.{marchedTable}
+use Rattle.marched.proofs.MarchedLaws.{accepted}
 use Rattle.esdf_questions.proofs.Answers.{free-refused, free-of, free-absent}
 use borrow.Author.Needs.{needs}
 use Rattle.esdf_questions.proofs.is_free_space.Statement.{statement}
@@ -29,17 +29,21 @@ enum-told-2 c = search needs
 
 returns : tie.Need-returns
 returns c =
-    let a = c .before .before .before .before .before .before .args in
+    let at-start = c .before .before .before .before .before .before in
+    let a = at-start .args in
     free-refused (marchedTable (a .keys .now) (a .distances .now) (a .count)) (a .key) (a .threshold) _ (c .before .before .before .check-free .ensures) (c .before .why .given .1)
 
 returns-2 : tie.Need-returns-2
 returns-2 c =
-    let a = c .before .before .before .before .before .before .before .before .before .args in
-    free-of (marchedTable (a .keys .now) (a .distances .now) (a .count)) (a .key) (a .threshold) _ (c .before .before .before .before .before .before .check-free .ensures) (c .before .before .before .before .enum-told .given .1) _ (c .before .before .before .stored-at .ensures) (c .before .d .given .1)
+    let at-check-free = c .before .before .before .before .before .before in
+    let at-start = at-check-free .before .before .before in
+    let a = at-start .args in
+    free-of (marchedTable (a .keys .now) (a .distances .now) (a .count)) (a .key) (a .threshold) _ (at-check-free .check-free .ensures) (c .before .before .before .before .enum-told .given .1) _ (c .before .before .before .stored-at .ensures) (c .before .d .given .1)
 
 returns-3 : tie.Need-returns-3
 returns-3 c =
-    let a = c .before .before .before .before .before .before .before .before .args in
+    let at-start = c .before .before .before .before .before .before .before .before in
+    let a = at-start .args in
     free-absent (marchedTable (a .keys .now) (a .distances .now) (a .count)) (a .key) (a .threshold) _ (c .before .before .before .before .before .check-free .ensures) (c .before .before .before .enum-told .given .1) _ (c .before .before .stored-at .ensures) (c .enum-told2 .given .1)
 
 pub is-free-space-spec : {M : Type 1} → statement M

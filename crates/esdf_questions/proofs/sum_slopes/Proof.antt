@@ -1,15 +1,14 @@
 -- `esdf_questions::sum_slopes` meets its contract: the neighbours that are left say what all say.
 -- Assumes nothing.
-use Prim.Native.Nat.{_≤_, _<_, _-_}
-use mathlib.Core.Path.{_≡_, refl, sym, ap, _∙_}
+use Prim.Native.Nat.{_≤_, _-_}
+use mathlib.Core.Path.{_≡_, refl, sym, _∙_}
 use native.Mathlib.Omega.{arith}
 use lib.ListN.{length, drop}
 use lib.Ieee.{ofBits}
 use Rattle.lists.specs.Padding.{padded}
 use Rattle.neighbors.specs.Neighbors.{neighbours}
-use Rattle.neighbors.proofs.NeighborLaws.{at-most-14}
-use Rattle.esdf_questions.specs.Marched.{marchedRowsOf}
-use Rattle.esdf_questions.specs.Gradient.{noSlopes, slopesWith, slopesFrom}
+use Rattle.marched.specs.Marched.{marchedRowsOf}
+use Rattle.esdf_questions.specs.Gradient.{noSlopes, slopesFrom}
 use Rattle.esdf_questions.proofs.Walking.{near-is, slopes-more, slopes-none, slopes-few}
 use borrow.Author.Needs.{needs}
 use Rattle.esdf_questions.proofs.sum_slopes.Statement.{statement}
@@ -38,7 +37,9 @@ array-read-slopes-next : tie.Need-array-read-slopes-next Inv-loop μ-loop
 array-read-slopes-next c = search needs
 
 slopes-next-requires : tie.Need-slopes-next-requires Inv-loop μ-loop
-slopes-next-requires c κs = (c .before .before .before .before .before .before .pre, let i = c .before .loop .inv in omega arith)
+slopes-next-requires c κs =
+    let at-start = c .before .before .before .before .before .before in
+    (at-start .pre, let i = c .before .loop .inv in omega arith)
 
 add-i : tie.Need-add-i Inv-loop μ-loop
 add-i c = search needs
@@ -48,8 +49,9 @@ loop-less c = search needs
 
 loop-again : tie.Need-loop-again Inv-loop μ-loop
 loop-again c =
+    let at-start = c .before .before .before .before .before .before .before in
     let l = c .before .before .loop in
-    let a = c .before .before .before .before .before .before .before .args in
+    let a = at-start .args in
     let e = c .slopes-next .ensures in (
       l .inv .0,
       l .inv .1,
@@ -61,8 +63,9 @@ loop-again c =
 
 returns : tie.Need-returns Inv-loop μ-loop
 returns c =
+    let at-start = c .before .before .before .before .before .before in
     let l = c .before .loop in
-    let a = c .before .before .before .before .before .before .args in
+    let a = at-start .args in
     sym (l .inv .5 ∙ slopes-none (marchedRowsOf (a .keys .now) (a .distances .now) (a .count)) (a .key) (a .distance) (neighbours (a .key)) _ (l .inv .0) (l .i) (l .sum) (let t = c .loop-test .left in let n = l .inv .1 in omega arith))
 
 pub sum-slopes-spec : {M : Type 1} → statement M

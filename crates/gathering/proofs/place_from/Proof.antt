@@ -4,7 +4,7 @@ use native.Mathlib.Omega.{arith}
 use Rattle.gathering.proofs.Placing.{goes, stops, ends}
 use Prim.Native.Nat.{_≤_, _-_}
 use lib.ListN.{take}
-use Rattle.table.specs.Keys.{placeOf}
+use Rattle.search.specs.Keys.{placeOf}
 use borrow.Author.Needs.{needs}
 use Rattle.gathering.proofs.place_from.Statement.{statement}
 use Rattle.gathering.proofs.place_from.Tie as tie

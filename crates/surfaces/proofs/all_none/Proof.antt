@@ -5,11 +5,11 @@ use mathlib.Core.Path.{_≡_, refl, sym, _∙_}
 use native.Mathlib.Omega.{arith}
 use lib.ListN.{drop}
 use lib.Ieee.{nan}
-use Rattle.vertices.specs.Normals.{normal}
-use Rattle.surfaces.specs.Corners.{every}
+use Rattle.slopes.specs.Normals.{normal}
+use Rattle.corners.specs.Corners.{every}
 use Rattle.surfaces.specs.Stats.{isNone, normalsIn}
 use Rattle.lists.proofs.Bools.{yes, no}
-use Rattle.surfaces.proofs.Sets.{passes, fails, done}
+use Rattle.corners.proofs.Sets.{passes, fails, done}
 use borrow.Author.Needs.{needs}
 use Rattle.surfaces.proofs.all_none.Statement.{statement}
 use Rattle.surfaces.proofs.all_none.Tie as tie

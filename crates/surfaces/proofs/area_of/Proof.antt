@@ -7,9 +7,9 @@ use native.Mathlib.Omega.{arith}
 use lib.ListN.{length, getD, drop}
 use lib.Ieee.{ofBits}
 use Rattle.floats.specs.Floats.{zero32}
-use Rattle.surfaces.specs.Corners.{every, verticesIn, triangle, trianglesIn, triangleOk}
+use Rattle.corners.specs.Corners.{every, verticesIn, triangle, trianglesIn, triangleOk}
 use Rattle.surfaces.specs.Areas.{areaFrom}
-use Rattle.surfaces.proofs.Sets.{others-pass}
+use Rattle.corners.proofs.Sets.{others-pass}
 use Rattle.surfaces.proofs.AreaLaws.{named, area-more, area-done}
 use borrow.Author.Needs.{needs}
 use Rattle.surfaces.proofs.area_of.Statement.{statement}
@@ -44,7 +44,9 @@ asked c k h =
 
 loop-holds : tie.Need-loop-holds Inv-loop μ-loop
 unfolding ofBits
-loop-holds c = (search needs, c .before .before .before .before .before .before .pre .1 .1, refl)
+loop-holds c =
+    let at-start = c .before .before .before .before .before .before in
+    (search needs, at-start .pre .1 .1, refl)
 
 mul-vertex-at : tie.Need-mul-vertex-at Inv-loop μ-loop
 mul-vertex-at c =
@@ -57,7 +59,9 @@ shared-slice-read-vertex-at c =
     omega (arith, c .before .loop-test .taken, s .pre .1 .0 .fits, s .pre .1 .0 .second, s .pre .1 .0 .third)
 
 cast-vertex-at : tie.Need-cast-vertex-at Inv-loop μ-loop
-cast-vertex-at c = omega (arith, name (c .before) .0, c .before .before .before .before .before .before .before .before .before .fits .vertices)
+cast-vertex-at c =
+    let at-start = c .before .before .before .before .before .before .before .before .before in
+    omega (arith, name (c .before) .0, at-start .fits .vertices)
 
 vertex-at-requires : tie.Need-vertex-at-requires Inv-loop μ-loop
 vertex-at-requires c κs = asked (c .before) _ (name (c .before) .0)
@@ -73,7 +77,9 @@ shared-slice-read-vertex-at-2 c =
     omega (arith, c .before .before .before .loop-test .taken, s .pre .1 .0 .fits, s .pre .1 .0 .second, s .pre .1 .0 .third)
 
 cast-vertex-at-2 : tie.Need-cast-vertex-at-2 Inv-loop μ-loop
-cast-vertex-at-2 c = omega (arith, name (c .before .before .before) .1, c .before .before .before .before .before .before .before .before .before .before .before .fits .vertices)
+cast-vertex-at-2 c =
+    let at-start = c .before .before .before .before .before .before .before .before .before .before .before in
+    omega (arith, name (c .before .before .before) .1, at-start .fits .vertices)
 
 vertex-at-requires-2 : tie.Need-vertex-at-requires-2 Inv-loop μ-loop
 vertex-at-requires-2 c κs = asked (c .before .before .before) _ (name (c .before .before .before) .1)
@@ -89,7 +95,9 @@ shared-slice-read-vertex-at-3 c =
     omega (arith, c .before .before .before .before .before .loop-test .taken, s .pre .1 .0 .fits, s .pre .1 .0 .second, s .pre .1 .0 .third)
 
 cast-vertex-at-3 : tie.Need-cast-vertex-at-3 Inv-loop μ-loop
-cast-vertex-at-3 c = omega (arith, name (c .before .before .before .before .before) .2, c .before .before .before .before .before .before .before .before .before .before .before .before .before .fits .vertices)
+cast-vertex-at-3 c =
+    let at-start = c .before .before .before .before .before .before .before .before .before .before .before .before .before in
+    omega (arith, name (c .before .before .before .before .before) .2, at-start .fits .vertices)
 
 vertex-at-requires-3 : tie.Need-vertex-at-requires-3 Inv-loop μ-loop
 vertex-at-requires-3 c κs = asked (c .before .before .before .before .before) _ (name (c .before .before .before .before .before) .2)
@@ -98,7 +106,10 @@ area-between-requires : tie.Need-area-between-requires Inv-loop μ-loop
 area-between-requires c κs = search needs
 
 add-i : tie.Need-add-i Inv-loop μ-loop
-add-i c = omega (arith, c .before .before .before .before .before .before .before .loop-test .taken, c .before .before .before .before .before .before .before .before .before .before .before .before .before .before .before .fits .triangles)
+add-i c =
+    let at-loop-test = c .before .before .before .before .before .before .before in
+    let at-start = at-loop-test .before .before .before .before .before .before .before .before in
+    omega (arith, at-loop-test .loop-test .taken, at-start .fits .triangles)
 
 loop-less : tie.Need-loop-less Inv-loop μ-loop
 loop-less c = search needs

@@ -2,7 +2,7 @@
 -- Assumes nothing.
 use Rattle.lists.proofs.Bools.{yes, no}
 use Rattle.surfaces.specs.Boxes.{boxAnswer}
-use Rattle.surfaces.proofs.Sets.{lent}
+use Rattle.corners.proofs.Sets.{lent}
 use borrow.Author.Needs.{needs}
 use Rattle.surfaces.proofs.bounding_box.Statement.{statement}
 use Rattle.surfaces.proofs.bounding_box.Tie as tie

@@ -4,7 +4,7 @@ use Prim.Native.Nat.{_≤_, _-_}
 use mathlib.Core.Path.{_≡_, sym, _∙_}
 use native.Mathlib.Omega.{arith}
 use lib.ListN.{drop}
-use Rattle.surfaces.specs.Corners.{verticesIn}
+use Rattle.corners.specs.Corners.{verticesIn}
 use Rattle.surfaces.specs.Boxes.{boxOf}
 use Rattle.surfaces.proofs.BoxLaws.{cornersFrom, box-none, box-first, box-more, box-done}
 use borrow.Author.Needs.{needs}
@@ -43,7 +43,9 @@ upper-of-requires : tie.Need-upper-of-requires Inv-loop μ-loop
 upper-of-requires c κs = search needs
 
 add-i : tie.Need-add-i Inv-loop μ-loop
-add-i c = omega (arith, c .before .before .before .loop-test .taken, c .before .before .before .before .before .before .before .before .before .before .fits .vertices)
+add-i c =
+    let at-start = c .before .before .before .before .before .before .before .before .before .before in
+    omega (arith, c .before .before .before .loop-test .taken, at-start .fits .vertices)
 
 loop-less : tie.Need-loop-less Inv-loop μ-loop
 loop-less c = search needs

@@ -2,7 +2,7 @@
 -- Assumes nothing.
 use Rattle.lists.proofs.Bools.{yes, no}
 use Rattle.surfaces.specs.Stats.{statsAnswer}
-use Rattle.surfaces.proofs.Sets.{lent}
+use Rattle.corners.proofs.Sets.{lent}
 use borrow.Author.Needs.{needs}
 use Rattle.surfaces.proofs.mesh_stats.Statement.{statement}
 use Rattle.surfaces.proofs.mesh_stats.Tie as tie

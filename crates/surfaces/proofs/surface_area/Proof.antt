@@ -1,10 +1,10 @@
 -- `surfaces::surface_area` meets its contract: the lengths are tested, then the vertices and the triangles, then the areas are added up.
 -- Assumes nothing.
 use Rattle.lists.proofs.Bools.{yes, no, and-eq, and-second}
-use Rattle.surfaces.specs.Corners.{every, vertexOk, verticesIn}
-use Rattle.surfaces.specs.Steps.{Lent}
+use Rattle.corners.specs.Corners.{every, vertexOk, verticesIn}
+use Rattle.corners.specs.Steps.{Lent}
 use Rattle.surfaces.specs.Areas.{areaAnswer}
-use Rattle.surfaces.proofs.Sets.{both-lent}
+use Rattle.corners.proofs.Sets.{both-lent}
 use borrow.Author.Needs.{needs}
 use Rattle.surfaces.proofs.surface_area.Statement.{statement}
 use Rattle.surfaces.proofs.surface_area.Tie as tie
@@ -24,7 +24,8 @@ sets-lent : (c : tie.Else1) →
     let a = c .before .before .before .before .before .before .before .before .before .args in
     Lent (a .px .now) (a .py .now) (a .pz .now) (a .vertices) × Lent (a .t0 .now) (a .t1 .now) (a .t2 .now) (a .triangles)
 sets-lent c =
-    let a = c .before .before .before .before .before .before .before .before .before .args in
+    let at-start = c .before .before .before .before .before .before .before .before .before in
+    let a = at-start .args in
     both-lent (a .px .now) (a .py .now) (a .pz .now) (a .vertices) (a .t0 .now) (a .t1 .now) (a .t2 .now) (a .triangles)
     (yes (and-eq (c .before .before .set-ok .ensures) (c .before .set-ok2 .ensures)) (c .if1 .left))
 
@@ -40,14 +41,17 @@ returns-2 c = rw (yes (and-eq (c .before .before .before .before .before .set-ok
 
 area-of-requires : tie.Need-area-of-requires
 area-of-requires c κs =
-    let a = c .before .before .before .before .before .before .before .before .before .before .before .before .args in
+    let at-start = c .before .before .before .before .before .before .before .before .before .before .before .before in
+    let a = at-start .args in
     let l = sets-lent (c .before .before .before) in
     let p = yes (and-eq (c .before .before .vertices-ok .ensures) (c .before .triangles-ok .ensures)) (c .if2 .left) in
     (l .0, (l .1, and-second (every vertexOk (verticesIn (a .px .now) (a .py .now) (a .pz .now) (a .vertices))) _ p))
 
 returns-3 : tie.Need-returns-3
 unfolding areaAnswer
-returns-3 c = rw (yes (and-eq (c .before .before .before .before .before .before .set-ok .ensures) (c .before .before .before .before .before .set-ok2 .ensures)) (c .before .before .before .before .if1 .left), yes (and-eq (c .before .before .before .vertices-ok .ensures) (c .before .before .triangles-ok .ensures)) (c .before .if2 .left), c .area-of .ensures)
+returns-3 c =
+    let at-set-ok = c .before .before .before .before .before .before in
+    rw (yes (and-eq (at-set-ok .set-ok .ensures) (c .before .before .before .before .before .set-ok2 .ensures)) (c .before .before .before .before .if1 .left), yes (and-eq (c .before .before .before .vertices-ok .ensures) (c .before .before .triangles-ok .ensures)) (c .before .if2 .left), c .area-of .ensures)
 
 pub surface-area-spec : {M : Type 1} → statement M
 surface-area-spec =

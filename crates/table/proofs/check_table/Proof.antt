@@ -29,8 +29,7 @@ rows-ok-requires c κs =
     (k .0, k .1, k .2)
 
 keys-ascend-requires : tie.Need-keys-ascend-requires
-keys-ascend-requires c κs =
-    lengths-known _ _ _ _ (yes (c .before .before .lengths-ok .ensures) (c .before .if2 .left)) .0
+keys-ascend-requires c κs = search needs
 
 returns-3 : tie.Need-returns-3
 unfolding tableCheck need

@@ -6,17 +6,21 @@ use native.Mathlib.Omega.{arith}
 use lib.ListN.{length, take}
 use lib.Seq.{length-take-le}
 use Rattle.lists.proofs.Bools.{yes, no}
-use Rattle.table.specs.Keys.{find}
-use Rattle.table.specs.declared.Found.the-variants.{At}
-use Rattle.table.proofs.KeyLaws.{findBy-find, found}
+use Rattle.search.specs.Keys.{find}
+use Rattle.search.specs.declared.Found.the-variants.{At}
+use Rattle.search.proofs.KeyLaws.{findBy-find, found}
 use Rattle.tsdf_questions.specs.Lookups.{rowAt, rowIf, rowOf}
 use borrow.Author.Needs.{needs}
 use Rattle.tsdf_questions.proofs.row_of.Statement.{statement}
 use Rattle.tsdf_questions.proofs.row_of.Tie as tie
 
 -- what the search told, where it found the key
-told : (c : tie.After-i) → find (c .before .before .before .before .before .before .before .before .args .key) (take (c .before .before .before .before .before .before .before .before .args .count) (c .before .before .before .before .before .before .before .before .args .keys .now)) ≡ At (c .i .given .0 .0)
-told c = sym (findBy-find _ _ (c .before .before .before .before .before .before .before .before .pre .ascends)) ∙ sym (c .before .before .find-row .ensures) ∙ c .i .given .1
+told :
+    (c : tie.After-i)
+    → find (c .before .before .before .before .before .before .before .before .args .key) (take (c .before .before .before .before .before .before .before .before .args .count) (c .before .before .before .before .before .before .before .before .args .keys .now)) ≡ At (c .i .given .0 .0)
+told c =
+    let at-start = c .before .before .before .before .before .before .before .before in
+    sym (findBy-find _ _ (at-start .pre .ascends)) ∙ sym (c .before .before .find-row .ensures) ∙ c .i .given .1
 
 inside : (c : tie.After-i) → c .i .given .0 .0 < length (c .before .before .before .before .before .before .before .before .args .keys .now)
 inside c =
@@ -63,7 +67,10 @@ shared-slice-read-t16 c =
 
 returns-3 : tie.Need-returns-3
 unfolding rowOf rowIf rowAt
-returns-3 c = rw (yes (c .before .before .before .before .before .before .before .is-on-lattice .ensures) (c .before .before .before .before .before .before .if1 .left), told (c .before .before .before))
+returns-3 c =
+    let at-if1 = c .before .before .before .before .before .before in
+    let at-is-on-lattice = at-if1 .before in
+    rw (yes (at-is-on-lattice .is-on-lattice .ensures) (at-if1 .if1 .left), told (c .before .before .before))
 
 pub row-of-spec : {M : Type 1} → statement M
 row-of-spec =

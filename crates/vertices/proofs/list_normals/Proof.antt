@@ -1,15 +1,13 @@
 -- `vertices::list_normals` meets its contract: what is left of the edges says what all of them say.
 -- Assumes nothing.
-use Prim.Native.Nat.{_≤_, _<_, _+_, _-_, min}
-use mathlib.Core.Path.{_≡_, refl, sym, ap, _∙_}
-use mathlib.Core.List.{List}
+use Prim.Native.Nat.{_≤_, _<_, _-_, min}
+use mathlib.Core.Path.{_≡_, refl, _∙_}
 use native.Mathlib.Omega.{arith}
 use lib.ListN.{length}
 use lib.Seq.{sets}
-use lib.Ieee.{Float}
-use Rattle.vertices.specs.declared.Normal.{Normal}
-use Rattle.vertices.specs.Stored.{distanceBy}
-use Rattle.vertices.specs.Normals.{normalAt, partsX, partsY, partsZ}
+use Rattle.slopes.specs.declared.Normal.{Normal}
+use Rattle.slopes.specs.Stored.{distanceBy}
+use Rattle.slopes.specs.Normals.{normalAt, partsX, partsY, partsZ}
 use Rattle.vertices.proofs.Columns.{column-more, column-done, normalsFrom, normal-next, normals-end}
 use borrow.Author.Needs.{needs}
 use Rattle.vertices.proofs.list_normals.Statement.{statement}
@@ -52,27 +50,33 @@ put-requires-3 : tie.Need-put-requires-3 Inv-loop μ-loop
 put-requires-3 c κs = search needs
 
 add-i : tie.Need-add-i Inv-loop μ-loop
-add-i c = omega (arith, c .before .before .before .before .before .before .before .before .before .before .before .before .before .before .before .loop .inv .0)
+add-i c =
+    let bound = c .before .before .before .before .before .before .before .before .before .before .before .before .before .before .before .loop .inv .0 in
+    omega (arith, bound)
 
 loop-less : tie.Need-loop-less Inv-loop μ-loop
 loop-less c = omega arith
 
 loop-again : tie.Need-loop-again Inv-loop μ-loop
 loop-again c =
+    let at-put2 = c .before .before .before .before .before .before in
+    let at-put = at-put2 .before .before .before .before in
+    let at-next-normal = at-put .before .before in
+    let at-loop-test = at-next-normal .before .before in
     let l = c .before .before .before .before .before .before .before .before .before .before .before .before .before .before .before in
     let v = l .loop .inv in
     let i = l .loop .i in
     let a = l .before .before .before .before .before .before .before .before .before .args in
-    let h : i < min (a .edges) (length (a .first .now)) = omega (arith, v .0, c .before .before .before .before .before .before .before .before .before .before .before .before .before .before .loop-test .taken) in
-    let t = c .before .before .before .before .before .before .before .before .before .before .before .before .next-normal .ensures in
+    let h : i < min (a .edges) (length (a .first .now)) = omega (arith, v .0, at-loop-test .loop-test .taken) in
+    let t = at-next-normal .next-normal .ensures in
     let next = normal-next (distanceBy (a .keys .now) (a .distances .now) (a .count)) (a .voxel-size .0) (a .edges) (a .first .now) i h in
-    let nx = c .before .before .before .before .before .before .before .before .before .before .put .ensures in
-    let ny = c .before .before .before .before .before .before .put2 .ensures in
+    let nx = at-put .put .ensures in
+    let ny = at-put2 .put2 .ensures in
     let nz = c .before .before .put3 .ensures in (
       v .0,
       t,
-      omega (arith, c .before .before .before .before .before .before .before .before .before .before .put .kept .0, v .2),
-      omega (arith, c .before .before .before .before .before .before .put2 .kept .0, v .3),
+      omega (arith, at-put .put .kept .0, v .2),
+      omega (arith, at-put2 .put2 .kept .0, v .3),
       omega (arith, c .before .before .put3 .kept .0, v .4),
       v .5 ∙ column-more (λ (u : Normal). u .x) _ i _ _ _ _ next (nx ∙ rw t),
       v .6 ∙ column-more (λ (u : Normal). u .y) _ i _ _ _ _ next (ny ∙ rw t),

@@ -1,7 +1,7 @@
 -- What is handed back is read off what the call below answers. Assumes nothing.
 use mathlib.Core.Path.{_∙_, ap}
 use Rattle.ids.specs.Key.{decodedNumber}
-use Rattle.akfelzun.specs.Keys.{placeDecoded}
+use Rattle.answers.specs.Keys.{placeDecoded}
 use borrow.Author.Needs.{needs}
 use Rattle.akfelzun.proofs.keys.akf_decode_coords.Statement.{statement}
 use Rattle.akfelzun.proofs.keys.akf_decode_coords.Tie as tie

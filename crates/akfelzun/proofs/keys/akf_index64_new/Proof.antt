@@ -1,7 +1,7 @@
 -- What is handed back is read off what the call below answers. Assumes nothing.
 use Rattle.ids.specs.Key.{madeNumber}
-use Rattle.akfelzun.specs.Keys.{keyMade}
-use Rattle.akfelzun.proofs.BackLaws.{both}
+use Rattle.answers.specs.Keys.{keyMade}
+use Rattle.answers.proofs.BackLaws.{both}
 use borrow.Author.Needs.{needs}
 use Rattle.akfelzun.proofs.keys.akf_index64_new.Statement.{statement}
 use Rattle.akfelzun.proofs.keys.akf_index64_new.Tie as tie

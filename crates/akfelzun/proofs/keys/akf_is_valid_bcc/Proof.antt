@@ -2,8 +2,8 @@
 -- Assumes nothing.
 use mathlib.Core.Path.{_∙_, ap}
 use Rattle.bcc_utils.specs.Snapping.{onLattice}
-use Rattle.akfelzun.specs.Keys.{oneIf}
-use Rattle.akfelzun.proofs.SignedLaws.{three-read}
+use Rattle.answers.specs.Keys.{oneIf}
+use Rattle.answers.proofs.SignedLaws.{three-read}
 use borrow.Author.Needs.{needs}
 use Rattle.akfelzun.proofs.keys.akf_is_valid_bcc.Statement.{statement}
 use Rattle.akfelzun.proofs.keys.akf_is_valid_bcc.Tie as tie

@@ -2,7 +2,7 @@
 -- Assumes nothing.
 use mathlib.Core.Path.{_∙_, ap}
 use Rattle.bcc_utils.specs.Snapping.{snappedNumber, snappedPlace}
-use Rattle.akfelzun.proofs.SignedLaws.{read-back}
+use Rattle.answers.proofs.SignedLaws.{read-back}
 use borrow.Author.Needs.{needs}
 use Rattle.akfelzun.proofs.keys.akf_physical_to_bcc_voxel.Statement.{statement}
 use Rattle.akfelzun.proofs.keys.akf_physical_to_bcc_voxel.Tie as tie

@@ -1,7 +1,7 @@
 -- What is handed back is read off what the call below answers. Assumes nothing.
 use Rattle.root.specs.Root.{rootNumber}
-use Rattle.akfelzun.specs.Keys.{rootGiven}
-use Rattle.akfelzun.proofs.BackLaws.{both}
+use Rattle.answers.specs.Keys.{rootGiven}
+use Rattle.answers.proofs.BackLaws.{both}
 use borrow.Author.Needs.{needs}
 use Rattle.akfelzun.proofs.keys.akf_root.Statement.{statement}
 use Rattle.akfelzun.proofs.keys.akf_root.Tie as tie

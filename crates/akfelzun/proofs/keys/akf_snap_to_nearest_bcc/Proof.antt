@@ -2,7 +2,7 @@
 -- Assumes nothing.
 use mathlib.Core.Path.{_∙_, ap}
 use Rattle.bcc_utils.specs.Snapping.{snapped, snappedNumber, snappedPlace}
-use Rattle.akfelzun.proofs.SignedLaws.{read-back, three-read}
+use Rattle.answers.proofs.SignedLaws.{read-back, three-read}
 use borrow.Author.Needs.{needs}
 use Rattle.akfelzun.proofs.keys.akf_snap_to_nearest_bcc.Statement.{statement}
 use Rattle.akfelzun.proofs.keys.akf_snap_to_nearest_bcc.Tie as tie

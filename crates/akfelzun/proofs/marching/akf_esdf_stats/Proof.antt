@@ -1,9 +1,9 @@
 -- Each number follows from what the call answers: the answer, then what is handed back of it.
 -- Assumes nothing.
 use mathlib.Core.Path.{_∙_, ap}
-use Rattle.esdf_questions.specs.declared.EsdfStats.{EsdfStats}
-use Rattle.esdf_questions.specs.Statistics.{statisticsNumber}
-use Rattle.akfelzun.specs.Marching.{marchedStats}
+use Rattle.esdf_surveys.specs.declared.EsdfStats.{EsdfStats}
+use Rattle.esdf_surveys.specs.Statistics.{statisticsNumber}
+use Rattle.mesh_answers.specs.Marching.{marchedStats}
 use borrow.Author.Needs.{needs}
 use Rattle.akfelzun.proofs.marching.akf_esdf_stats.Statement.{statement}
 use Rattle.akfelzun.proofs.marching.akf_esdf_stats.Tie as tie

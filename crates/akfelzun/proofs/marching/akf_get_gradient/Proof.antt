@@ -1,7 +1,7 @@
 -- What is handed back is read off what the call below answers. Assumes nothing.
 use mathlib.Core.Path.{_∙_, ap}
 use Rattle.esdf_questions.specs.Gradient.{gradientNumber}
-use Rattle.akfelzun.specs.Marching.{slopeFound}
+use Rattle.mesh_answers.specs.Marching.{slopeFound}
 use borrow.Author.Needs.{needs}
 use Rattle.akfelzun.proofs.marching.akf_get_gradient.Statement.{statement}
 use Rattle.akfelzun.proofs.marching.akf_get_gradient.Tie as tie

@@ -1,7 +1,7 @@
 -- What is handed back is read off what the call below answers. Assumes nothing.
 use Rattle.esdf_questions.specs.Lookups.{freeNumber}
-use Rattle.akfelzun.specs.Marching.{freeFound}
-use Rattle.akfelzun.proofs.BackLaws.{both}
+use Rattle.mesh_answers.specs.Marching.{freeFound}
+use Rattle.answers.proofs.BackLaws.{both}
 use borrow.Author.Needs.{needs}
 use Rattle.akfelzun.proofs.marching.akf_is_free_space.Statement.{statement}
 use Rattle.akfelzun.proofs.marching.akf_is_free_space.Tie as tie

@@ -1,9 +1,9 @@
 -- Each number follows from what the call answers: the answer, then what is handed back of it.
 -- Assumes nothing.
 use mathlib.Core.Path.{_∙_, ap}
-use Rattle.vertices.specs.declared.Vertex.{Vertex}
+use Rattle.slopes.specs.declared.Vertex.{Vertex}
 use Rattle.surfaces.specs.Boxes.{boxNumber}
-use Rattle.akfelzun.specs.Meshing.{lowCorner, highCorner}
+use Rattle.mesh_answers.specs.Meshing.{lowCorner, highCorner}
 use borrow.Author.Needs.{needs}
 use Rattle.akfelzun.proofs.meshing.akf_bounding_box.Statement.{statement}
 use Rattle.akfelzun.proofs.meshing.akf_bounding_box.Tie as tie

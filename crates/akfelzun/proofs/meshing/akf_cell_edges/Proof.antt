@@ -1,7 +1,7 @@
 -- Each number follows from what the call answers: the answer, then what is handed back of it.
 -- Assumes nothing.
 use mathlib.Core.Path.{_∙_, ap}
-use Rattle.akfelzun.specs.Meshing.{spanStart, spanLength}
+use Rattle.mesh_answers.specs.Meshing.{spanStart, spanLength}
 use borrow.Author.Needs.{needs}
 use Rattle.akfelzun.proofs.meshing.akf_cell_edges.Statement.{statement}
 use Rattle.akfelzun.proofs.meshing.akf_cell_edges.Tie as tie

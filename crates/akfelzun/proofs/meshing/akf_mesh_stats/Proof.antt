@@ -1,7 +1,7 @@
 -- What is handed back is read off what the call below answers. Assumes nothing.
 use Rattle.surfaces.specs.Stats.{statsNumber, statsValue}
-use Rattle.akfelzun.specs.Keys.{oneIf}
-use Rattle.akfelzun.proofs.BackLaws.{both}
+use Rattle.answers.specs.Keys.{oneIf}
+use Rattle.answers.proofs.BackLaws.{both}
 use borrow.Author.Needs.{needs}
 use Rattle.akfelzun.proofs.meshing.akf_mesh_stats.Statement.{statement}
 use Rattle.akfelzun.proofs.meshing.akf_mesh_stats.Tie as tie

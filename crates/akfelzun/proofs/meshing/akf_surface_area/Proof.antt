@@ -1,6 +1,6 @@
 -- What is handed back is read off what the call below answers. Assumes nothing.
 use Rattle.surfaces.specs.Areas.{areaNumber, areaValue}
-use Rattle.akfelzun.proofs.BackLaws.{both}
+use Rattle.answers.proofs.BackLaws.{both}
 use borrow.Author.Needs.{needs}
 use Rattle.akfelzun.proofs.meshing.akf_surface_area.Statement.{statement}
 use Rattle.akfelzun.proofs.meshing.akf_surface_area.Tie as tie

@@ -1,0 +1,51 @@
+-- The settings and readings that a host's numbers stand for, and what fusing hands back.
+use Prim.Native.Nat.{ℕ}
+use lib.Ieee.{Float}
+use Rattle.table.specs.Table.{Table}
+use Rattle.table.specs.declared.Settings.{Settings}
+use Rattle.fusing.specs.Fusing.{Outcome, fusedNumber}
+use Rattle.batching.specs.Batches.{BatchOutcome, batchedNumber, batchedAt}
+use Rattle.measuring.specs.declared.Reading.{Reading}
+use Rattle.measuring.specs.declared.Reading.the-variants.{Direct, Ray}
+
+-- the four settings in their one order
+abbrev pub settingsOf : Float → Float → Float → Float → Settings
+settingsOf truncation weight size farthest =
+    record {
+      truncation = record { 0 = truncation };
+      «max_weight» = weight;
+      «voxel_size» = record { 0 = size };
+      «max_distance» = record { 0 = farthest };
+    }
+
+-- a direct reading
+abbrev pub directReading : Float → Float → Reading
+directReading distance confidence = Direct (record { 0 = distance }) confidence
+
+-- a ray from a sensor's place
+abbrev pub rayReading : Float → Float → Float → Float → Float → Reading
+rayReading x y z depth confidence =
+    Ray (record { 0 = x }) (record { 0 = y }) (record { 0 = z }) (record { 0 = depth }) confidence
+
+-- what a reading hands back: its number, and the table as it is left
+pub record FuseBack : Type 0 where
+  pub number : ℕ
+  pub left : Table
+
+abbrev pub fuseBack : ℕ → Table → FuseBack
+fuseBack number left = record { number = number; left = left }
+
+abbrev pub fuseHanded : Outcome → FuseBack
+fuseHanded o = fuseBack (fusedNumber (o .answer)) (o .left)
+
+-- what a batch hands back: the same, and the reading that a refusal names
+pub record BatchBack : Type 0 where
+  pub number : ℕ
+  pub left : Table
+  pub at : ℕ
+
+abbrev pub batchBack : ℕ → Table → ℕ → BatchBack
+batchBack number left at = record { number = number; left = left; at = at }
+
+abbrev pub batchHanded : BatchOutcome → BatchBack
+batchHanded o = batchBack (batchedNumber (o .answer)) (o .left) (batchedAt (o .answer))

@@ -1,0 +1,120 @@
+-- `batches::batch_sound` meets its contract: what is left of the batch ends as the whole does.
+-- Assumes nothing.
+use mathlib.Core.Path.{_≡_, refl, sym, _∙_}
+use Prim.Native.Nat.{_≤_, _-_}
+use native.Mathlib.Omega.{arith}
+use lib.ListN.{length, drop}
+use Rattle.table.proofs.RowLaws.{beside-length}
+use Rattle.table.specs.Table.{table, beside, tableCheck}
+use Rattle.table.specs.declared.Checked.the-variants.{Passed}
+use Rattle.batching.specs.Batches.{batchFrom}
+use Rattle.batching.proofs.Batching.{ended}
+use Rattle.owning.proofs.Running.{run-stops, run-goes}
+use borrow.Author.Needs.{needs}
+use Rattle.batches.proofs.batch_sound.Statement.{statement}
+use Rattle.batches.proofs.batch_sound.Tie as tie
+
+abbrev Inv-loop : tie.InvT-loop
+Inv-loop settings keys₀ distances₀ weights₀ count₀ batch-keys batch-distances batch-confidences i₀ keys distances weights count i = (i ≤ length batch-keys) × (tableCheck settings (table keys distances weights count) ≡ Passed) × (batchFrom settings 0 (table keys₀ distances₀ weights₀ count₀) (beside batch-keys batch-distances batch-confidences) ≡ batchFrom settings i (table keys distances weights count) (drop i (beside batch-keys batch-distances batch-confidences))) × (length keys ≡ length keys₀) × (length distances ≡ length distances₀) × (length weights ≡ length weights₀)
+
+abbrev μ-loop : tie.MeasureT-loop
+μ-loop settings keys₀ distances₀ weights₀ count₀ batch-keys batch-distances batch-confidences i₀ keys distances weights count i = length batch-keys - i
+
+loop-holds : tie.Need-loop-holds Inv-loop μ-loop
+loop-holds c =
+    let at-start = c .before .before .before .before .before .before in
+    (search needs, at-start .pre .0, refl, refl, refl, refl)
+
+batch-step-requires : tie.Need-batch-step-requires Inv-loop μ-loop
+batch-step-requires c κs =
+    let at-start = c .before .before .before .before .before .before .before .before .before .before .before .before in
+    (c .before .before .before .before .before .loop .inv .1, (omega arith, at-start .pre .1))
+
+enum-known-run : tie.Need-enum-known-run Inv-loop μ-loop
+enum-known-run c = search needs
+
+same-length : tie.Need-same-length Inv-loop μ-loop
+same-length c =
+    let at-batch-step = c .before .before .before .before .before .before .before .before .before in
+    let at-loop = at-batch-step .before .before .before .before .before .before in
+    at-batch-step .batch-step .kept .1 .0 ∙ at-loop .loop .inv .3
+
+same-length-2 : tie.Need-same-length-2 Inv-loop μ-loop
+same-length-2 c =
+    let at-batch-step = c .before .before .before .before .before .before .before .before .before in
+    let at-loop = at-batch-step .before .before .before .before .before .before in
+    at-batch-step .batch-step .kept .1 .1 .0 ∙ at-loop .loop .inv .4
+
+same-length-3 : tie.Need-same-length-3 Inv-loop μ-loop
+same-length-3 c =
+    let at-batch-step = c .before .before .before .before .before .before .before .before .before in
+    let at-loop = at-batch-step .before .before .before .before .before .before in
+    at-batch-step .batch-step .kept .1 .1 .1 .0 ∙ at-loop .loop .inv .5
+
+returns : tie.Need-returns Inv-loop μ-loop
+returns c =
+    let at-batch-step = c .before .before .before .before .before .before .before .before .before in
+    let at-loop = at-batch-step .before .before .before .before .before .before in
+    sym (at-loop .loop .inv .2 ∙ run-stops _ _ _ _ _ _ _ (at-batch-step .batch-step .ensures) _ _ (c .before .run .given .1))
+
+enum-known-run-2 : tie.Need-enum-known-run-2 Inv-loop μ-loop
+enum-known-run-2 c = search needs
+
+loop-less : tie.Need-loop-less Inv-loop μ-loop
+loop-less c =
+    let at-batch-step = c .before .before .before .before .before .before .before .before .before in
+    let at-loop-test = at-batch-step .before .before .before .before .before in
+    let at-start = at-loop-test .before .before .before .before .before .before .before .before in
+    let a = at-start .args in
+    let n = beside-length (a .batch-keys .now) (a .batch-distances .now) (a .batch-confidences .now) (at-start .pre .1 .0) (at-start .pre .1 .1) in
+    let r = run-goes _ _ _ _ _ _ _ (at-batch-step .batch-step .ensures) _ (c .before .run2 .given .1) in
+    omega (arith, n, r .1, r .2, at-loop-test .loop-test .taken)
+
+loop-again : tie.Need-loop-again Inv-loop μ-loop
+loop-again c =
+    let at-batch-step = c .before .before .before .before .before .before .before .before .before in
+    let at-loop = at-batch-step .before .before .before .before .before .before in
+    let at-start = at-loop .before .before .before .before .before .before .before in
+    let a = at-start .args in
+    let n = beside-length (a .batch-keys .now) (a .batch-distances .now) (a .batch-confidences .now) (at-start .pre .1 .0) (at-start .pre .1 .1) in
+    let r = run-goes _ _ _ _ _ _ _ (at-batch-step .batch-step .ensures) _ (c .before .run2 .given .1) in
+    (omega (arith, n, r .2), at-batch-step .batch-step .ensures .1, at-loop .loop .inv .2 ∙ r .0, at-batch-step .batch-step .kept .1 .0 ∙ at-loop .loop .inv .3, at-batch-step .batch-step .kept .1 .1 .0 ∙ at-loop .loop .inv .4, at-batch-step .batch-step .kept .1 .1 .1 .0 ∙ at-loop .loop .inv .5)
+
+same-length-4 : tie.Need-same-length-4 Inv-loop μ-loop
+same-length-4 c =
+    c .before .loop .inv .3
+
+same-length-5 : tie.Need-same-length-5 Inv-loop μ-loop
+same-length-5 c =
+    c .before .loop .inv .4
+
+same-length-6 : tie.Need-same-length-6 Inv-loop μ-loop
+same-length-6 c =
+    c .before .loop .inv .5
+
+returns-2 : tie.Need-returns-2 Inv-loop μ-loop
+returns-2 c =
+    let at-start = c .before .before .before .before .before .before .before .before in
+    let a = at-start .args in
+    sym (c .before .loop .inv .2 ∙ ended (a .settings) _ (a .batch-keys .now) (a .batch-distances .now) (a .batch-confidences .now) (c .before .loop .i) (c .loop-test .left))
+
+pub batch-sound-spec : {M : Type 1} → statement M
+batch-sound-spec =
+    tie.close
+    (tie.spec
+    Inv-loop
+    μ-loop
+    loop-holds
+    batch-step-requires
+    enum-known-run
+    same-length
+    same-length-2
+    same-length-3
+    returns
+    enum-known-run-2
+    loop-less
+    loop-again
+    same-length-4
+    same-length-5
+    same-length-6
+    returns-2)

@@ -1,0 +1,197 @@
+// A batch of readings, fused in turn (src/layers/tsdf.rs: batch_update): many at a time through own rows, few one by one.
+use batching::Batched;
+use floats::Metres;
+use fusing::Fused;
+use fusing::fuse_sound;
+use measuring::Reading;
+use owning::Run;
+use owning::batch_run;
+use refusals::Refusal;
+use table::Checked;
+use table::Settings;
+use table::check_table;
+use table::lengths_ok;
+use table::settings_ok;
+ghost use mathlib.Core.Path.{_≡_};
+ghost use Prim.Native.Nat.{_+_, _<_};
+ghost use lib.ListN.{length};
+ghost use Rattle.table.specs.Table.{table, beside, tableCheck};
+ghost use Rattle.batching.specs.Batches.{batchOutcome, batchFrom, batch};
+ghost use Rattle.owning.specs.Runs.{RunTo};
+
+// One reading of a batch, into the table itself.
+fn batch_one(
+    settings: Settings,
+    keys: &mut [u64],
+    distances: &mut [f32],
+    weights: &mut [f32],
+    count: &mut usize,
+    batch_keys: &[u64],
+    batch_distances: &[f32],
+    batch_confidences: &[f32],
+    from: usize,
+) -> Run
+    requires { ⌜ tableCheck settings (table (now keys) (now distances) (now weights) (now count)) ≡ Checked.Passed ⌝ }
+    requires { ⌜ from < length (now «batch_keys») ⌝ }
+    requires { ⌜ (length (now «batch_distances») ≡ length (now «batch_keys»)) × (length (now «batch_confidences») ≡ length (now «batch_keys»)) ⌝ }
+    ensures { λ r. ⌜ RunTo settings (table (now (keys .entry)) (now (distances .entry)) (now (weights .entry)) (now (count .entry))) (beside (now («batch_keys» .entry)) (now («batch_distances» .entry)) (now («batch_confidences» .entry))) from (from + 1) r (table (now (keys .exit)) (now (distances .exit)) (now (weights .exit)) (now (count .exit))) ⌝ }
+{
+    let key = batch_keys[from];
+    let distance = batch_distances[from];
+    let confidence = batch_confidences[from];
+    let reading = Reading::Direct {
+        distance: Metres(distance),
+        confidence,
+    };
+    let answer = fuse_sound(settings, keys, distances, weights, count, key, reading);
+    match answer {
+        Fused::Refused(why) => Run::Refused(why, from),
+        Fused::Far => Run::Reached(from + 1),
+        Fused::Stored => Run::Reached(from + 1),
+    }
+}
+
+// The next readings of a batch: many through own rows, few one by one.
+fn batch_step(
+    settings: Settings,
+    keys: &mut [u64],
+    distances: &mut [f32],
+    weights: &mut [f32],
+    count: &mut usize,
+    batch_keys: &[u64],
+    batch_distances: &[f32],
+    batch_confidences: &[f32],
+    from: usize,
+) -> Run
+    requires { ⌜ tableCheck settings (table (now keys) (now distances) (now weights) (now count)) ≡ Checked.Passed ⌝ }
+    requires { ⌜ from < length (now «batch_keys») ⌝ }
+    requires { ⌜ (length (now «batch_distances») ≡ length (now «batch_keys»)) × (length (now «batch_confidences») ≡ length (now «batch_keys»)) ⌝ }
+    ensures { λ r. ⌜ RunTo settings (table (now (keys .entry)) (now (distances .entry)) (now (weights .entry)) (now (count .entry))) (beside (now («batch_keys» .entry)) (now («batch_distances» .entry)) (now («batch_confidences» .entry))) from (from + 1) r (table (now (keys .exit)) (now (distances .exit)) (now (weights .exit)) (now (count .exit))) ⌝ }
+{
+    if batch_keys.len() - from < 16 {
+        return batch_one(
+            settings,
+            keys,
+            distances,
+            weights,
+            count,
+            batch_keys,
+            batch_distances,
+            batch_confidences,
+            from,
+        );
+    }
+    let run = batch_run(
+        settings,
+        keys,
+        distances,
+        weights,
+        count,
+        batch_keys,
+        batch_distances,
+        batch_confidences,
+        from,
+    );
+    match run {
+        Run::Refused(why, at) => {
+            return Run::Refused(why, at);
+        }
+        Run::Reached(reached) => {
+            if from < reached {
+                return Run::Reached(reached);
+            }
+            return batch_one(
+                settings,
+                keys,
+                distances,
+                weights,
+                count,
+                batch_keys,
+                batch_distances,
+                batch_confidences,
+                from,
+            );
+        }
+    }
+}
+
+// The readings in order, into a table that passed the check.
+fn batch_sound(
+    settings: Settings,
+    keys: &mut [u64],
+    distances: &mut [f32],
+    weights: &mut [f32],
+    count: &mut usize,
+    batch_keys: &[u64],
+    batch_distances: &[f32],
+    batch_confidences: &[f32],
+) -> Batched
+    requires { ⌜ tableCheck settings (table (now keys) (now distances) (now weights) (now count)) ≡ Checked.Passed ⌝ }
+    requires { ⌜ (length (now «batch_distances») ≡ length (now «batch_keys»)) × (length (now «batch_confidences») ≡ length (now «batch_keys»)) ⌝ }
+    ensures { λ r. ⌜ batchOutcome r (table (now (keys .exit)) (now (distances .exit)) (now (weights .exit)) (now (count .exit)))
+        ≡ batchFrom settings 0 (table (now (keys .entry)) (now (distances .entry)) (now (weights .entry)) (now (count .entry))) (beside (now («batch_keys» .entry)) (now («batch_distances» .entry)) (now («batch_confidences» .entry))) ⌝ }
+{
+    let mut i = 0;
+    while i < batch_keys.len() {
+        let run = batch_step(
+            settings,
+            keys,
+            distances,
+            weights,
+            count,
+            batch_keys,
+            batch_distances,
+            batch_confidences,
+            i,
+        );
+        match run {
+            Run::Refused(why, at) => {
+                return Batched::Refused(why, at);
+            }
+            Run::Reached(reached) => {
+                i = reached;
+            }
+        }
+    }
+    Batched::Done
+}
+
+// A batch of direct readings. A refusal ends it; the readings before it stand.
+pub fn batch_update(
+    settings: Settings,
+    keys: &mut [u64],
+    distances: &mut [f32],
+    weights: &mut [f32],
+    count: &mut usize,
+    batch_keys: &[u64],
+    batch_distances: &[f32],
+    batch_confidences: &[f32],
+) -> Batched
+    ensures { λ r. ⌜ batchOutcome r (table (now (keys .exit)) (now (distances .exit)) (now (weights .exit)) (now (count .exit)))
+        ≡ batch settings (table (now (keys .entry)) (now (distances .entry)) (now (weights .entry)) (now (count .entry))) (now («batch_keys» .entry)) (now («batch_distances» .entry)) (now («batch_confidences» .entry)) ⌝ }
+{
+    if !settings_ok(settings) {
+        return Batched::Refused(Refusal::Setting, 0);
+    }
+    if !lengths_ok(
+        batch_keys.len(),
+        batch_distances.len(),
+        batch_confidences.len(),
+        0,
+    ) {
+        return Batched::Refused(Refusal::Lengths, 0);
+    }
+    match check_table(settings, keys, distances, weights, *count) {
+        Checked::Refused(why) => Batched::Refused(why, 0),
+        Checked::Passed => batch_sound(
+            settings,
+            keys,
+            distances,
+            weights,
+            count,
+            batch_keys,
+            batch_distances,
+            batch_confidences,
+        ),
+    }
+}

@@ -1,0 +1,226 @@
+-- A batch of one is a fuse, a batch splits anywhere, and in a refused one the earlier readings stand: a batch is its readings in turn, and what a part leaves passes the tests again.
+-- Assumes nothing.
+use mathlib.Core.Path.{_≡_, refl, sym, ap, _∙_}
+use mathlib.Core.Bool.{Bool, true, false}
+use mathlib.Core.List.{List, [], _∷_, _++_}
+use Prim.Native.Nat.{ℕ, suc, _+_, _≤_, _<_, zero-le, suc-le-suc}
+use native.Mathlib.Nat.{add-zero, add-suc, suc-add, suc-inj, suc-ne-zero, zero-add}
+use native.Mathlib.Omega.{arith}
+use borrow.Author.Tests.{le-leb, eq-eqb}
+use lib.ListN.{length, take, length-append}
+use lib.Ieee.{Float}
+use Rattle.refusals.specs.declared.Refusal.{Refusal}
+use Rattle.refusals.specs.declared.Refusal.the-variants.{Setting}
+use Rattle.table.specs.declared.Settings.{Settings}
+use Rattle.table.specs.declared.Checked.{Checked}
+use Rattle.table.specs.declared.Checked.the-variants as Checked
+use Rattle.table.specs.Table.{Row, row, Table, beside, settingsOk, lengthsOk, need, tableCheck}
+use Rattle.table.proofs.RowLaws.{beside-length}
+use Rattle.fusing.specs.declared.Fused.{Fused}
+use Rattle.fusing.specs.declared.Fused.the-variants as Fused
+use Rattle.batching.specs.declared.Batched.{Batched}
+use Rattle.batching.specs.declared.Batched.the-variants as Batched
+use Rattle.fusing.specs.Fusing.{Outcome, fuseIf, fuse}
+use Rattle.batching.specs.Batches.{BatchOutcome, batchOutcome, directOf, stopOr, batchFrom, batchIf, batchCheck, batch}
+use Rattle.fusing.proofs.Keeping.{fuse-keeps}
+use Rattle.fusing.proofs.FuseLaws.{refused-unchanged}
+
+-- ---- the tests
+
+-- the settings are tested once
+twice : (b : Bool) (why : Refusal) (rest : Checked) → need b why (need b why rest) ≡ need b why rest
+unfolding need
+twice true why rest = refl
+twice false why rest = refl
+
+-- lists of readings that fit leave the table's tests
+check-once : (s : Settings) (t : Table) (a b c : ℕ) → lengthsOk a b c 0 ≡ true → batchCheck s t a b c ≡ tableCheck s t
+unfolding need tableCheck
+check-once s t a b c h = rw h (twice (settingsOk s) Setting _)
+
+fits : (a b c : ℕ) → b ≡ a → c ≡ a → a ≤ 65536 → lengthsOk a b c 0 ≡ true
+fits a b c p q h = rw (eq-eqb a b (sym p), eq-eqb a c (sym q), le-leb a 65536 h, le-leb 0 a (omega arith))
+
+-- ---- one reading
+
+-- a fuse's outcome as that of a batch of one
+abbrev pub asBatch : Outcome → BatchOutcome
+asBatch o = stopOr (o .answer) 0 (o .left) (batchOutcome Batched.Done (o .left))
+
+pub batch-of-one : (s : Settings) (t : Table) (k : ℕ) (d c : Float) → batch s t (k ∷ []) (d ∷ []) (c ∷ []) ≡ asBatch (fuse s t k (directOf (row k d c)))
+unfolding batch batchIf batchFrom beside fuse fuseIf stopOr
+batch-of-one s t k d c =
+    ap (λ (q : Checked). batchIf q s t (row k d c ∷ [])) (check-once s t 1 1 1 refl) ∙ go (tableCheck s t) refl
+  where
+    go : (q : Checked) → tableCheck s t ≡ q → batchIf q s t (row k d c ∷ []) ≡ asBatch (fuse s t k (directOf (row k d c)))
+    go (Checked.Refused why) e = rw e
+    go Checked.Passed e = refl
+
+-- ---- two parts
+
+-- where the first part went through, the second follows; where it was refused, that stands
+unfoldable pub followedBy : Batched → Table → (Table → BatchOutcome) → BatchOutcome
+followedBy Batched.Done t next = next t
+followedBy (Batched.Refused why i) t next = batchOutcome (Batched.Refused why i) t
+
+-- an outcome whose readings are counted from n
+unfoldable pub counted : ℕ → Batched → Batched
+counted n Batched.Done = Batched.Done
+counted n (Batched.Refused why i) = Batched.Refused why (n + i)
+
+abbrev pub countedFrom : ℕ → BatchOutcome → BatchOutcome
+countedFrom n o = batchOutcome (counted n (o .answer)) (o .left)
+
+from-counted : (s : Settings) (n i : ℕ) (t : Table) (rs : List Row) → batchFrom s (n + i) t rs ≡ countedFrom n (batchFrom s i t rs)
+unfolding batchFrom stopOr counted
+from-counted s n i t [] = refl
+from-counted s n i t (r ∷ rs) = go (fuse s t (r .key) (directOf r) .answer) (fuse s t (r .key) (directOf r) .left) (λ u. ap (λ (j : ℕ). batchFrom s j u rs) (sym (add-suc n i)) ∙ from-counted s n (suc i) u rs)
+  where
+    go :
+        (a : Fused) (u : Table)
+        → ((v : Table) → batchFrom s (suc (n + i)) v rs ≡ countedFrom n (batchFrom s (suc i) v rs))
+        → stopOr a (n + i) u (batchFrom s (suc (n + i)) u rs) ≡ countedFrom n (stopOr a i u (batchFrom s (suc i) u rs))
+    go (Fused.Refused why) u h = refl
+    go Fused.Far u h = h u
+    go Fused.Stored u h = h u
+
+from-splits :
+    (s : Settings) (i : ℕ) (t : Table) (rs qs : List Row)
+    → batchFrom s i t (rs ++ qs) ≡ followedBy (batchFrom s i t rs .answer) (batchFrom s i t rs .left) (λ u. batchFrom s (i + length rs) u qs)
+unfolding batchFrom stopOr followedBy
+from-splits s i t [] qs = rw add-zero
+from-splits s i t (r ∷ rs) qs = go (fuse s t (r .key) (directOf r) .answer) (fuse s t (r .key) (directOf r) .left) (λ u. from-splits s (suc i) u rs qs)
+  where
+    go :
+        (a : Fused) (u : Table)
+        → ((v : Table) → batchFrom s (suc i) v (rs ++ qs) ≡ followedBy (batchFrom s (suc i) v rs .answer) (batchFrom s (suc i) v rs .left) (λ w. batchFrom s (suc i + length rs) w qs))
+        → stopOr a i u (batchFrom s (suc i) u (rs ++ qs)) ≡ followedBy (stopOr a i u (batchFrom s (suc i) u rs) .answer) (stopOr a i u (batchFrom s (suc i) u rs) .left) (λ w. batchFrom s (i + suc (length rs)) w qs)
+    go (Fused.Refused why) u h = refl
+    go Fused.Far u h = rw (add-suc i (length rs), ← suc-add i (length rs)) (h u)
+    go Fused.Stored u h = rw (add-suc i (length rs), ← suc-add i (length rs)) (h u)
+
+-- a batch keeps an accepted table accepted
+from-keeps : (s : Settings) (i : ℕ) (t : Table) (rs : List Row) → tableCheck s t ≡ Checked.Passed → tableCheck s (batchFrom s i t rs .left) ≡ Checked.Passed
+unfolding batchFrom stopOr
+from-keeps s i t [] e = e
+from-keeps s i t (r ∷ rs) e = go (fuse s t (r .key) (directOf r) .answer) (fuse s t (r .key) (directOf r) .left) (fuse-keeps s t (r .key) (directOf r) e) (λ u h. from-keeps s (suc i) u rs h)
+  where
+    go :
+        (a : Fused) (u : Table)
+        → tableCheck s u ≡ Checked.Passed
+        → ((v : Table) → tableCheck s v ≡ Checked.Passed → tableCheck s (batchFrom s (suc i) v rs .left) ≡ Checked.Passed)
+        → tableCheck s (stopOr a i u (batchFrom s (suc i) u rs) .left) ≡ Checked.Passed
+    go (Fused.Refused why) u h next = h
+    go Fused.Far u h next = next u h
+    go Fused.Stored u h next = next u h
+
+pub batch-keeps :
+    (s : Settings) (t : Table) (ks : List ℕ) (ds cs : List Float)
+    → tableCheck s t ≡ Checked.Passed
+    → tableCheck s (batch s t ks ds cs .left) ≡ Checked.Passed
+unfolding batch batchIf
+batch-keeps s t ks ds cs e = go (batchCheck s t (length ks) (length ds) (length cs))
+  where
+    go : (q : Checked) → tableCheck s (batchIf q s t (beside ks ds cs) .left) ≡ Checked.Passed
+    go (Checked.Refused why) = e
+    go Checked.Passed = from-keeps s 0 t (beside ks ds cs) e
+
+beside-append :
+    (ks ks' : List ℕ) (ds ds' cs cs' : List Float)
+    → length ds ≡ length ks
+    → length cs ≡ length ks
+    → beside (ks ++ ks') (ds ++ ds') (cs ++ cs') ≡ beside ks ds cs ++ beside ks' ds' cs'
+unfolding beside
+beside-append [] ks' [] ds' [] cs' p q = refl
+beside-append [] ks' (d ∷ ds) ds' cs cs' p q = absurd (suc-ne-zero _ p)
+beside-append [] ks' [] ds' (c ∷ cs) cs' p q = absurd (suc-ne-zero _ q)
+beside-append (k ∷ ks) ks' [] ds' cs cs' p q = absurd (suc-ne-zero _ (sym p))
+beside-append (k ∷ ks) ks' (d ∷ ds) ds' [] cs' p q = absurd (suc-ne-zero _ (sym q))
+beside-append (k ∷ ks) ks' (d ∷ ds) ds' (c ∷ cs) cs' p q = ap {B = List Row} (λ rs. row k d c ∷ rs) (beside-append ks ks' ds ds' cs cs' (suc-inj p) (suc-inj q))
+
+followed-same : (a : Batched) (u : Table) (f g : Table → BatchOutcome) → f u ≡ g u → followedBy a u f ≡ followedBy a u g
+unfolding followedBy
+followed-same Batched.Done u f g h = h
+followed-same (Batched.Refused why i) u f g h = refl
+
+-- a batch splits anywhere
+pub batch-splits :
+    (s : Settings) (t : Table) (ks ks' : List ℕ) (ds ds' cs cs' : List Float)
+    → length ds ≡ length ks
+    → length cs ≡ length ks
+    → length ds' ≡ length ks'
+    → length cs' ≡ length ks'
+    → length ks + length ks' ≤ 65536
+    → batch s t (ks ++ ks') (ds ++ ds') (cs ++ cs') ≡ followedBy (batch s t ks ds cs .answer) (batch s t ks ds cs .left) (λ u. countedFrom (length ks) (batch s u ks' ds' cs'))
+unfolding batch batchIf followedBy
+batch-splits s t ks ks' ds ds' cs cs' p q p' q' h =
+    let a = length-append ks ks' in
+    let b = length-append ds ds' in
+    let c = length-append cs cs' in
+    let whole = fits (length (ks ++ ks')) (length (ds ++ ds')) (length (cs ++ cs')) (omega arith) (omega arith) (omega arith) in
+    let first = fits (length ks) (length ds) (length cs) p q (omega arith) in
+    rw (check-once s t (length (ks ++ ks')) (length (ds ++ ds')) (length (cs ++ cs')) whole, check-once s t (length ks) (length ds) (length cs) first, beside-append ks ks' ds ds' cs cs' p q)
+    (go (tableCheck s t) refl)
+  where
+    second :
+        (u : Table)
+        → tableCheck s u ≡ Checked.Passed
+        → batchFrom s (0 + length (beside ks ds cs)) u (beside ks' ds' cs') ≡ countedFrom (length ks) (batchIf (batchCheck s u (length ks') (length ds') (length cs')) s u (beside ks' ds' cs'))
+    second u e =
+        ap (λ (j : ℕ). batchFrom s j u (beside ks' ds' cs')) (zero-add (length (beside ks ds cs)) ∙ beside-length ks ds cs p q ∙ sym (add-zero (length ks)))
+        ∙ from-counted s (length ks) 0 u (beside ks' ds' cs')
+        ∙ ap (λ (r : Checked). countedFrom (length ks) (batchIf r s u (beside ks' ds' cs'))) (sym (check-once s u (length ks') (length ds') (length cs') (fits (length ks') (length ds') (length cs') p' q' (omega arith)) ∙ e))
+
+    go :
+        (r : Checked)
+        → tableCheck s t ≡ r
+        → batchIf r s t (beside ks ds cs ++ beside ks' ds' cs') ≡ followedBy (batchIf r s t (beside ks ds cs) .answer) (batchIf r s t (beside ks ds cs) .left) (λ u. countedFrom (length ks) (batchIf (batchCheck s u (length ks') (length ds') (length cs')) s u (beside ks' ds' cs')))
+    go (Checked.Refused why) e = refl
+    go Checked.Passed e =
+        let o = batchFrom s 0 t (beside ks ds cs) in
+        from-splits s 0 t (beside ks ds cs) (beside ks' ds' cs')
+        ∙ followed-same (o .answer) (o .left) (λ u. batchFrom s (0 + length (beside ks ds cs)) u (beside ks' ds' cs')) (λ u. countedFrom (length ks) (batchIf (batchCheck s u (length ks') (length ds') (length cs')) s u (beside ks' ds' cs'))) (second (o .left) (from-keeps s 0 t (beside ks ds cs) e))
+
+-- ---- a refused batch
+
+-- a batch whose first reading is the j-th and that names reading i: those before it went through, and leave what the batch leaves
+pub record Stands (s : Settings) (j : ℕ) (t : Table) (rs : List Row) (i : ℕ) : Type 0 where
+  pub earlier : ℕ
+  pub named : i ≡ j + earlier
+  pub inside : earlier < length rs
+  pub same : batchFrom s j t (take earlier rs) ≡ batchOutcome Batched.Done (batchFrom s j t rs .left)
+
+stands : (s : Settings) (j : ℕ) (t : Table) (rs : List Row) (why : Refusal) (i : ℕ) → batchFrom s j t rs .answer ≡ Batched.Refused why i → Stands s j t rs i
+unfolding batchFrom stopOr
+stands s j t [] why i e = let z : _≡_ {A = ℕ} 0 1 = cc in absurd (omega arith)
+stands s j t (r ∷ rs) why i e = go (fuse s t (r .key) (directOf r) .answer) refl e (λ q. stands s (suc j) (fuse s t (r .key) (directOf r) .left) rs why i q)
+  where
+    go :
+        (a : Fused)
+        → fuse s t (r .key) (directOf r) .answer ≡ a
+        → stopOr a j (fuse s t (r .key) (directOf r) .left) (batchFrom s (suc j) (fuse s t (r .key) (directOf r) .left) rs) .answer ≡ Batched.Refused why i
+        → (batchFrom s (suc j) (fuse s t (r .key) (directOf r) .left) rs .answer ≡ Batched.Refused why i → Stands s (suc j) (fuse s t (r .key) (directOf r) .left) rs i)
+        → Stands s j t (r ∷ rs) i
+    go (Fused.Refused w) q f next =
+        let n : j ≡ i = cc in
+        record {
+          earlier = 0;
+          named = rw add-zero (sym n);
+          inside = suc-le-suc zero-le;
+          same = rw q (ap (batchOutcome Batched.Done) (sym (refused-unchanged s t (r .key) (directOf r) w q)));
+        }
+    go Fused.Far q f next =
+        let n = next f in
+        record { earlier = suc (n .earlier); named = omega (arith, n .named); inside = suc-le-suc (n .inside); same = rw q (n .same) }
+    go Fused.Stored q f next =
+        let n = next f in
+        record { earlier = suc (n .earlier); named = omega (arith, n .named); inside = suc-le-suc (n .inside); same = rw q (n .same) }
+
+-- the readings before the refused one stand, and nothing else changed
+pub earlier-stand :
+    (s : Settings) (t : Table) (ks : List ℕ) (ds cs : List Float) (why : Refusal) (i : ℕ)
+    → batchCheck s t (length ks) (length ds) (length cs) ≡ Checked.Passed
+    → batch s t ks ds cs .answer ≡ Batched.Refused why i
+    → Stands s 0 t (beside ks ds cs) i
+unfolding batch batchIf
+earlier-stand s t ks ds cs why i p e = stands s 0 t (beside ks ds cs) why i (rw p at e)

@@ -1,0 +1,69 @@
+-- Every public contract settles its outcome: two that meet it are equal, in the answer and in every lent place. Each is one equation of an answer beside the table that is left, and its parts follow.
+-- Assumes nothing.
+use mathlib.Core.Path.{_≡_, sym, ap, _∙_}
+use mathlib.Core.List.{List}
+use Prim.Native.Nat.{ℕ}
+use denote.Ref.{now}
+use lib.Ieee.{Float}
+use Rattle.table.specs.Table.{table}
+use Rattle.fusing.specs.declared.Fused.{Fused}
+use Rattle.fusing.specs.Fusing.{Outcome, outcome}
+use Rattle.fusing.proofs.fused_voxel.Reads as fused_voxel
+use Rattle.fusing.proofs.fuse_sound.Reads as fuse_sound
+use Rattle.fusing.proofs.fuse.Reads as fuse
+use Rattle.fusing.proofs.update_from_depth.Reads as update_from_depth
+use Rattle.fusing.proofs.update_from_depth_ray.Reads as update_from_depth_ray
+
+parts :
+    {a a' : Fused} {ks ks' : List ℕ} {ds ds' ws ws' : List Float} {n n' : ℕ}
+    → outcome a (table ks ds ws n) ≡ outcome a' (table ks' ds' ws' n')
+    → (a ≡ a') × (ks ≡ ks') × (ds ≡ ds') × (ws ≡ ws') × (n ≡ n')
+parts e =
+    (ap (λ (o : Outcome). o .answer) e, ap (λ (o : Outcome). o .left .keys) e, ap (λ (o : Outcome). o .left .distances) e, ap (λ (o : Outcome). o .left .weights) e, ap (λ (o : Outcome). o .left .count) e)
+
+pub fused-voxel-determined : (κs : _) (a : _) (r r' : _) (s s' : _) → fused_voxel.Post κs a r s → fused_voxel.Post κs a r' s' → r ≡ r'
+fused-voxel-determined κs a r r' s s' p q = p ∙ sym q
+
+pub fuse-sound-determined :
+    (κs : _) (a : _) (r r' : _) (s s' : _)
+    → fuse_sound.Post κs a r s
+    → fuse_sound.Post κs a r' s'
+    → (r ≡ r')
+    × (now (s .1 .0) ≡ now (s' .1 .0))
+    × (now (s .1 .1 .0) ≡ now (s' .1 .1 .0))
+    × (now (s .1 .1 .1 .0) ≡ now (s' .1 .1 .1 .0))
+    × (now (s .1 .1 .1 .1 .0) ≡ now (s' .1 .1 .1 .1 .0))
+fuse-sound-determined κs a r r' s s' p q = parts (p ∙ sym q)
+
+pub fuse-determined :
+    (κs : _) (a : _) (r r' : _) (s s' : _)
+    → fuse.Post κs a r s
+    → fuse.Post κs a r' s'
+    → (r ≡ r')
+    × (now (s .1 .0) ≡ now (s' .1 .0))
+    × (now (s .1 .1 .0) ≡ now (s' .1 .1 .0))
+    × (now (s .1 .1 .1 .0) ≡ now (s' .1 .1 .1 .0))
+    × (now (s .1 .1 .1 .1 .0) ≡ now (s' .1 .1 .1 .1 .0))
+fuse-determined κs a r r' s s' p q = parts (p ∙ sym q)
+
+pub update-from-depth-determined :
+    (κs : _) (a : _) (r r' : _) (s s' : _)
+    → update_from_depth.Post κs a r s
+    → update_from_depth.Post κs a r' s'
+    → (r ≡ r')
+    × (now (s .1 .0) ≡ now (s' .1 .0))
+    × (now (s .1 .1 .0) ≡ now (s' .1 .1 .0))
+    × (now (s .1 .1 .1 .0) ≡ now (s' .1 .1 .1 .0))
+    × (now (s .1 .1 .1 .1 .0) ≡ now (s' .1 .1 .1 .1 .0))
+update-from-depth-determined κs a r r' s s' p q = parts (p ∙ sym q)
+
+pub update-from-depth-ray-determined :
+    (κs : _) (a : _) (r r' : _) (s s' : _)
+    → update_from_depth_ray.Post κs a r s
+    → update_from_depth_ray.Post κs a r' s'
+    → (r ≡ r')
+    × (now (s .1 .0) ≡ now (s' .1 .0))
+    × (now (s .1 .1 .0) ≡ now (s' .1 .1 .0))
+    × (now (s .1 .1 .1 .0) ≡ now (s' .1 .1 .1 .0))
+    × (now (s .1 .1 .1 .1 .0) ≡ now (s' .1 .1 .1 .1 .0))
+update-from-depth-ray-determined κs a r r' s s' p q = parts (p ∙ sym q)

@@ -1,0 +1,5 @@
+pub mod Storing
+pub mod Keeping
+pub mod FuseLaws
+pub mod Samples
+pub mod Determined

@@ -1,0 +1,3 @@
+pub mod MarchedLaws
+pub mod Tests
+pub mod Determined

@@ -1,0 +1,2 @@
+pub mod Marched
+pub mod Steps

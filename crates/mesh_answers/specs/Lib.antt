@@ -1,0 +1,2 @@
+pub mod Marching
+pub mod Meshing

@@ -1,0 +1,57 @@
+-- What the calls on meshes hand back: nothing, which is 0, unless the answer is 0.
+use Prim.Native.Nat.{ℕ, _-_}
+use mathlib.Core.Path.{_≡_}
+use mathlib.Core.Bool.{cond}
+use mathlib.Core.List.{List}
+use lib.Dec.{ltb}
+use lib.Ieee.{Float}
+use Rattle.floats.specs.Floats.{zero32}
+use Rattle.table.specs.declared.Settings.{Settings}
+use Rattle.table.specs.Table.{Table}
+use Rattle.mesh.specs.declared.Rooms.{Rooms}
+use Rattle.mesh.specs.Mesh.{meshAnswer, meshedNumber, IsMesh}
+use Rattle.mesh.specs.declared.Meshed.{Meshed}
+use Rattle.mesh.specs.declared.Meshed.the-variants as meshed
+use Rattle.groups.specs.declared.Span.{Span}
+use Rattle.slopes.specs.declared.Vertex.{Vertex}
+use Rattle.surfaces.specs.declared.Bounds.{Bounds}
+use Rattle.surfaces.specs.declared.Bounds.the-variants as bounds
+use Rattle.answers.specs.Keys.{nothing}
+
+-- how many edges, which are as many vertices, and how many triangles a mesh has
+abbrev pub edgesMeshed : Meshed → ℕ
+edgesMeshed (meshed.Done edges triangles) = edges
+edgesMeshed (meshed.Refused why) = nothing
+
+abbrev pub trianglesMeshed : Meshed → ℕ
+trianglesMeshed (meshed.Done edges triangles) = triangles
+trianglesMeshed (meshed.Refused why) = nothing
+
+-- what a mesh hands back: its number, its counts, and what the twelve lists hold
+pub record MeshBack (s : Settings) (t : Table) (r : Rooms) (number edges triangles : ℕ) (as' bs : List ℕ) (xs ys zs us vs ws : List Float) (gs is js ks : List ℕ) : Type 0 where
+  pub answer : number ≡ meshedNumber (meshAnswer s t r)
+  pub edge-count : edges ≡ edgesMeshed (meshAnswer s t r)
+  pub triangle-count : triangles ≡ trianglesMeshed (meshAnswer s t r)
+  pub lists : IsMesh s t r (meshAnswer s t r) as' bs xs ys zs us vs ws gs is js ks
+
+-- where a cell's edge numbers stand, and how many there are; both 0 where there are none
+abbrev pub spanStart : Span → ℕ
+spanStart s = cond (ltb (s .start) (s .end)) (s .start) nothing
+
+abbrev pub spanLength : Span → ℕ
+spanLength s = s .end - s .start
+
+-- three zeros
+abbrev pub noCorner : Vertex
+noCorner = record { x = record { 0 = zero32 }; y = record { 0 = zero32 }; z = record { 0 = zero32 } }
+
+-- the corners of a box
+abbrev pub lowCorner : Bounds → Vertex
+lowCorner (bounds.Corners low high) = low
+lowCorner bounds.Absent = noCorner
+lowCorner (bounds.Refused why) = noCorner
+
+abbrev pub highCorner : Bounds → Vertex
+highCorner (bounds.Corners low high) = high
+highCorner bounds.Absent = noCorner
+highCorner (bounds.Refused why) = noCorner

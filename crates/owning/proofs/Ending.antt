@@ -1,0 +1,72 @@
+-- A part of a batch, from the rows loaded to the rows settled: it leaves what its readings leave in turn.
+-- Assumes nothing.
+use mathlib.Core.Path.{_≡_, sym, ap, subst, _∙_}
+use mathlib.Core.Bool.{true}
+use mathlib.Core.List.{List}
+use Prim.Native.Nat.{ℕ, _+_, _≤_}
+use native.Mathlib.Nat.{add-zero}
+use borrow.Author.Tests.{le-leb}
+use lib.ListN.{length, take, take-append-drop}
+use lib.Ieee.{Float}
+use Rattle.gathering.specs.Gathering.{puts, Loaded}
+use Rattle.gathering.proofs.Columns.{tables-laid}
+use Rattle.gathering.proofs.LoadLaws.{puts-loaded, waits-loaded}
+use Rattle.table.specs.declared.Settings.{Settings}
+use Rattle.table.specs.declared.Checked.the-variants.{Passed}
+use Rattle.search.specs.Keys.{ascending}
+use Rattle.table.specs.Table.{Row, Table, table, beside, rowsOf, rows, lengthsOk, tableCheck, relaid}
+use Rattle.table.proofs.RowLaws.{lengths-known}
+use Rattle.table.proofs.Checking.{sound}
+use Rattle.table.proofs.Putting.{rows-length}
+use Rattle.owning.specs.declared.Ran.{Ran}
+use Rattle.owning.specs.Runs.{over, Ready, RunLeft, RanTo, RunTo}
+
+-- own rows in lists of 4,096
+pub own-fits : (a b c n : ℕ) → a ≡ 4096 → b ≡ 4096 → c ≡ 4096 → n ≤ 4096 → lengthsOk a b c n ≡ true
+own-fits a b c n p q r h = rw (p, q, r, le-leb n 4096 h)
+
+module _ (s : Settings) (ks : List ℕ) (ds ws : List Float) (n : ℕ) (passed : tableCheck s (table ks ds ws n) ≡ Passed) where
+  abbrev t : Table
+  t = table ks ds ws n
+
+  known : lengthsOk (length ks) (length ds) (length ws) n ≡ true
+  known = sound s t passed .lengths
+
+  fit : (n ≤ length ks) × (length ds ≡ length ks) × (length ws ≡ length ks) × (length ks ≤ 65536)
+  fit = lengths-known (length ks) (length ds) (length ws) n known
+
+  -- a table's own rows
+  relaid-same : relaid t (rows t) ≡ t
+  relaid-same =
+      let l = rows-length ks ds ws n known in
+      sym (tables-laid ks ks ds ws ds ws n (rows t) (fit .1) (fit .2) (fit .1) (fit .2) (rw l (sym (take-append-drop n (beside ks ds ws)))))
+      ∙ ap (table ks ds ws) l
+
+  module _ (oks : List ℕ) (ods ows : List Float) (own : ℕ) (p : length oks ≡ 4096) (q : length ods ≡ 4096) (r : length ows ≡ 4096) (few : own ≤ 4096) (up : ascending (take own oks) ≡ true) (loaded : Loaded t oks ods ows own) where
+    over-same : over s t oks ods ows own ≡ t
+    over-same = ap (relaid t) (puts-loaded (s .«max_weight») ks ds ws n known (sound s t passed .order) oks ods ows own loaded) ∙ relaid-same
+
+    pub ready : Ready s t oks ods ows own 0
+    ready =
+        record {
+          passed = passed;
+          again = ap (tableCheck s) over-same ∙ passed;
+          lengths = own-fits (length oks) (length ods) (length ows) own p q r few;
+          order = up;
+          waits = waits-loaded (s .«max_weight») ks ds ws n known (sound s t passed .order) (sound s t passed .ranges) oks ods ows own loaded;
+          many = ap length (puts-loaded (s .«max_weight») ks ds ws n known (sound s t passed .order) oks ods ows own loaded) ∙ rows-length ks ds ws n known ∙ sym (add-zero n);
+          fits = rw (add-zero n) (fit .0);
+        }
+
+    module _ (room : ℕ) (rs : List Row) (from : ℕ) (ran-to : Ran) (ods' ows' : List Float) (ran : RanTo s oks ods ows own room rs from ran-to ods' ows') (left : n + room ≤ length ks) where
+      -- what settling needs
+      pub counted : (n + ran-to .added ≡ length (puts (s .«max_weight») (rowsOf oks ods' ows' own) (rows t))) × (n + ran-to .added ≤ length ks)
+      counted = let q = ran t ready left .1 in (sym (q .many), q .fits)
+
+      pub settled :
+          (ks' : List ℕ) (ds' ws' : List Float)
+          → table ks' ds' ws' (n + ran-to .added) ≡ over s t oks ods' ows' own
+          → RunTo s t rs from from (ran-to .run) (table ks' ds' ws' (n + ran-to .added))
+      settled ks' ds' ws' e =
+          let q = ran t ready left in
+          (subst (λ (u : Table). RunLeft s u rs from from (ran-to .run) (table ks' ds' ws' (n + ran-to .added))) over-same (subst (λ (u : Table). RunLeft s (over s t oks ods ows own) rs from from (ran-to .run) u) (sym e) (q .0)), ap (tableCheck s) e ∙ q .1 .again)

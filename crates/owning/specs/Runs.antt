@@ -1,0 +1,109 @@
+-- A part of a batch goes through own rows: what its steps keep, for private contracts.
+use Prim.Native.Nat.{ℕ, suc, _+_, _<_, _≤_}
+use mathlib.Core.Path.{_≡_}
+use mathlib.Core.Logic.{_⊎_}
+use mathlib.Core.Bool.{Bool, true, false}
+use mathlib.Core.List.{List, _∷_}
+use lib.ListN.{length, getD, take, drop, set}
+use lib.Ieee.{Float, nan}
+use Rattle.floats.specs.Floats.{zero32, million, within}
+use Rattle.gathering.specs.Gathering.{standing, puts}
+use Rattle.refusals.specs.declared.Refusal.the-variants.{TooLarge}
+use Rattle.table.specs.declared.Settings.{Settings}
+use Rattle.search.specs.declared.Found.{Found}
+use Rattle.search.specs.declared.Found.the-variants.{At, Absent}
+use Rattle.table.specs.declared.Checked.the-variants.{Passed}
+use Rattle.search.specs.Keys.{find, ascending}
+use Rattle.table.specs.Table.{Row, Table, rowsOf, rows, lengthsOk, tableCheck, relaid}
+use Rattle.fusing.specs.declared.Voxel.{Voxel}
+use Rattle.measuring.specs.declared.Measured.{Measured}
+use Rattle.owning.specs.declared.Step.{Step}
+use Rattle.owning.specs.declared.Step.the-variants as Step
+use Rattle.owning.specs.declared.Run.{Run}
+use Rattle.owning.specs.declared.Run.the-variants as Run
+use Rattle.owning.specs.declared.Ran.{Ran}
+use Rattle.batching.specs.declared.Batched.the-variants as Batched
+use Rattle.fusing.specs.Fusing.{fusedVoxel}
+use Rattle.batching.specs.Batches.{batchOutcome, batchFrom}
+
+-- the table with the own rows that stand
+abbrev pub over : Settings → Table → List ℕ → List Float → List Float → ℕ → Table
+over s t ks ds ws own = relaid t (puts (s .«max_weight») (rowsOf ks ds ws own) (rows t))
+
+-- own rows of ascending keys beside a table that passes: with them it passes too and has so many rows more, and those that wait are not in it
+pub record Ready (s : Settings) (t : Table) (ks : List ℕ) (ds ws : List Float) (own added : ℕ) : Type 0 where
+  pub passed : tableCheck s t ≡ Passed
+  pub again : tableCheck s (over s t ks ds ws own) ≡ Passed
+  pub lengths : lengthsOk (length ks) (length ds) (length ws) own ≡ true
+  pub order : ascending (take own ks) ≡ true
+  pub waits : (q : ℕ) → q < own → standing (s .«max_weight») (getD ws q nan) ≡ false → find (getD ks q 0) (take (t .count) (t .keys)) ≡ Absent
+  pub many : length (puts (s .«max_weight») (rowsOf ks ds ws own) (rows t)) ≡ t .count + added
+  pub fits : t .count + added ≤ length (t .keys)
+
+-- a place that was found has the key
+unfoldable pub OwnPlace : List ℕ → ℕ → ℕ → Found → Type 0
+OwnPlace ks own k (At p) = (p < own) × (getD ks p 0 ≡ k)
+OwnPlace ks own k Absent = Unit
+
+-- the voxel of a row that stands; one that waits starts with (0, 0)
+unfoldable pub oldVoxel : Bool → Float → Float → Voxel
+oldVoxel true d w = record { distance = d; weight = w }
+oldVoxel false d w = record { distance = zero32; weight = zero32 }
+
+-- the own row at p after a reading
+abbrev pub voxelAfter : Float → List Float → List Float → ℕ → Measured → Voxel
+voxelAfter most ds ws p m =
+    fusedVoxel most (oldVoxel (standing most (getD ws p nan)) (getD ds p nan) (getD ws p nan)) m
+
+-- the own rows with it
+abbrev pub Changed : Float → List Float → List Float → ℕ → Measured → List Float → List Float → Type 0
+Changed most ds ws p m ds' ws' =
+    (within million (voxelAfter most ds ws p m .distance) ≡ true)
+    × (ds' ≡ set ds p (voxelAfter most ds ws p m .distance))
+    × (ws' ≡ set ws p (voxelAfter most ds ws p m .weight))
+
+-- what a reading of the row at p leaves
+unfoldable pub Placed : Float → List Float → List Float → ℕ → Bool → Measured → Step → List Float → List Float → Type 0
+Placed most ds ws p spare m Step.Kept ds' ws' = (standing most (getD ws p nan) ≡ true) × Changed most ds ws p m ds' ws'
+Placed most ds ws p spare m Step.Added ds' ws' =
+    (standing most (getD ws p nan) ≡ false) × (spare ≡ true) × Changed most ds ws p m ds' ws'
+Placed most ds ws p spare m Step.Unknown ds' ws' = (ds' ≡ ds) × (ws' ≡ ws)
+Placed most ds ws p spare m (Step.Refused why) ds' ws' =
+    (ds' ≡ ds) × (ws' ≡ ws) × (why ≡ TooLarge) × (within million (voxelAfter most ds ws p m .distance) ≡ false)
+    × ((standing most (getD ws p nan) ≡ true) ⊎ (spare ≡ true))
+
+-- a batch goes on with the own rows that a reading left, ends there, or the reading is left to others
+unfoldable pub StepLeft : Settings → Table → List ℕ → List Float → List Float → ℕ → ℕ → Row → Step → List Float → List Float → Type 0
+StepLeft s t ks ds ws own added r Step.Kept ds' ws' =
+    ((i : ℕ) (rs : List Row) → batchFrom s i (over s t ks ds ws own) (r ∷ rs) ≡ batchFrom s (suc i) (over s t ks ds' ws' own) rs)
+    × Ready s t ks ds' ws' own added
+StepLeft s t ks ds ws own added r Step.Added ds' ws' =
+    ((i : ℕ) (rs : List Row) → batchFrom s i (over s t ks ds ws own) (r ∷ rs) ≡ batchFrom s (suc i) (over s t ks ds' ws' own) rs)
+    × Ready s t ks ds' ws' own (suc added)
+StepLeft s t ks ds ws own added r Step.Unknown ds' ws' = (ds' ≡ ds) × (ws' ≡ ws)
+StepLeft s t ks ds ws own added r (Step.Refused why) ds' ws' =
+    ((i : ℕ) (rs : List Row) → batchFrom s i (over s t ks ds ws own) (r ∷ rs) ≡ batchOutcome (Batched.Refused why i) (over s t ks ds ws own))
+    × (ds' ≡ ds) × (ws' ≡ ws)
+
+-- the same beside every table
+abbrev pub Stepped : Settings → List ℕ → List Float → List Float → ℕ → Bool → Row → Step → List Float → List Float → Type 0
+Stepped s ks ds ws own spare r step ds' ws' =
+    (t :
+    Table) (added : ℕ) → Ready s t ks ds ws own added → (spare ≡ true
+    → t .count + added < length (t .keys)) → StepLeft s t ks ds ws own added r step ds' ws'
+
+-- where a part of a batch leaves off, at the least-th reading or later, it goes on with the table that is left; or it ends there
+unfoldable pub RunLeft : Settings → Table → List Row → ℕ → ℕ → Run → Table → Type 0
+RunLeft s t rs from least (Run.Reached i) u =
+    (batchFrom s from t (drop from rs) ≡ batchFrom s i u (drop i rs)) × (least ≤ i) × (i ≤ length rs)
+RunLeft s t rs from least (Run.Refused why i) u = batchFrom s from t (drop from rs) ≡ batchOutcome (Batched.Refused why i) u
+
+-- a part of a batch through own rows, beside every table
+abbrev pub RanTo : Settings → List ℕ → List Float → List Float → ℕ → ℕ → List Row → ℕ → Ran → List Float → List Float → Type 0
+RanTo s ks ds ws own room rs from ran ds' ws' =
+    (t : Table) → Ready s t ks ds ws own 0 → t .count + room ≤ length (t .keys)
+    → RunLeft s (over s t ks ds ws own) rs from from (ran .run) (over s t ks ds' ws' own) × Ready s t ks ds' ws' own (ran .added)
+
+-- a part of a batch, and the table that it leaves
+abbrev pub RunTo : Settings → Table → List Row → ℕ → ℕ → Run → Table → Type 0
+RunTo s t rs from least run u = RunLeft s t rs from least run u × (tableCheck s u ≡ Passed)

@@ -1,0 +1,310 @@
+// A part of a batch: up to 4,096 readings are fused into own rows, which are settled into the table in one walk.
+use floats::Metres;
+use floats::between;
+use floats::within;
+use fusing::Voxel;
+use fusing::fused_voxel;
+use gathering::load;
+use gathering::settle;
+use measuring::Admitted;
+use measuring::Measured;
+use measuring::Reading;
+use measuring::admit;
+use refusals::Refusal;
+use search::Found;
+use sorting::distinct;
+use sorting::sort;
+use table::Checked;
+use table::Settings;
+ghost use mathlib.Core.Path.{_≡_};
+ghost use mathlib.Core.Bool.{true};
+ghost use Prim.Native.Nat.{_+_, _<_, _≤_};
+ghost use lib.ListN.{length, take};
+ghost use Rattle.search.specs.Keys.{ascending};
+ghost use Rattle.table.specs.Table.{row, table, beside, lengthsOk, settingsOk, tableCheck};
+ghost use Rattle.owning.specs.Runs.{OwnPlace, oldVoxel, Placed, Stepped, RanTo, RunTo};
+
+// What a reading does to the own rows of a batch.
+enum Step {
+    Kept,
+    Added,
+    Unknown,
+    Refused(Refusal),
+}
+
+// How far a part of a batch went, or where it was refused.
+pub enum Run {
+    Reached(usize),
+    Refused(Refusal, usize),
+}
+
+// How many rows a part of a batch adds, and how far it went.
+struct Ran {
+    added: usize,
+    run: Run,
+}
+
+// The place of a slot counted from 1, where `key` stands there among the first `own` keys.
+fn own_place(own_keys: &[u64], own: usize, slot: u16, key: u64) -> Found
+    requires { ⌜ own ≤ length (now «own_keys») ⌝ }
+    ensures { λ r. ⌜ OwnPlace (now («own_keys» .entry)) own key r ⌝ }
+{
+    let number = slot as usize;
+    if number == 0 {
+        return Found::Absent;
+    }
+    let place = number - 1;
+    if own <= place {
+        return Found::Absent;
+    }
+    if own_keys[place] != key {
+        return Found::Absent;
+    }
+    Found::At(place)
+}
+
+// The voxel of an own row that stands; one that waits starts with (0, 0).
+fn old_voxel(stands: bool, distance: f32, weight: f32) -> Voxel
+    ensures { λ r. ⌜ r ≡ oldVoxel stands distance weight ⌝ }
+{
+    if stands {
+        Voxel { distance, weight }
+    } else {
+        Voxel {
+            distance: 0.0,
+            weight: 0.0,
+        }
+    }
+}
+
+// A near reading, fused into the own row at `place`; a row that waits is taken only where the table has a place for it.
+fn fuse_place(
+    most: f32,
+    own_distances: &mut [f32],
+    own_weights: &mut [f32],
+    place: usize,
+    spare: bool,
+    m: Measured,
+) -> Step
+    requires { ⌜ (place < length (now «own_distances»)) × (length (now «own_weights») ≡ length (now «own_distances»)) ⌝ }
+    ensures { λ r. ⌜ Placed most (now («own_distances» .entry)) (now («own_weights» .entry)) place spare m r (now («own_distances» .exit)) (now («own_weights» .exit)) ⌝ }
+{
+    let distance = own_distances[place];
+    let weight = own_weights[place];
+    let stands = between(0.0, most, weight);
+    if !(stands | spare) {
+        return Step::Unknown;
+    }
+    let v = fused_voxel(most, old_voxel(stands, distance, weight), m);
+    if !within(1000000.0, v.distance) {
+        return Step::Refused(Refusal::TooLarge);
+    }
+    own_distances[place] = v.distance;
+    own_weights[place] = v.weight;
+    if stands {
+        return Step::Kept;
+    }
+    Step::Added
+}
+
+// One reading of a batch, into the own rows.
+fn fuse_own(
+    settings: Settings,
+    own_keys: &[u64],
+    own_distances: &mut [f32],
+    own_weights: &mut [f32],
+    own: usize,
+    slot: u16,
+    spare: bool,
+    key: u64,
+    distance: f32,
+    confidence: f32,
+) -> Step
+    requires { ⌜ settingsOk settings ≡ true ⌝ }
+    requires { ⌜ lengthsOk (length (now «own_keys»)) (length (now «own_distances»)) (length (now «own_weights»)) own ≡ true ⌝ }
+    ensures { λ r. ⌜ Stepped settings (now («own_keys» .entry)) (now («own_distances» .entry)) (now («own_weights» .entry)) own spare (row key distance confidence) r (now («own_distances» .exit)) (now («own_weights» .exit)) ⌝ }
+{
+    let reading = Reading::Direct {
+        distance: Metres(distance),
+        confidence,
+    };
+    match admit(settings, key, reading) {
+        Admitted::No(why) => Step::Refused(why),
+        Admitted::Far => Step::Kept,
+        Admitted::Near(near) => match own_place(own_keys, own, slot, key) {
+            Found::Absent => Step::Unknown,
+            Found::At(place) => fuse_place(
+                settings.max_weight,
+                own_distances,
+                own_weights,
+                place,
+                spare,
+                near,
+            ),
+        },
+    }
+}
+
+// The readings from `from` up to `to`, into the own rows, as far as they go; `room` rows can be added.
+fn fuse_run(
+    settings: Settings,
+    own_keys: &[u64],
+    own_distances: &mut [f32],
+    own_weights: &mut [f32],
+    own: usize,
+    slots: &[u16; 4096],
+    room: usize,
+    batch_keys: &[u64],
+    batch_distances: &[f32],
+    batch_confidences: &[f32],
+    from: usize,
+    to: usize,
+) -> Ran
+    requires { ⌜ settingsOk settings ≡ true ⌝ }
+    requires { ⌜ lengthsOk (length (now «own_keys»)) (length (now «own_distances»)) (length (now «own_weights»)) own ≡ true ⌝ }
+    requires { ⌜ (from ≤ to) × (to ≤ from + 4096) × (to ≤ length (now «batch_keys»)) ⌝ }
+    requires { ⌜ (length (now «batch_distances») ≡ length (now «batch_keys»)) × (length (now «batch_confidences») ≡ length (now «batch_keys»)) ⌝ }
+    ensures { λ r. ⌜ RanTo settings (now («own_keys» .entry)) (now («own_distances» .entry)) (now («own_weights» .entry)) own room (beside (now («batch_keys» .entry)) (now («batch_distances» .entry)) (now («batch_confidences» .entry))) from r (now («own_distances» .exit)) (now («own_weights» .exit)) ⌝ }
+{
+    let mut added = 0;
+    let mut i = from;
+    while i < to {
+        let offset = i - from;
+        let step = fuse_own(
+            settings,
+            own_keys,
+            own_distances,
+            own_weights,
+            own,
+            slots[offset],
+            added < room,
+            batch_keys[i],
+            batch_distances[i],
+            batch_confidences[i],
+        );
+        match step {
+            Step::Kept => {
+                i += 1;
+            }
+            Step::Added => {
+                added += 1;
+                i += 1;
+            }
+            Step::Unknown => {
+                return Ran {
+                    added,
+                    run: Run::Reached(i),
+                };
+            }
+            Step::Refused(why) => {
+                return Ran {
+                    added,
+                    run: Run::Refused(why, i),
+                };
+            }
+        }
+    }
+    Ran {
+        added,
+        run: Run::Reached(i),
+    }
+}
+
+// The keys of the readings from `from` up to `to`, ascending, each once, into `own_keys`, and the slot of each reading.
+fn own_rows(
+    own_keys: &mut [u64],
+    slots: &mut [u16; 4096],
+    batch_keys: &[u64],
+    from: usize,
+    to: usize,
+) -> usize
+    requires { ⌜ (from ≤ to) × (to ≤ from + 4096) × (to ≤ length (now «batch_keys»)) ⌝ }
+    requires { ⌜ 4096 ≤ length (now «own_keys») ⌝ }
+    ensures { λ r. ⌜ (r ≤ 4096) × (ascending (take r (now («own_keys» .exit))) ≡ true) ⌝ }
+{
+    let mut sorted = [0u64; 4096];
+    let mut places = [0u16; 4096];
+    let n = to - from;
+    let mut i = 0;
+    while i < n {
+        sorted[i] = batch_keys[from + i];
+        places[i] = i as u16;
+        i += 1;
+    }
+    sort(&mut sorted, &mut places, n);
+    distinct(&sorted, &places, n, own_keys, slots)
+}
+
+// At most 4,096 readings on, or the end.
+fn end_of(len: usize, from: usize) -> usize
+    requires { ⌜ from ≤ len ⌝ }
+    ensures { λ r. ⌜ (from ≤ r) × (r ≤ len) × (r ≤ from + 4096) ⌝ }
+{
+    if len - from < 4096 { len } else { from + 4096 }
+}
+
+// Up to 4,096 readings from `from` on, through own rows that are settled into the table in one walk.
+pub fn batch_run(
+    settings: Settings,
+    keys: &mut [u64],
+    distances: &mut [f32],
+    weights: &mut [f32],
+    count: &mut usize,
+    batch_keys: &[u64],
+    batch_distances: &[f32],
+    batch_confidences: &[f32],
+    from: usize,
+) -> Run
+    requires { ⌜ tableCheck settings (table (now keys) (now distances) (now weights) (now count)) ≡ Checked.Passed ⌝ }
+    requires { ⌜ from ≤ length (now «batch_keys») ⌝ }
+    requires { ⌜ (length (now «batch_distances») ≡ length (now «batch_keys»)) × (length (now «batch_confidences») ≡ length (now «batch_keys»)) ⌝ }
+    ensures { λ r. ⌜ RunTo settings (table (now (keys .entry)) (now (distances .entry)) (now (weights .entry)) (now (count .entry))) (beside (now («batch_keys» .entry)) (now («batch_distances» .entry)) (now («batch_confidences» .entry))) from from r (table (now (keys .exit)) (now (distances .exit)) (now (weights .exit)) (now (count .exit))) ⌝ }
+{
+    let to = end_of(batch_keys.len(), from);
+    let mut own_keys = [0u64; 4096];
+    let mut own_distances = [0.0f32; 4096];
+    let mut own_weights = [0.0f32; 4096];
+    let mut slots = [0u16; 4096];
+    let n = *count;
+    let own = own_rows(&mut own_keys, &mut slots, batch_keys, from, to);
+    load(
+        keys,
+        distances,
+        weights,
+        n,
+        &own_keys,
+        &mut own_distances,
+        &mut own_weights,
+        own,
+    );
+    let ran = fuse_run(
+        settings,
+        &own_keys,
+        &mut own_distances,
+        &mut own_weights,
+        own,
+        &slots,
+        keys.len() - n,
+        batch_keys,
+        batch_distances,
+        batch_confidences,
+        from,
+        to,
+    );
+    let run = ran.run;
+    let total = n + ran.added;
+    settle(
+        settings.max_weight,
+        keys,
+        distances,
+        weights,
+        n,
+        &own_keys,
+        &own_distances,
+        &own_weights,
+        own,
+        total,
+    );
+    *count = total;
+    run
+}

@@ -1,4 +1,0 @@
-pub mod Readings
-pub mod Fusing
-pub mod Batches
-pub mod Runs

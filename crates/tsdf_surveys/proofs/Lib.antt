@@ -1,0 +1,4 @@
+pub mod Determined
+pub mod RowByRow
+pub mod Samples
+pub mod Answers
