@@ -38,8 +38,13 @@ pub extern "C" fn akf_compute_from_tsdf(
     rows: &mut usize,
     takings: &mut usize,
 ) -> u32
-    ensures { λ r. ⌜ marchBack r (now («marched_keys» .exit)) (now («marched_distances» .exit)) (now («waiting_estimates» .exit)) (now («waiting_keys» .exit)) (now (rows .exit)) (now (takings .exit))
-        ≡ marchHanded (computed (settingsOf truncation «max_weight» «voxel_size» «max_distance») (table (now (keys .entry)) (now (distances .entry)) (now (weights .entry)) count) threshold (places (length (now («marched_keys» .entry))) (length (now («marched_distances» .entry))) (length (now («waiting_estimates» .entry))) (length (now («waiting_keys» .entry))))) ⌝ }
+    ensures { λ r. ⌜ marchBack r (now («marched_keys» .exit)) (now («marched_distances» .exit))
+        (now («waiting_estimates» .exit)) (now («waiting_keys» .exit)) (now (rows .exit)) (now (takings .exit))
+        ≡ marchHanded
+        (computed (settingsOf truncation «max_weight» «voxel_size» «max_distance»)
+        (table (now (keys .entry)) (now (distances .entry)) (now (weights .entry)) count) threshold
+        (places (length (now («marched_keys» .entry))) (length (now («marched_distances» .entry)))
+        (length (now («waiting_estimates» .entry))) (length (now («waiting_keys» .entry))))) ⌝ }
 {
     let settings = settings_of(truncation, max_weight, voxel_size, max_distance);
     let marched = esdf::compute_from_tsdf(
@@ -128,10 +133,18 @@ pub extern "C" fn akf_get_voxels_within_distance(
     out_distances: &mut [f32],
     listed: &mut usize,
 ) -> u32
-    ensures { λ r. ⌜ r ≡ listedNumber (withinListed (marchedTable (now (keys .entry)) (now (distances .entry)) count) threshold (length (now («out_keys» .entry))) (length (now («out_distances» .entry)))) ⌝ }
-    ensures { λ _. ⌜ now («out_keys» .exit) ≡ withinKeys (marchedTable (now (keys .entry)) (now (distances .entry)) count) threshold (length (now («out_keys» .entry))) (length (now («out_distances» .entry))) ⌝ }
-    ensures { λ _. ⌜ now («out_distances» .exit) ≡ withinDistances (marchedTable (now (keys .entry)) (now (distances .entry)) count) threshold (length (now («out_keys» .entry))) (length (now («out_distances» .entry))) ⌝ }
-    ensures { λ _. ⌜ now (listed .exit) ≡ countOf (withinListed (marchedTable (now (keys .entry)) (now (distances .entry)) count) threshold (length (now («out_keys» .entry))) (length (now («out_distances» .entry)))) ⌝ }
+    ensures { λ r. ⌜ r ≡ listedNumber
+        (withinListed (marchedTable (now (keys .entry)) (now (distances .entry)) count) threshold
+        (length (now («out_keys» .entry))) (length (now («out_distances» .entry)))) ⌝ }
+    ensures { λ _. ⌜ now («out_keys» .exit) ≡ withinKeys
+        (marchedTable (now (keys .entry)) (now (distances .entry)) count) threshold (length (now («out_keys» .entry)))
+        (length (now («out_distances» .entry))) ⌝ }
+    ensures { λ _. ⌜ now («out_distances» .exit) ≡ withinDistances
+        (marchedTable (now (keys .entry)) (now (distances .entry)) count) threshold (length (now («out_keys» .entry)))
+        (length (now («out_distances» .entry))) ⌝ }
+    ensures { λ _. ⌜ now (listed .exit) ≡ countOf
+        (withinListed (marchedTable (now (keys .entry)) (now (distances .entry)) count) threshold
+        (length (now («out_keys» .entry))) (length (now («out_distances» .entry)))) ⌝ }
 {
     let answer = esdf_surveys::get_voxels_within_distance(
         keys,
@@ -159,8 +172,10 @@ pub extern "C" fn akf_esdf_stats(
 ) -> u32
     ensures { λ r. ⌜ r ≡ statisticsNumber (getStats (marchedTable (now (keys .entry)) (now (distances .entry)) count)) ⌝ }
     ensures { λ _. ⌜ now («voxel_count» .exit) ≡ marchedStats (getStats (marchedTable (now (keys .entry)) (now (distances .entry)) count)) .«voxel_count» ⌝ }
-    ensures { λ _. ⌜ now («obstacle_voxel_count» .exit) ≡ marchedStats (getStats (marchedTable (now (keys .entry)) (now (distances .entry)) count)) .«obstacle_voxel_count» ⌝ }
-    ensures { λ _. ⌜ now («free_voxel_count» .exit) ≡ marchedStats (getStats (marchedTable (now (keys .entry)) (now (distances .entry)) count)) .«free_voxel_count» ⌝ }
+    ensures { λ _. ⌜ now («obstacle_voxel_count» .exit) ≡ marchedStats
+        (getStats (marchedTable (now (keys .entry)) (now (distances .entry)) count)) .«obstacle_voxel_count» ⌝ }
+    ensures { λ _. ⌜ now («free_voxel_count» .exit) ≡ marchedStats
+        (getStats (marchedTable (now (keys .entry)) (now (distances .entry)) count)) .«free_voxel_count» ⌝ }
     ensures { λ _. ⌜ now (smallest .exit) ≡ marchedStats (getStats (marchedTable (now (keys .entry)) (now (distances .entry)) count)) .«min_distance» ⌝ }
     ensures { λ _. ⌜ now (largest .exit) ≡ marchedStats (getStats (marchedTable (now (keys .entry)) (now (distances .entry)) count)) .«max_distance» ⌝ }
 {

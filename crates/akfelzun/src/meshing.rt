@@ -45,10 +45,15 @@ pub extern "C" fn akf_extract_mesh_from_tsdf(
     edges: &mut usize,
     triangles: &mut usize,
 ) -> u32
-    ensures { λ r. ⌜ MeshBack (settingsOf truncation «max_weight» «voxel_size» «max_distance») (table (now (keys .entry)) (now (distances .entry)) (now (weights .entry)) count)
-        (rooms (ListN.length (now (first .entry))) (ListN.length (now (second .entry))) (ListN.length (now (px .entry))) (ListN.length (now (py .entry))) (ListN.length (now (pz .entry))) (ListN.length (now (nx .entry))) (ListN.length (now (ny .entry))) (ListN.length (now (nz .entry))) (ListN.length (now (groups .entry))) (ListN.length (now (t0 .entry))) (ListN.length (now (t1 .entry))) (ListN.length (now (t2 .entry))))
+    ensures { λ r. ⌜ MeshBack (settingsOf truncation «max_weight» «voxel_size» «max_distance»)
+        (table (now (keys .entry)) (now (distances .entry)) (now (weights .entry)) count)
+        (rooms (ListN.length (now (first .entry))) (ListN.length (now (second .entry))) (ListN.length (now (px .entry)))
+        (ListN.length (now (py .entry))) (ListN.length (now (pz .entry))) (ListN.length (now (nx .entry)))
+        (ListN.length (now (ny .entry))) (ListN.length (now (nz .entry))) (ListN.length (now (groups .entry)))
+        (ListN.length (now (t0 .entry))) (ListN.length (now (t1 .entry))) (ListN.length (now (t2 .entry))))
         r (now (edges .exit)) (now (triangles .exit))
-        (now (first .exit)) (now (second .exit)) (now (px .exit)) (now (py .exit)) (now (pz .exit)) (now (nx .exit)) (now (ny .exit)) (now (nz .exit)) (now (groups .exit)) (now (t0 .exit)) (now (t1 .exit)) (now (t2 .exit)) ⌝ }
+        (now (first .exit)) (now (second .exit)) (now (px .exit)) (now (py .exit)) (now (pz .exit)) (now (nx .exit))
+        (now (ny .exit)) (now (nz .exit)) (now (groups .exit)) (now (t0 .exit)) (now (t1 .exit)) (now (t2 .exit)) ⌝ }
 {
     let settings = settings_of(truncation, max_weight, voxel_size, max_distance);
     let meshed = mesh::extract_mesh_from_tsdf(
@@ -106,8 +111,12 @@ pub extern "C" fn akf_surface_area(
     triangles: usize,
     area: &mut f32,
 ) -> u32
-    ensures { λ r. ⌜ r ≡ areaNumber (areaAnswer (now (px .entry)) (now (py .entry)) (now (pz .entry)) vertices (now (t0 .entry)) (now (t1 .entry)) (now (t2 .entry)) triangles) ⌝ }
-    ensures { λ _. ⌜ now (area .exit) ≡ areaValue (areaAnswer (now (px .entry)) (now (py .entry)) (now (pz .entry)) vertices (now (t0 .entry)) (now (t1 .entry)) (now (t2 .entry)) triangles) ⌝ }
+    ensures { λ r. ⌜ r ≡ areaNumber
+        (areaAnswer (now (px .entry)) (now (py .entry)) (now (pz .entry)) vertices (now (t0 .entry)) (now (t1 .entry))
+        (now (t2 .entry)) triangles) ⌝ }
+    ensures { λ _. ⌜ now (area .exit) ≡ areaValue
+        (areaAnswer (now (px .entry)) (now (py .entry)) (now (pz .entry)) vertices (now (t0 .entry)) (now (t1 .entry))
+        (now (t2 .entry)) triangles) ⌝ }
 {
     let answer = surfaces::surface_area(px, py, pz, vertices, t0, t1, t2, triangles);
     let back = area_back(answer);

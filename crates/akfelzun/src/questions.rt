@@ -31,8 +31,14 @@ pub extern "C" fn akf_tsdf_get_distance(
     key: u64,
     distance: &mut f32,
 ) -> u32
-    ensures { λ r. ⌜ r ≡ distanceNumber (distanceOf (lookedUp (settingsOf truncation «max_weight» «voxel_size» «max_distance») (table (now (keys .entry)) (now (distances .entry)) (now (weights .entry)) count) key)) ⌝ }
-    ensures { λ _. ⌜ now (distance .exit) ≡ distanceFound (distanceOf (lookedUp (settingsOf truncation «max_weight» «voxel_size» «max_distance») (table (now (keys .entry)) (now (distances .entry)) (now (weights .entry)) count) key)) ⌝ }
+    ensures { λ r. ⌜ r ≡ distanceNumber
+        (distanceOf
+        (lookedUp (settingsOf truncation «max_weight» «voxel_size» «max_distance»)
+        (table (now (keys .entry)) (now (distances .entry)) (now (weights .entry)) count) key)) ⌝ }
+    ensures { λ _. ⌜ now (distance .exit) ≡ distanceFound
+        (distanceOf
+        (lookedUp (settingsOf truncation «max_weight» «voxel_size» «max_distance»)
+        (table (now (keys .entry)) (now (distances .entry)) (now (weights .entry)) count) key)) ⌝ }
 {
     let settings = settings_of(truncation, max_weight, voxel_size, max_distance);
     let found = tsdf_questions::get_distance(settings, keys, distances, weights, count, key);
@@ -54,8 +60,12 @@ pub extern "C" fn akf_tsdf_get_weight(
     key: u64,
     weight: &mut f32,
 ) -> u32
-    ensures { λ r. ⌜ r ≡ weightNumber (weightOf (lookedUp (settingsOf truncation «max_weight» «voxel_size» «max_distance») (table (now (keys .entry)) (now (distances .entry)) (now (weights .entry)) count) key)) ⌝ }
-    ensures { λ _. ⌜ now (weight .exit) ≡ weightFound (weightOf (lookedUp (settingsOf truncation «max_weight» «voxel_size» «max_distance») (table (now (keys .entry)) (now (distances .entry)) (now (weights .entry)) count) key)) ⌝ }
+    ensures { λ r. ⌜ r ≡ weightNumber
+        (weightOf (lookedUp (settingsOf truncation «max_weight» «voxel_size» «max_distance»)
+        (table (now (keys .entry)) (now (distances .entry)) (now (weights .entry)) count) key)) ⌝ }
+    ensures { λ _. ⌜ now (weight .exit) ≡ weightFound
+        (weightOf (lookedUp (settingsOf truncation «max_weight» «voxel_size» «max_distance»)
+        (table (now (keys .entry)) (now (distances .entry)) (now (weights .entry)) count) key)) ⌝ }
 {
     let settings = settings_of(truncation, max_weight, voxel_size, max_distance);
     let found = tsdf_questions::get_weight(settings, keys, distances, weights, count, key);
@@ -78,8 +88,14 @@ pub extern "C" fn akf_is_surface_voxel(
     threshold: f32,
     yes: &mut u32,
 ) -> u32
-    ensures { λ r. ⌜ r ≡ surfaceNumber (surfaceOf threshold (lookedUp (settingsOf truncation «max_weight» «voxel_size» «max_distance») (table (now (keys .entry)) (now (distances .entry)) (now (weights .entry)) count) key)) ⌝ }
-    ensures { λ _. ⌜ now (yes .exit) ≡ surfaceFound (surfaceOf threshold (lookedUp (settingsOf truncation «max_weight» «voxel_size» «max_distance») (table (now (keys .entry)) (now (distances .entry)) (now (weights .entry)) count) key)) ⌝ }
+    ensures { λ r. ⌜ r ≡ surfaceNumber
+        (surfaceOf threshold
+        (lookedUp (settingsOf truncation «max_weight» «voxel_size» «max_distance»)
+        (table (now (keys .entry)) (now (distances .entry)) (now (weights .entry)) count) key)) ⌝ }
+    ensures { λ _. ⌜ now (yes .exit) ≡ surfaceFound
+        (surfaceOf threshold
+        (lookedUp (settingsOf truncation «max_weight» «voxel_size» «max_distance»)
+        (table (now (keys .entry)) (now (distances .entry)) (now (weights .entry)) count) key)) ⌝ }
 {
     let settings = settings_of(truncation, max_weight, voxel_size, max_distance);
     let found = tsdf_questions::is_surface_voxel(
@@ -112,12 +128,24 @@ pub extern "C" fn akf_tsdf_stats(
     largest: &mut f32,
     average_weight: &mut f32,
 ) -> u32
-    ensures { λ r. ⌜ r ≡ statisticsNumber (statisticsOf (settingsOf truncation «max_weight» «voxel_size» «max_distance») (table (now (keys .entry)) (now (distances .entry)) (now (weights .entry)) count)) ⌝ }
-    ensures { λ _. ⌜ now («voxel_count» .exit) ≡ statsFound (statisticsOf (settingsOf truncation «max_weight» «voxel_size» «max_distance») (table (now (keys .entry)) (now (distances .entry)) (now (weights .entry)) count)) .«voxel_count» ⌝ }
-    ensures { λ _. ⌜ now («surface_voxel_count» .exit) ≡ statsFound (statisticsOf (settingsOf truncation «max_weight» «voxel_size» «max_distance») (table (now (keys .entry)) (now (distances .entry)) (now (weights .entry)) count)) .«surface_voxel_count» ⌝ }
-    ensures { λ _. ⌜ now (smallest .exit) ≡ statsFound (statisticsOf (settingsOf truncation «max_weight» «voxel_size» «max_distance») (table (now (keys .entry)) (now (distances .entry)) (now (weights .entry)) count)) .«min_distance» .0 ⌝ }
-    ensures { λ _. ⌜ now (largest .exit) ≡ statsFound (statisticsOf (settingsOf truncation «max_weight» «voxel_size» «max_distance») (table (now (keys .entry)) (now (distances .entry)) (now (weights .entry)) count)) .«max_distance» .0 ⌝ }
-    ensures { λ _. ⌜ now («average_weight» .exit) ≡ statsFound (statisticsOf (settingsOf truncation «max_weight» «voxel_size» «max_distance») (table (now (keys .entry)) (now (distances .entry)) (now (weights .entry)) count)) .«average_weight» ⌝ }
+    ensures { λ r. ⌜ r ≡ statisticsNumber
+        (statisticsOf (settingsOf truncation «max_weight» «voxel_size» «max_distance»)
+        (table (now (keys .entry)) (now (distances .entry)) (now (weights .entry)) count)) ⌝ }
+    ensures { λ _. ⌜ now («voxel_count» .exit) ≡ statsFound
+        (statisticsOf (settingsOf truncation «max_weight» «voxel_size» «max_distance»)
+        (table (now (keys .entry)) (now (distances .entry)) (now (weights .entry)) count)) .«voxel_count» ⌝ }
+    ensures { λ _. ⌜ now («surface_voxel_count» .exit) ≡ statsFound
+        (statisticsOf (settingsOf truncation «max_weight» «voxel_size» «max_distance»)
+        (table (now (keys .entry)) (now (distances .entry)) (now (weights .entry)) count)) .«surface_voxel_count» ⌝ }
+    ensures { λ _. ⌜ now (smallest .exit) ≡ statsFound
+        (statisticsOf (settingsOf truncation «max_weight» «voxel_size» «max_distance»)
+        (table (now (keys .entry)) (now (distances .entry)) (now (weights .entry)) count)) .«min_distance» .0 ⌝ }
+    ensures { λ _. ⌜ now (largest .exit) ≡ statsFound
+        (statisticsOf (settingsOf truncation «max_weight» «voxel_size» «max_distance»)
+        (table (now (keys .entry)) (now (distances .entry)) (now (weights .entry)) count)) .«max_distance» .0 ⌝ }
+    ensures { λ _. ⌜ now («average_weight» .exit) ≡ statsFound
+        (statisticsOf (settingsOf truncation «max_weight» «voxel_size» «max_distance»)
+        (table (now (keys .entry)) (now (distances .entry)) (now (weights .entry)) count)) .«average_weight» ⌝ }
 {
     let settings = settings_of(truncation, max_weight, voxel_size, max_distance);
     let statistics = tsdf_surveys::stats(settings, keys, distances, weights, count);
@@ -144,9 +172,17 @@ pub extern "C" fn akf_get_surface_voxels(
     out: &mut [u64],
     listed: &mut usize,
 ) -> u32
-    ensures { λ r. ⌜ r ≡ listedNumber (surfaceListed (settingsOf truncation «max_weight» «voxel_size» «max_distance») (table (now (keys .entry)) (now (distances .entry)) (now (weights .entry)) count) threshold (length (now (out .entry)))) ⌝ }
-    ensures { λ _. ⌜ now (out .exit) ≡ surfaceHeld (settingsOf truncation «max_weight» «voxel_size» «max_distance») (table (now (keys .entry)) (now (distances .entry)) (now (weights .entry)) count) threshold (length (now (out .entry))) ⌝ }
-    ensures { λ _. ⌜ now (listed .exit) ≡ countOf (surfaceListed (settingsOf truncation «max_weight» «voxel_size» «max_distance») (table (now (keys .entry)) (now (distances .entry)) (now (weights .entry)) count) threshold (length (now (out .entry)))) ⌝ }
+    ensures { λ r. ⌜ r ≡ listedNumber
+        (surfaceListed (settingsOf truncation «max_weight» «voxel_size» «max_distance»)
+        (table (now (keys .entry)) (now (distances .entry)) (now (weights .entry)) count) threshold
+        (length (now (out .entry)))) ⌝ }
+    ensures { λ _. ⌜ now (out .exit) ≡ surfaceHeld (settingsOf truncation «max_weight» «voxel_size» «max_distance»)
+        (table (now (keys .entry)) (now (distances .entry)) (now (weights .entry)) count) threshold
+        (length (now (out .entry))) ⌝ }
+    ensures { λ _. ⌜ now (listed .exit) ≡ countOf
+        (surfaceListed (settingsOf truncation «max_weight» «voxel_size» «max_distance»)
+        (table (now (keys .entry)) (now (distances .entry)) (now (weights .entry)) count) threshold
+        (length (now (out .entry)))) ⌝ }
 {
     let settings = settings_of(truncation, max_weight, voxel_size, max_distance);
     let answer = tsdf_surveys::get_surface_voxels(
@@ -177,10 +213,20 @@ pub extern "C" fn akf_get_zero_crossing_edges(
     second: &mut [u64],
     listed: &mut usize,
 ) -> u32
-    ensures { λ r. ⌜ r ≡ listedNumber (edgesAnswer (settingsOf truncation «max_weight» «voxel_size» «max_distance») (table (now (keys .entry)) (now (distances .entry)) (now (weights .entry)) count) (length (now (first .entry))) (length (now (second .entry)))) ⌝ }
-    ensures { λ _. ⌜ now (first .exit) ≡ firstsHeld (settingsOf truncation «max_weight» «voxel_size» «max_distance») (table (now (keys .entry)) (now (distances .entry)) (now (weights .entry)) count) (length (now (first .entry))) (length (now (second .entry))) ⌝ }
-    ensures { λ _. ⌜ now (second .exit) ≡ secondsHeld (settingsOf truncation «max_weight» «voxel_size» «max_distance») (table (now (keys .entry)) (now (distances .entry)) (now (weights .entry)) count) (length (now (first .entry))) (length (now (second .entry))) ⌝ }
-    ensures { λ _. ⌜ now (listed .exit) ≡ countOf (edgesAnswer (settingsOf truncation «max_weight» «voxel_size» «max_distance») (table (now (keys .entry)) (now (distances .entry)) (now (weights .entry)) count) (length (now (first .entry))) (length (now (second .entry)))) ⌝ }
+    ensures { λ r. ⌜ r ≡ listedNumber
+        (edgesAnswer (settingsOf truncation «max_weight» «voxel_size» «max_distance»)
+        (table (now (keys .entry)) (now (distances .entry)) (now (weights .entry)) count) (length (now (first .entry)))
+        (length (now (second .entry)))) ⌝ }
+    ensures { λ _. ⌜ now (first .exit) ≡ firstsHeld (settingsOf truncation «max_weight» «voxel_size» «max_distance»)
+        (table (now (keys .entry)) (now (distances .entry)) (now (weights .entry)) count) (length (now (first .entry)))
+        (length (now (second .entry))) ⌝ }
+    ensures { λ _. ⌜ now (second .exit) ≡ secondsHeld (settingsOf truncation «max_weight» «voxel_size» «max_distance»)
+        (table (now (keys .entry)) (now (distances .entry)) (now (weights .entry)) count) (length (now (first .entry)))
+        (length (now (second .entry))) ⌝ }
+    ensures { λ _. ⌜ now (listed .exit) ≡ countOf
+        (edgesAnswer (settingsOf truncation «max_weight» «voxel_size» «max_distance»)
+        (table (now (keys .entry)) (now (distances .entry)) (now (weights .entry)) count) (length (now (first .entry)))
+        (length (now (second .entry)))) ⌝ }
 {
     let settings = settings_of(truncation, max_weight, voxel_size, max_distance);
     let answer = edges::get_zero_crossing_edges(

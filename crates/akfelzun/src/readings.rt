@@ -24,7 +24,10 @@ pub extern "C" fn akf_update_from_depth(
     confidence: f32,
 ) -> u32
     ensures { λ r. ⌜ fuseBack r (table (now (keys .exit)) (now (distances .exit)) (now (weights .exit)) (now (count .exit)))
-        ≡ fuseHanded (fuse (settingsOf truncation «max_weight» «voxel_size» «max_distance») (table (now (keys .entry)) (now (distances .entry)) (now (weights .entry)) (now (count .entry))) key (directReading distance confidence)) ⌝ }
+        ≡ fuseHanded
+        (fuse (settingsOf truncation «max_weight» «voxel_size» «max_distance»)
+        (table (now (keys .entry)) (now (distances .entry)) (now (weights .entry)) (now (count .entry))) key
+        (directReading distance confidence)) ⌝ }
 {
     let settings = settings_of(truncation, max_weight, voxel_size, max_distance);
     let fused = fusing::update_from_depth(
@@ -58,7 +61,10 @@ pub extern "C" fn akf_update_from_depth_ray(
     confidence: f32,
 ) -> u32
     ensures { λ r. ⌜ fuseBack r (table (now (keys .exit)) (now (distances .exit)) (now (weights .exit)) (now (count .exit)))
-        ≡ fuseHanded (fuse (settingsOf truncation «max_weight» «voxel_size» «max_distance») (table (now (keys .entry)) (now (distances .entry)) (now (weights .entry)) (now (count .entry))) key (rayReading «sensor_x» «sensor_y» «sensor_z» depth confidence)) ⌝ }
+        ≡ fuseHanded
+        (fuse (settingsOf truncation «max_weight» «voxel_size» «max_distance»)
+        (table (now (keys .entry)) (now (distances .entry)) (now (weights .entry)) (now (count .entry))) key
+        (rayReading «sensor_x» «sensor_y» «sensor_z» depth confidence)) ⌝ }
 {
     let settings = settings_of(truncation, max_weight, voxel_size, max_distance);
     let fused = fusing::update_from_depth_ray(
@@ -93,7 +99,10 @@ pub extern "C" fn akf_batch_update(
     at: &mut usize,
 ) -> u32
     ensures { λ r. ⌜ batchBack r (table (now (keys .exit)) (now (distances .exit)) (now (weights .exit)) (now (count .exit))) (now (at .exit))
-        ≡ batchHanded (batch (settingsOf truncation «max_weight» «voxel_size» «max_distance») (table (now (keys .entry)) (now (distances .entry)) (now (weights .entry)) (now (count .entry))) (now («batch_keys» .entry)) (now («batch_distances» .entry)) (now («batch_confidences» .entry))) ⌝ }
+        ≡ batchHanded
+        (batch (settingsOf truncation «max_weight» «voxel_size» «max_distance»)
+        (table (now (keys .entry)) (now (distances .entry)) (now (weights .entry)) (now (count .entry)))
+        (now («batch_keys» .entry)) (now («batch_distances» .entry)) (now («batch_confidences» .entry))) ⌝ }
 {
     let settings = settings_of(truncation, max_weight, voxel_size, max_distance);
     let batched = batches::batch_update(

@@ -34,7 +34,10 @@ fn batch_one(
     requires { ⌜ tableCheck settings (table (now keys) (now distances) (now weights) (now count)) ≡ Checked.Passed ⌝ }
     requires { ⌜ from < length (now «batch_keys») ⌝ }
     requires { ⌜ (length (now «batch_distances») ≡ length (now «batch_keys»)) × (length (now «batch_confidences») ≡ length (now «batch_keys»)) ⌝ }
-    ensures { λ r. ⌜ RunTo settings (table (now (keys .entry)) (now (distances .entry)) (now (weights .entry)) (now (count .entry))) (beside (now («batch_keys» .entry)) (now («batch_distances» .entry)) (now («batch_confidences» .entry))) from (from + 1) r (table (now (keys .exit)) (now (distances .exit)) (now (weights .exit)) (now (count .exit))) ⌝ }
+    ensures { λ r. ⌜ RunTo settings
+        (table (now (keys .entry)) (now (distances .entry)) (now (weights .entry)) (now (count .entry)))
+        (beside (now («batch_keys» .entry)) (now («batch_distances» .entry)) (now («batch_confidences» .entry))) from
+        (from + 1) r (table (now (keys .exit)) (now (distances .exit)) (now (weights .exit)) (now (count .exit))) ⌝ }
 {
     let key = batch_keys[from];
     let distance = batch_distances[from];
@@ -66,7 +69,10 @@ fn batch_step(
     requires { ⌜ tableCheck settings (table (now keys) (now distances) (now weights) (now count)) ≡ Checked.Passed ⌝ }
     requires { ⌜ from < length (now «batch_keys») ⌝ }
     requires { ⌜ (length (now «batch_distances») ≡ length (now «batch_keys»)) × (length (now «batch_confidences») ≡ length (now «batch_keys»)) ⌝ }
-    ensures { λ r. ⌜ RunTo settings (table (now (keys .entry)) (now (distances .entry)) (now (weights .entry)) (now (count .entry))) (beside (now («batch_keys» .entry)) (now («batch_distances» .entry)) (now («batch_confidences» .entry))) from (from + 1) r (table (now (keys .exit)) (now (distances .exit)) (now (weights .exit)) (now (count .exit))) ⌝ }
+    ensures { λ r. ⌜ RunTo settings
+        (table (now (keys .entry)) (now (distances .entry)) (now (weights .entry)) (now (count .entry)))
+        (beside (now («batch_keys» .entry)) (now («batch_distances» .entry)) (now («batch_confidences» .entry))) from
+        (from + 1) r (table (now (keys .exit)) (now (distances .exit)) (now (weights .exit)) (now (count .exit))) ⌝ }
 {
     if batch_keys.len() - from < 16 {
         return batch_one(
@@ -129,7 +135,9 @@ fn batch_sound(
     requires { ⌜ tableCheck settings (table (now keys) (now distances) (now weights) (now count)) ≡ Checked.Passed ⌝ }
     requires { ⌜ (length (now «batch_distances») ≡ length (now «batch_keys»)) × (length (now «batch_confidences») ≡ length (now «batch_keys»)) ⌝ }
     ensures { λ r. ⌜ batchOutcome r (table (now (keys .exit)) (now (distances .exit)) (now (weights .exit)) (now (count .exit)))
-        ≡ batchFrom settings 0 (table (now (keys .entry)) (now (distances .entry)) (now (weights .entry)) (now (count .entry))) (beside (now («batch_keys» .entry)) (now («batch_distances» .entry)) (now («batch_confidences» .entry))) ⌝ }
+        ≡ batchFrom settings 0
+        (table (now (keys .entry)) (now (distances .entry)) (now (weights .entry)) (now (count .entry)))
+        (beside (now («batch_keys» .entry)) (now («batch_distances» .entry)) (now («batch_confidences» .entry))) ⌝ }
 {
     let mut i = 0;
     while i < batch_keys.len() {
@@ -168,7 +176,9 @@ pub fn batch_update(
     batch_confidences: &[f32],
 ) -> Batched
     ensures { λ r. ⌜ batchOutcome r (table (now (keys .exit)) (now (distances .exit)) (now (weights .exit)) (now (count .exit)))
-        ≡ batch settings (table (now (keys .entry)) (now (distances .entry)) (now (weights .entry)) (now (count .entry))) (now («batch_keys» .entry)) (now («batch_distances» .entry)) (now («batch_confidences» .entry)) ⌝ }
+        ≡ batch settings
+        (table (now (keys .entry)) (now (distances .entry)) (now (weights .entry)) (now (count .entry)))
+        (now («batch_keys» .entry)) (now («batch_distances» .entry)) (now («batch_confidences» .entry)) ⌝ }
 {
     if !settings_ok(settings) {
         return Batched::Refused(Refusal::Setting, 0);

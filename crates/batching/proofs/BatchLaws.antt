@@ -1,4 +1,5 @@
--- A batch of one is a fuse, a batch splits anywhere, and in a refused one the earlier readings stand: a batch is its readings in turn, and what a part leaves passes the tests again.
+-- A batch of one is a fuse, a batch splits anywhere, and in a refused one the earlier readings stand: a batch is its
+-- readings in turn, and what a part leaves passes the tests again.
 -- Assumes nothing.
 use mathlib.Core.Path.{_≡_, refl, sym, ap, _∙_}
 use mathlib.Core.Bool.{Bool, true, false}
@@ -74,7 +75,9 @@ countedFrom n o = batchOutcome (counted n (o .answer)) (o .left)
 from-counted : (s : Settings) (n i : ℕ) (t : Table) (rs : List Row) → batchFrom s (n + i) t rs ≡ countedFrom n (batchFrom s i t rs)
 unfolding batchFrom stopOr counted
 from-counted s n i t [] = refl
-from-counted s n i t (r ∷ rs) = go (fuse s t (r .key) (directOf r) .answer) (fuse s t (r .key) (directOf r) .left) (λ u. ap (λ (j : ℕ). batchFrom s j u rs) (sym (add-suc n i)) ∙ from-counted s n (suc i) u rs)
+from-counted s n i t (r ∷ rs) =
+    go (fuse s t (r .key) (directOf r) .answer) (fuse s t (r .key) (directOf r) .left)
+    (λ u. ap (λ (j : ℕ). batchFrom s j u rs) (sym (add-suc n i)) ∙ from-counted s n (suc i) u rs)
   where
     go :
         (a : Fused) (u : Table)
@@ -93,8 +96,12 @@ from-splits s i t (r ∷ rs) qs = go (fuse s t (r .key) (directOf r) .answer) (f
   where
     go :
         (a : Fused) (u : Table)
-        → ((v : Table) → batchFrom s (suc i) v (rs ++ qs) ≡ followedBy (batchFrom s (suc i) v rs .answer) (batchFrom s (suc i) v rs .left) (λ w. batchFrom s (suc i + length rs) w qs))
-        → stopOr a i u (batchFrom s (suc i) u (rs ++ qs)) ≡ followedBy (stopOr a i u (batchFrom s (suc i) u rs) .answer) (stopOr a i u (batchFrom s (suc i) u rs) .left) (λ w. batchFrom s (i + suc (length rs)) w qs)
+        → ((v : Table)
+        → batchFrom s (suc i) v (rs ++ qs) ≡ followedBy (batchFrom s (suc i) v rs .answer)
+        (batchFrom s (suc i) v rs .left) (λ w. batchFrom s (suc i + length rs) w qs))
+        → stopOr a i u (batchFrom s (suc i) u (rs ++ qs))
+        ≡ followedBy (stopOr a i u (batchFrom s (suc i) u rs) .answer) (stopOr a i u (batchFrom s (suc i) u rs) .left)
+        (λ w. batchFrom s (i + suc (length rs)) w qs)
     go (Fused.Refused why) u h = refl
     go Fused.Far u h = rw (add-suc i (length rs), ← suc-add i (length rs)) (h u)
     go Fused.Stored u h = rw (add-suc i (length rs), ← suc-add i (length rs)) (h u)
@@ -103,7 +110,9 @@ from-splits s i t (r ∷ rs) qs = go (fuse s t (r .key) (directOf r) .answer) (f
 from-keeps : (s : Settings) (i : ℕ) (t : Table) (rs : List Row) → tableCheck s t ≡ Checked.Passed → tableCheck s (batchFrom s i t rs .left) ≡ Checked.Passed
 unfolding batchFrom stopOr
 from-keeps s i t [] e = e
-from-keeps s i t (r ∷ rs) e = go (fuse s t (r .key) (directOf r) .answer) (fuse s t (r .key) (directOf r) .left) (fuse-keeps s t (r .key) (directOf r) e) (λ u h. from-keeps s (suc i) u rs h)
+from-keeps s i t (r ∷ rs) e =
+    go (fuse s t (r .key) (directOf r) .answer) (fuse s t (r .key) (directOf r) .left)
+    (fuse-keeps s t (r .key) (directOf r) e) (λ u h. from-keeps s (suc i) u rs h)
   where
     go :
         (a : Fused) (u : Table)
@@ -151,7 +160,9 @@ pub batch-splits :
     → length ds' ≡ length ks'
     → length cs' ≡ length ks'
     → length ks + length ks' ≤ 65536
-    → batch s t (ks ++ ks') (ds ++ ds') (cs ++ cs') ≡ followedBy (batch s t ks ds cs .answer) (batch s t ks ds cs .left) (λ u. countedFrom (length ks) (batch s u ks' ds' cs'))
+    → batch s t (ks ++ ks') (ds ++ ds') (cs ++ cs')
+    ≡ followedBy (batch s t ks ds cs .answer) (batch s t ks ds cs .left)
+    (λ u. countedFrom (length ks) (batch s u ks' ds' cs'))
 unfolding batch batchIf followedBy
 batch-splits s t ks ks' ds ds' cs cs' p q p' q' h =
     let a = length-append ks ks' in
@@ -159,27 +170,44 @@ batch-splits s t ks ks' ds ds' cs cs' p q p' q' h =
     let c = length-append cs cs' in
     let whole = fits (length (ks ++ ks')) (length (ds ++ ds')) (length (cs ++ cs')) (omega arith) (omega arith) (omega arith) in
     let first = fits (length ks) (length ds) (length cs) p q (omega arith) in
-    rw (check-once s t (length (ks ++ ks')) (length (ds ++ ds')) (length (cs ++ cs')) whole, check-once s t (length ks) (length ds) (length cs) first, beside-append ks ks' ds ds' cs cs' p q)
+    rw (
+      check-once s t (length (ks ++ ks')) (length (ds ++ ds')) (length (cs ++ cs')) whole,
+      check-once s t (length ks) (length ds) (length cs) first,
+      beside-append ks ks' ds ds' cs cs' p q,
+    )
     (go (tableCheck s t) refl)
   where
     second :
         (u : Table)
         → tableCheck s u ≡ Checked.Passed
-        → batchFrom s (0 + length (beside ks ds cs)) u (beside ks' ds' cs') ≡ countedFrom (length ks) (batchIf (batchCheck s u (length ks') (length ds') (length cs')) s u (beside ks' ds' cs'))
+        → batchFrom s (0 + length (beside ks ds cs)) u (beside ks' ds' cs')
+        ≡ countedFrom (length ks)
+        (batchIf (batchCheck s u (length ks') (length ds') (length cs')) s u (beside ks' ds' cs'))
     second u e =
         ap (λ (j : ℕ). batchFrom s j u (beside ks' ds' cs')) (zero-add (length (beside ks ds cs)) ∙ beside-length ks ds cs p q ∙ sym (add-zero (length ks)))
         ∙ from-counted s (length ks) 0 u (beside ks' ds' cs')
-        ∙ ap (λ (r : Checked). countedFrom (length ks) (batchIf r s u (beside ks' ds' cs'))) (sym (check-once s u (length ks') (length ds') (length cs') (fits (length ks') (length ds') (length cs') p' q' (omega arith)) ∙ e))
+        ∙ ap (λ (r : Checked). countedFrom (length ks) (batchIf r s u (beside ks' ds' cs')))
+        (sym (check-once s u (length ks') (length ds') (length cs')
+        (fits (length ks') (length ds') (length cs') p' q' (omega arith))
+        ∙ e))
 
     go :
         (r : Checked)
         → tableCheck s t ≡ r
-        → batchIf r s t (beside ks ds cs ++ beside ks' ds' cs') ≡ followedBy (batchIf r s t (beside ks ds cs) .answer) (batchIf r s t (beside ks ds cs) .left) (λ u. countedFrom (length ks) (batchIf (batchCheck s u (length ks') (length ds') (length cs')) s u (beside ks' ds' cs')))
+        → batchIf r s t (beside ks ds cs ++ beside ks' ds' cs')
+        ≡ followedBy (batchIf r s t (beside ks ds cs) .answer) (batchIf r s t (beside ks ds cs) .left)
+        (λ u.
+        countedFrom (length ks)
+        (batchIf (batchCheck s u (length ks') (length ds') (length cs')) s u (beside ks' ds' cs')))
     go (Checked.Refused why) e = refl
     go Checked.Passed e =
         let o = batchFrom s 0 t (beside ks ds cs) in
         from-splits s 0 t (beside ks ds cs) (beside ks' ds' cs')
-        ∙ followed-same (o .answer) (o .left) (λ u. batchFrom s (0 + length (beside ks ds cs)) u (beside ks' ds' cs')) (λ u. countedFrom (length ks) (batchIf (batchCheck s u (length ks') (length ds') (length cs')) s u (beside ks' ds' cs'))) (second (o .left) (from-keeps s 0 t (beside ks ds cs) e))
+        ∙ followed-same (o .answer) (o .left) (λ u. batchFrom s (0 + length (beside ks ds cs)) u (beside ks' ds' cs'))
+        (λ u.
+        countedFrom (length ks)
+        (batchIf (batchCheck s u (length ks') (length ds') (length cs')) s u (beside ks' ds' cs')))
+        (second (o .left) (from-keeps s 0 t (beside ks ds cs) e))
 
 -- ---- a refused batch
 
@@ -199,7 +227,8 @@ stands s j t (r ∷ rs) why i e = go (fuse s t (r .key) (directOf r) .answer) re
         (a : Fused)
         → fuse s t (r .key) (directOf r) .answer ≡ a
         → stopOr a j (fuse s t (r .key) (directOf r) .left) (batchFrom s (suc j) (fuse s t (r .key) (directOf r) .left) rs) .answer ≡ Batched.Refused why i
-        → (batchFrom s (suc j) (fuse s t (r .key) (directOf r) .left) rs .answer ≡ Batched.Refused why i → Stands s (suc j) (fuse s t (r .key) (directOf r) .left) rs i)
+        → (batchFrom s (suc j) (fuse s t (r .key) (directOf r) .left) rs .answer ≡ Batched.Refused why i
+        → Stands s (suc j) (fuse s t (r .key) (directOf r) .left) rs i)
         → Stands s j t (r ∷ rs) i
     go (Fused.Refused w) q f next =
         let n : j ≡ i = cc in

@@ -50,7 +50,8 @@ module _ (s : Settings) (t : Table) (ks : List ℕ) (ds cs : List Float) (i : �
   ended h = rw (beside-past ks ds cs i h)
 
   -- the i-th reading answers a and leaves u
-  module _ (p : length ds ≡ length ks) (q : length cs ≡ length ks) (h : i < length ks) (a : Fused) (u : Table) (e : outcome a u ≡ fuse s t (getD ks i 0) (directOf (row (getD ks i 0) (getD ds i nan) (getD cs i nan)))) where
+  module _ (p : length ds ≡ length ks) (q : length cs ≡ length ks) (h : i < length ks) (a : Fused) (u : Table)
+      (e : outcome a u ≡ fuse s t (getD ks i 0) (directOf (row (getD ks i 0) (getD ds i nan) (getD cs i nan)))) where
     one : from i t ≡ stopOr a i u (from (i + 1) u)
     unfolding batchFrom
     one = rw (beside-at ks ds cs i p q h, ← e, add-one)
@@ -69,4 +70,6 @@ module _ (s : Settings) (t : Table) (ks : List ℕ) (ds cs : List Float) (i : �
 
     -- the table passes the check again
     pub passes-again : tableCheck s t ≡ Passed → tableCheck s u ≡ Passed
-    passes-again c = ap (λ (o : Outcome). tableCheck s (o .left)) e ∙ fuse-keeps s t (getD ks i 0) (directOf (row (getD ks i 0) (getD ds i nan) (getD cs i nan))) c
+    passes-again c =
+        ap (λ (o : Outcome). tableCheck s (o .left)) e
+        ∙ fuse-keeps s t (getD ks i 0) (directOf (row (getD ks i 0) (getD ds i nan) (getD cs i nan))) c

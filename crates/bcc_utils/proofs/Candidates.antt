@@ -149,7 +149,8 @@ module _ (x y z : ℤ) where
   unfolding nearest All
   first-stays d best [] e h = refl
   first-stays d best (q ∷ qs) e h =
-      ap (λ (t : Bool). nearest (x, y, z) (cond t q best) qs) (ap (λ (n : ℕ). ltb n (squaredDistance (x, y, z) best)) (h .0) ∙ ap (ltb d) e ∙ le-ltb d d (le-refl d))
+      ap (λ (t : Bool). nearest (x, y, z) (cond t q best) qs)
+      (ap (λ (n : ℕ). ltb n (squaredDistance (x, y, z) best)) (h .0) ∙ ap (ltb d) e ∙ le-ltb d d (le-refl d))
       ∙ first-stays d best qs e (h .1)
 
   first-even-far : Far true (firstEven x y z)

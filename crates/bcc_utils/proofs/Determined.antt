@@ -12,7 +12,10 @@ is-valid-bcc-determined κs a r r' s s' p q = p ∙ sym q
 pub snap-to-nearest-bcc-determined : (κs : _) (a : _) (r r' : _) (s s' : _) → snap_to_nearest_bcc.Post κs a r s → snap_to_nearest_bcc.Post κs a r' s' → r ≡ r'
 snap-to-nearest-bcc-determined κs a r r' s s' p q = p ∙ sym q
 
-pub physical-to-bcc-voxel-determined : (κs : _) (a : _) (r r' : _) (s s' : _) → physical_to_bcc_voxel.Post κs a r s → physical_to_bcc_voxel.Post κs a r' s' → r ≡ r'
+pub physical-to-bcc-voxel-determined : (κs : _) (a : _) (r r' : _) (s s' : _)
+    → physical_to_bcc_voxel.Post κs a r s
+    → physical_to_bcc_voxel.Post κs a r' s'
+    → r ≡ r'
 physical-to-bcc-voxel-determined κs a r r' s s' p q = p ∙ sym q
 
 pub metres-of-determined : (κs : _) (a : _) (r r' : _) (s s' : _) → metres_of.Post κs a r s → metres_of.Post κs a r' s' → r ≡ r'

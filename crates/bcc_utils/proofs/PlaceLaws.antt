@@ -44,12 +44,19 @@ rounding-refuses (fin s m e) r h = signed-refuses s (halvesUp m e) r h
 
 module _ (x y z size : Float) where
   -- Where the three cells are whole numbers of i32, they are snapped.
-  pub place-inside : (a b c : ℤ) → cellsOf x size ≡ nearest.Whole a → cellsOf y size ≡ nearest.Whole b → cellsOf z size ≡ nearest.Whole c → placeSnapped x y z size ≡ snapped a b c
+  pub place-inside : (a b c : ℤ)
+      → cellsOf x size ≡ nearest.Whole a
+      → cellsOf y size ≡ nearest.Whole b
+      → cellsOf z size ≡ nearest.Whole c
+      → placeSnapped x y z size ≡ snapped a b c
   unfolding placeSnapped
   place-inside a b c p q r = rw (p, q, r)
 
   -- rounding one coordinate, and what follows, refuse with 9 alone
-  step-refuses : (v : Float) (next : ℤ → Snapped) (r : Refusal) → ((w : ℤ) → next w ≡ Refused r → r ≡ OutOfRange) → andThen (cellsOf v size) next ≡ Refused r → r ≡ OutOfRange
+  step-refuses : (v : Float) (next : ℤ → Snapped) (r : Refusal)
+      → ((w : ℤ) → next w ≡ Refused r → r ≡ OutOfRange)
+      → andThen (cellsOf v size) next ≡ Refused r
+      → r ≡ OutOfRange
   step-refuses v next r h e = go (cellsOf v size) refl e
     where
       go : (n : Nearest) → cellsOf v size ≡ n → andThen n next ≡ Refused r → r ≡ OutOfRange
@@ -72,7 +79,9 @@ module _ (x y z size : Float) where
       go (nearest.Refused s) p = ap Refused (rounding-refuses (div binary32 v size) s p)
 
   -- Where one of them is none, the place is refused with 9.
-  pub place-outside : (cellsOf x size ≡ nearest.Refused OutOfRange) ⊎ ((cellsOf y size ≡ nearest.Refused OutOfRange) ⊎ (cellsOf z size ≡ nearest.Refused OutOfRange)) → placeSnapped x y z size ≡ Refused OutOfRange
+  pub place-outside : (cellsOf x size ≡ nearest.Refused OutOfRange)
+      ⊎ ((cellsOf y size ≡ nearest.Refused OutOfRange) ⊎ (cellsOf z size ≡ nearest.Refused OutOfRange))
+      → placeSnapped x y z size ≡ Refused OutOfRange
   unfolding placeSnapped
   place-outside (inl p) = rw p
   place-outside (inr (inl p)) = past x _ (λ a. rw p)
@@ -101,11 +110,14 @@ module _ (x y z size : Float) where
       go false b e = (cc, cc)
 
   -- 9: both are taken, and dividing, rounding or snapping leaves i32
-  pub voxel-refused-9 : (voxelOf x y z size ≡ Refused OutOfRange) ↔ ((positiveTo thousand size ≡ true) × (isPlace x y z ≡ true) × (placeSnapped x y z size ≡ Refused OutOfRange))
+  pub voxel-refused-9 : (voxelOf x y z size ≡ Refused OutOfRange) ↔
+      ((positiveTo thousand size ≡ true) × (isPlace x y z ≡ true) × (placeSnapped x y z size ≡ Refused OutOfRange))
   unfolding voxelOf
   voxel-refused-9 = (λ e. go (positiveTo thousand size) (isPlace x y z) e, λ h. rw (h .0, h .1, h .2))
     where
-      go : (a b : Bool) → cond a (cond b (placeSnapped x y z size) (Refused BadReading)) (Refused Setting) ≡ Refused OutOfRange → (a ≡ true) × (b ≡ true) × (placeSnapped x y z size ≡ Refused OutOfRange)
+      go : (a b : Bool)
+          → cond a (cond b (placeSnapped x y z size) (Refused BadReading)) (Refused Setting) ≡ Refused OutOfRange
+          → (a ≡ true) × (b ≡ true) × (placeSnapped x y z size ≡ Refused OutOfRange)
       go true true e = (refl, refl, e)
       go true false e = (cc, cc, cc)
       go false b e = (cc, cc, cc)

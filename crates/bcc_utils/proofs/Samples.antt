@@ -69,5 +69,6 @@ pub place-samples : map (λ (p : ℕ × ℕ × ℕ × ℕ). answerOf (voxelOf (f
     ∷ (9, (pos 0, pos 0, pos 0))
     ∷ (9, (pos 0, pos 0, pos 0))
     ∷ []
-unfolding voxelOf placeSnapped ofBits div lt le eq wholeOf snapped snappedNumber snappedPlace onLattice even isEnd nearestCandidate nearer nearest squaredDistance squareOf evenDown evenUp oddUp oddDown
+unfolding voxelOf placeSnapped ofBits div lt le eq wholeOf snapped snappedNumber snappedPlace onLattice even isEnd
+    nearestCandidate nearer nearest squaredDistance squareOf evenDown evenUp oddUp oddDown
 place-samples = refl

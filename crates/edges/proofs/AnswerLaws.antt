@@ -47,7 +47,8 @@ module _ (s : Settings) (ks : List ℕ) (ds ws : List Float) (n a b : ℕ) where
 
 -- ---- what the lists hold
 
-module _ (es : List Edge) (first second : List ℕ) (n : ℕ) (first' second' : List ℕ) (w : Wrote es 0 first second n first' second') (r : Listed) (told : r ≡ roomFor n (length first')) where
+module _ (es : List Edge) (first second : List ℕ) (n : ℕ) (first' second' : List ℕ)
+    (w : Wrote es 0 first second n first' second') (r : Listed) (told : r ≡ roomFor n (length first')) where
   e : r ≡ roomFor n (length first)
   e = told ∙ ap (λ (l : ℕ). roomFor n l) (ap length (w .ones) ∙ length-sets first 0 (firsts es))
 
@@ -65,7 +66,8 @@ module _ (es : List Edge) (first second : List ℕ) (n : ℕ) (first' second' : 
   seconds-held h = rw (e, ← h) (written-held 0 second (seconds es) n second' (counted ∙ sym (length-map es (λ (x : Edge). x .second))) (w .others))
 
 -- the whole call: the verdict v, the answer r and how many it says
-module _ (s : Settings) (t : Table) (a b : ℕ) (v : Checked) (verdict : v ≡ checkedFor s t a b) (r : Listed) (answer : r ≡ answerIf v (zeroCrossingEdges (rows t)) a) where
+module _ (s : Settings) (t : Table) (a b : ℕ) (v : Checked) (verdict : v ≡ checkedFor s t a b) (r : Listed)
+    (answer : r ≡ answerIf v (zeroCrossingEdges (rows t)) a) where
   pub answered : r ≡ edgesAnswer s t a b
   unfolding edgesAnswer
   answered = answer ∙ ap (λ (c : Checked). answerIf c (zeroCrossingEdges (rows t)) a) verdict

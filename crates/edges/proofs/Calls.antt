@@ -88,7 +88,10 @@ module _ (s : Settings) (t : Table) (a b : ℕ) where
 
   -- Answered with a count, the two lists hold the edge list and then zeros, and the count is its length.
   pub answered-with-edges : (n : ℕ) → edgesAnswer s t a b ≡ listed.Count n →
-      IsEdgeList neighbours adjacent crossesZero (rows t) es × (n ≡ length es) × (firstsHeld s t a b ≡ padded 0 a (firsts es)) × (secondsHeld s t a b ≡ padded 0 b (seconds es))
+      IsEdgeList neighbours adjacent crossesZero (rows t) es
+      × (n ≡ length es)
+      × (firstsHeld s t a b ≡ padded 0 a (firsts es))
+      × (secondsHeld s t a b ≡ padded 0 b (seconds es))
   unfolding edgesAnswer heldFor
   answered-with-edges n e =
       let h = counted-only (checkedFor s t a b) es a n e in

@@ -4,5 +4,10 @@ use mathlib.Core.Path.{_≡_, sym, _∙_}
 use denote.Ref.{now}
 use Rattle.edges.proofs.get_zero_crossing_edges.Reads as get_zero_crossing_edges
 
-pub get-zero-crossing-edges-determined : (κs : _) (a : _) (r r' : _) (s s' : _) → get_zero_crossing_edges.Post κs a r s → get_zero_crossing_edges.Post κs a r' s' → (r ≡ r') × (now (s .1 .1 .1 .1 .1 .0) ≡ now (s' .1 .1 .1 .1 .1 .0)) × (now (s .1 .1 .1 .1 .1 .1 .0) ≡ now (s' .1 .1 .1 .1 .1 .1 .0))
+pub get-zero-crossing-edges-determined : (κs : _) (a : _) (r r' : _) (s s' : _)
+    → get_zero_crossing_edges.Post κs a r s
+    → get_zero_crossing_edges.Post κs a r' s'
+    → (r ≡ r')
+    × (now (s .1 .1 .1 .1 .1 .0) ≡ now (s' .1 .1 .1 .1 .1 .0))
+    × (now (s .1 .1 .1 .1 .1 .1 .0) ≡ now (s' .1 .1 .1 .1 .1 .1 .0))
 get-zero-crossing-edges-determined κs a r r' s s' p q = (p .0 ∙ sym (q .0), p .1 .0 ∙ sym (q .1 .0), p .1 .1 ∙ sym (q .1 .1))

@@ -82,8 +82,13 @@ module _ (near : ℕ → List ℕ) (adjacent : ℕ → ℕ → Bool) (crosses : 
         let q = kept-in (listed near crosses rows r) (near (r .key)) (p .1) in
         let h = listed-in r k (q .1) in
         let s : Row = h .0 in
-        let near-s : s .key ∈ near (r .key) = Memᴰ·cast (h .2) (q .0) in
-        (r, s, record { stored = j .1; beside = h .1; adjacency = nb .exactly (r .key) (s .key) .0 near-s; crossing = h .3 }, rw (h .2) (h .4), p .2 ∙ ap (edge (r .key)) (sym (h .2)))
+        let near-s : s .key ∈ near (r .key) = Memᴰ·cast (h .2) (q .0) in (
+          r,
+          s,
+          record { stored = j .1; beside = h .1; adjacency = nb .exactly (r .key) (s .key) .0 near-s; crossing = h .3 },
+          rw (h .2) (h .4),
+          p .2 ∙ ap (edge (r .key)) (sym (h .2)),
+        )
 
     module _ (up : Ordered (λ r s. r .key < s .key) rows) where
       -- two rows that cross, the smaller key first, are listed
@@ -116,7 +121,9 @@ module _ (near : ℕ → List ℕ) (adjacent : ℕ → ℕ → Bool) (crosses : 
       unfolding edges
       edges-ordered =
           joined-ordered (Before near) (edgesOf near crosses rows) rows (λ r m. row-ordered r)
-          (ordered-weaken (λ r s. r .key < s .key) (λ r s. (u v : Edge) → u ∈ edgesOf near crosses rows r → v ∈ edgesOf near crosses rows s → Before near u v) rows
+          (ordered-weaken (λ r s. r .key < s .key)
+          (λ r s. (u v : Edge) → u ∈ edgesOf near crosses rows r → v ∈ edgesOf near crosses rows s → Before near u v)
+          rows
           (λ r s p q l u v i j. let a = first-of r u i .0 in let b = first-of s v j .0 in inl (omega arith)) up)
 
 module _ (near : ℕ → List ℕ) (adjacent : ℕ → ℕ → Bool) (crosses : Row → Row → Bool) (rows : List Row)

@@ -27,12 +27,16 @@ pub begun : (whole : List Edge) (at : ℕ) (first second : List ℕ) → Writing
 begun whole at first second = record { count = refl; ones = refl; others = refl; long = refl; long' = refl }
 
 -- one column
-column : (g : Edge → ℕ) (es rest : List Edge) (l : List ℕ) (end : ℕ) → sets l end (map g (es ++ rest)) ≡ sets (sets l end (map g es)) (end + length es) (map g rest)
+column : (g : Edge → ℕ) (es rest : List Edge) (l : List ℕ) (end : ℕ)
+    → sets l end (map g (es ++ rest)) ≡ sets (sets l end (map g es)) (end + length es) (map g rest)
 column g es rest l end = rw (map-append g es rest, sets-append l end (map g es) (map g rest), length-map es g)
 
 module _ (whole : List Edge) (at : ℕ) (first second : List ℕ) where
   -- some more are written
-  pub more : (es rest : List Edge) (end : ℕ) (f s : List ℕ) (end' : ℕ) (f' s' : List ℕ) → Writing whole at first second (es ++ rest) end f s → Wrote es end f s end' f' s' → Writing whole at first second rest end' f' s'
+  pub more : (es rest : List Edge) (end : ℕ) (f s : List ℕ) (end' : ℕ) (f' s' : List ℕ)
+      → Writing whole at first second (es ++ rest) end f s
+      → Wrote es end f s end' f' s'
+      → Writing whole at first second rest end' f' s'
   more es rest end f s end' f' s' w h =
       record {
         count = rw (h .count) (omega (arith, w .count, length-append es rest));
@@ -64,8 +68,16 @@ module _ (near : ℕ → List ℕ) (crosses : Row → Row → Bool) (rows : List
   unlisted-next e = rw (drop-cons ks i 0 h, e, add-one)
 
   -- a turn of the loop over a row's neighbours
-  module _ (whole : List Edge) (at : ℕ) (first second : List ℕ) (end : ℕ) (f s : List ℕ) (end' : ℕ) (f' s' : List ℕ) (w : Writing whole at first second (to i) end f s) (b : Bool) (e : b ≡ listed near crosses rows r (getD ks i 0)) where
-    pub turn-listed : b ≡ true → (k : ℕ) → k ≡ getD ks i 0 → f' ≡ set f end (r .key) → s' ≡ set s end k → end' ≡ end + 1 → Writing whole at first second (to (i + 1)) end' f' s'
+  module _ (whole : List Edge) (at : ℕ) (first second : List ℕ) (end : ℕ) (f s : List ℕ) (end' : ℕ) (f' s' : List ℕ)
+      (w : Writing whole at first second (to i) end f s) (b : Bool)
+      (e : b ≡ listed near crosses rows r (getD ks i 0)) where
+    pub turn-listed : b ≡ true
+        → (k : ℕ)
+        → k ≡ getD ks i 0
+        → f' ≡ set f end (r .key)
+        → s' ≡ set s end k
+        → end' ≡ end + 1
+        → Writing whole at first second (to (i + 1)) end' f' s'
     turn-listed t k q p o n =
         let wrote : Wrote (edge (r .key) (getD ks i 0) ∷ []) end f s end' f' s' = rw n (one (r .key) (getD ks i 0) end f s f' s' p (o ∙ ap (set s end) q)) in
         more whole at first second (edge (r .key) (getD ks i 0) ∷ []) (to (i + 1)) end f s end' f' s' (rw (listed-next (sym e ∙ t)) at w) wrote
@@ -74,7 +86,9 @@ module _ (near : ℕ → List ℕ) (crosses : Row → Row → Bool) (rows : List
     turn-unlisted t p o n = rw (p, o, n) (rw (unlisted-next (sym e ∙ t)) at w)
 
 -- no key is left
-pub none-left : (near : ℕ → List ℕ) (crosses : Row → Row → Bool) (rows : List Row) (r : Row) (ks : List ℕ) (i : ℕ) → length ks ≤ i → edgesTo near crosses rows r (drop i ks) ≡ []
+pub none-left : (near : ℕ → List ℕ) (crosses : Row → Row → Bool) (rows : List Row) (r : Row) (ks : List ℕ) (i : ℕ)
+    → length ks ≤ i
+    → edgesTo near crosses rows r (drop i ks) ≡ []
 unfolding edgesTo kept
 none-left near crosses rows r ks i h = rw (drop-of-length-le ks {i = i} h)
 
@@ -92,6 +106,11 @@ module _ (near : ℕ → List ℕ) (crosses : Row → Row → Bool) (rows : List
   no-row-left i h = rw (drop-of-length-le rows {i = i} h)
 
   -- a turn of the loop over the rows
-  pub row-turn : (i : ℕ) (r : Row) → drop i rows ≡ r ∷ drop (suc i) rows → (whole : List Edge) (at : ℕ) (first second : List ℕ) (end : ℕ) (f s : List ℕ) (end' : ℕ) (f' s' : List ℕ) → Writing whole at first second (from i) end f s → Wrote (edgesOf near crosses rows r) end f s end' f' s' → Writing whole at first second (from (i + 1)) end' f' s'
+  pub row-turn : (i : ℕ) (r : Row)
+      → drop i rows ≡ r ∷ drop (suc i) rows
+      → (whole : List Edge) (at : ℕ) (first second : List ℕ) (end : ℕ) (f s : List ℕ) (end' : ℕ) (f' s' : List ℕ)
+      → Writing whole at first second (from i) end f s
+      → Wrote (edgesOf near crosses rows r) end f s end' f' s'
+      → Writing whole at first second (from (i + 1)) end' f' s'
   row-turn i r e whole at first second end f s end' f' s' w h =
       more whole at first second (edgesOf near crosses rows r) (from (i + 1)) end f s end' f' s' (rw (row-next i r e) at w) h

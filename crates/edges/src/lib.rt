@@ -44,7 +44,9 @@ fn is_listed(
     key: u64,
 ) -> bool
     requires { ⌜ Accepted (now keys) (now distances) (now weights) count × (row < count) ⌝ }
-    ensures { λ r. ⌜ r ≡ listed neighbours crossesZero (rowsOf (now (keys .entry)) (now (distances .entry)) (now (weights .entry)) count) (rowAt (now (keys .entry)) (now (distances .entry)) (now (weights .entry)) row) key ⌝ }
+    ensures { λ r. ⌜ r ≡ listed neighbours crossesZero
+        (rowsOf (now (keys .entry)) (now (distances .entry)) (now (weights .entry)) count)
+        (rowAt (now (keys .entry)) (now (distances .entry)) (now (weights .entry)) row) key ⌝ }
 {
     if key <= keys[row] {
         return false;
@@ -84,7 +86,10 @@ fn list_row(
     second: &mut [u64],
 ) -> usize
     requires { ⌜ Accepted (now keys) (now distances) (now weights) count × (row < count) × (at ≤ 14 * row) × (length (now second) ≡ length (now first)) ⌝ }
-    ensures { λ r. ⌜ Wrote (edgesOf neighbours crossesZero (rowsOf (now (keys .entry)) (now (distances .entry)) (now (weights .entry)) count) (rowAt (now (keys .entry)) (now (distances .entry)) (now (weights .entry)) row)) at (now (first .entry)) (now (second .entry)) r (now (first .exit)) (now (second .exit)) ⌝ }
+    ensures { λ r. ⌜ Wrote (edgesOf neighbours crossesZero
+        (rowsOf (now (keys .entry)) (now (distances .entry)) (now (weights .entry)) count)
+        (rowAt (now (keys .entry)) (now (distances .entry)) (now (weights .entry)) row)) at (now (first .entry))
+        (now (second .entry)) r (now (first .exit)) (now (second .exit)) ⌝ }
     ensures { λ r. ⌜ r ≤ at + 14 ⌝ }
 {
     let key = keys[row];
@@ -114,7 +119,9 @@ fn list_edges(
     second: &mut [u64],
 ) -> usize
     requires { ⌜ Accepted (now keys) (now distances) (now weights) count × (length (now second) ≡ length (now first)) ⌝ }
-    ensures { λ r. ⌜ Wrote (zeroCrossingEdges (rowsOf (now (keys .entry)) (now (distances .entry)) (now (weights .entry)) count)) 0 (now (first .entry)) (now (second .entry)) r (now (first .exit)) (now (second .exit)) ⌝ }
+    ensures { λ r. ⌜ Wrote (zeroCrossingEdges
+        (rowsOf (now (keys .entry)) (now (distances .entry)) (now (weights .entry)) count)) 0 (now (first .entry))
+        (now (second .entry)) r (now (first .exit)) (now (second .exit)) ⌝ }
 {
     let mut end = 0;
     let mut row = 0;
@@ -164,9 +171,17 @@ fn list_checked(
     second: &mut [u64],
 ) -> Listed
     requires { ⌜ (verdict ≡ Checked.Passed → Accepted (now keys) (now distances) (now weights) count × (length (now second) ≡ length (now first))) ⌝ }
-    ensures { λ r. ⌜ r ≡ answerIf verdict (zeroCrossingEdges (rowsOf (now (keys .entry)) (now (distances .entry)) (now (weights .entry)) count)) (length (now (first .entry))) ⌝ }
-    ensures { λ r. ⌜ clearedFrom 0 (countOf r) (now (first .exit)) ≡ heldFor 0 r (length (now (first .entry))) (firsts (zeroCrossingEdges (rowsOf (now (keys .entry)) (now (distances .entry)) (now (weights .entry)) count))) ⌝ }
-    ensures { λ r. ⌜ clearedFrom 0 (countOf r) (now (second .exit)) ≡ heldFor 0 r (length (now (second .entry))) (seconds (zeroCrossingEdges (rowsOf (now (keys .entry)) (now (distances .entry)) (now (weights .entry)) count))) ⌝ }
+    ensures { λ r. ⌜ r ≡ answerIf verdict
+        (zeroCrossingEdges (rowsOf (now (keys .entry)) (now (distances .entry)) (now (weights .entry)) count))
+        (length (now (first .entry))) ⌝ }
+    ensures { λ r. ⌜ clearedFrom 0 (countOf r) (now (first .exit))
+        ≡ heldFor 0 r (length (now (first .entry)))
+        (firsts (zeroCrossingEdges
+        (rowsOf (now (keys .entry)) (now (distances .entry)) (now (weights .entry)) count))) ⌝ }
+    ensures { λ r. ⌜ clearedFrom 0 (countOf r) (now (second .exit))
+        ≡ heldFor 0 r (length (now (second .entry)))
+        (seconds (zeroCrossingEdges
+        (rowsOf (now (keys .entry)) (now (distances .entry)) (now (weights .entry)) count))) ⌝ }
 {
     if let Checked::Refused(why) = verdict {
         return Listed::Refused(why);
@@ -185,9 +200,15 @@ pub fn get_zero_crossing_edges(
     first: &mut [u64],
     second: &mut [u64],
 ) -> Listed
-    ensures { λ r. ⌜ r ≡ edgesAnswer settings (table (now (keys .entry)) (now (distances .entry)) (now (weights .entry)) count) (length (now (first .entry))) (length (now (second .entry))) ⌝ }
-    ensures { λ _. ⌜ now (first .exit) ≡ firstsHeld settings (table (now (keys .entry)) (now (distances .entry)) (now (weights .entry)) count) (length (now (first .entry))) (length (now (second .entry))) ⌝ }
-    ensures { λ _. ⌜ now (second .exit) ≡ secondsHeld settings (table (now (keys .entry)) (now (distances .entry)) (now (weights .entry)) count) (length (now (first .entry))) (length (now (second .entry))) ⌝ }
+    ensures { λ r. ⌜ r ≡ edgesAnswer settings
+        (table (now (keys .entry)) (now (distances .entry)) (now (weights .entry)) count) (length (now (first .entry)))
+        (length (now (second .entry))) ⌝ }
+    ensures { λ _. ⌜ now (first .exit) ≡ firstsHeld settings
+        (table (now (keys .entry)) (now (distances .entry)) (now (weights .entry)) count) (length (now (first .entry)))
+        (length (now (second .entry))) ⌝ }
+    ensures { λ _. ⌜ now (second .exit) ≡ secondsHeld settings
+        (table (now (keys .entry)) (now (distances .entry)) (now (weights .entry)) count) (length (now (first .entry)))
+        (length (now (second .entry))) ⌝ }
 {
     let verdict = check(
         settings,

@@ -1,4 +1,5 @@
-// Counts the edges of the samples of document 01 that are run: (10, 10, 10) with its 14 neighbours of the other sign, in rooms of 14 and 13, and the empty table.
+// Counts the edges of the samples of document 01 that are run: (10, 10, 10) with its 14 neighbours of the other sign,
+// in rooms of 14 and 13, and the empty table.
 use floats::Metres;
 use lists::Listed;
 use table::Settings;

@@ -96,7 +96,13 @@ clear-held ks cs ds es ks' cs' ds' es' p q a b c d =
     let l : length ks ≡ length ks' = sym (ap length a ∙ length-replicate (length ks) 0) in
     let m : length cs ≡ length cs' = sym (ap length d ∙ length-replicate (length cs) 0) in
     record {
-      rows = record { keys = blanked 0 (length ks') ks ks' a l; distances = blanked zero32 (length ks') ds ds' b (p ∙ l); count = refl; fits = omega arith; ascends = refl };
+      rows = record {
+        keys = blanked 0 (length ks') ks ks' a l;
+        distances = blanked zero32 (length ks') ds ds' b (p ∙ l);
+        count = refl;
+        fits = omega arith;
+        ascends = refl;
+      };
       cells = record { estimates = blanked zero32 (length cs') es es' c (q ∙ m); cells = blanked 0 (length cs') cs cs' d m; count = refl; fits = omega arith };
     }
 

@@ -29,12 +29,17 @@ module _ {A : Type 0} (before : A → A → Bool) (x : A) where
   unfolding insert place
   insert-at f [] = refl
   insert-at {B} f (y ∷ ys) =
-      cases (λ (b : Bool). map f (cond b (y ∷ insert before x ys) (x ∷ (y ∷ ys))) ≡ take (cond b (suc (place before x ys)) 0) (f y ∷ map f ys) ++ f x ∷ drop (cond b (suc (place before x ys)) 0) (f y ∷ map f ys)) (before y x)
+      cases (λ (b : Bool).
+      map f (cond b (y ∷ insert before x ys) (x ∷ (y ∷ ys)))
+      ≡ take (cond b (suc (place before x ys)) 0) (f y ∷ map f ys) ++ f x
+      ∷ drop (cond b (suc (place before x ys)) 0) (f y ∷ map f ys)) (before y x)
       (λ e. ap {B = List B} (λ t. f y ∷ t) (insert-at f ys)) (λ e. refl)
 
 -- a list of n and then blank places
 module _ {B : Type 0} (v : B) where
-  open-blank : (xs : List B) (j p : ℕ) (u : B) → p ≤ length xs → opened (xs ++ replicate (suc j) v) (length xs) p u ≡ (take p xs ++ u ∷ drop p xs) ++ replicate j v
+  open-blank : (xs : List B) (j p : ℕ) (u : B)
+      → p ≤ length xs
+      → opened (xs ++ replicate (suc j) v) (length xs) p u ≡ (take p xs ++ u ∷ drop p xs) ++ replicate j v
   open-blank xs j p u h =
       rw (take-append-le p xs (replicate (suc j) v) h, take-append-seam xs (replicate (suc j) v), past xs j, append-assoc)
     where
@@ -44,7 +49,9 @@ module _ {B : Type 0} (v : B) where
 
 module _ {A B : Type 0} (v : B) (room : ℕ) (f : A → B) (before : A → A → Bool) (x : A) where
   -- a place opened in a column
-  pub column-insert : (l : List A) → length l < room → inserted (padded v room (map f l)) (length l) (place before x l) (f x) ≡ padded v room (map f (insert before x l))
+  pub column-insert : (l : List A)
+      → length l < room
+      → inserted (padded v room (map f l)) (length l) (place before x l) (f x) ≡ padded v room (map f (insert before x l))
   unfolding padded
   column-insert l h =
       let xs = map f l in
@@ -82,7 +89,9 @@ pub column-front : {B : Type 0} (v : B) (room n : ℕ) (xs l : List B) → l ≡
 column-front v room n xs l e c = ap (take n) e ∙ ap (λ (i : ℕ). take i (padded v room xs)) c ∙ padded-front v room xs
 
 -- two columns side by side are the cells
-pub beside-front : (cs : List Cell) (R n : ℕ) (u : Float) (v : ℕ) → n ≡ length cs → take n (cellsBeside (padded u R (estimatesOf cs)) (padded v R (cellsOf cs))) ≡ cs
+pub beside-front : (cs : List Cell) (R n : ℕ) (u : Float) (v : ℕ)
+    → n ≡ length cs
+    → take n (cellsBeside (padded u R (estimatesOf cs)) (padded v R (cellsOf cs))) ≡ cs
 unfolding padded cellsBeside
 beside-front cs R n u v c = rw c (go cs _ _)
   where

@@ -64,7 +64,14 @@ module _ (s : Settings) (t : Table) (threshold : Float) (fit : Bool) where
                 → x ≡ true
                 → (y : Bool)
                 → y ≡ true
-                → need true Setting (need true Lengths (need true Lengths (need (tableOk (s .«max_weight») t) BadRow (need (isFinite threshold) BadReading checked.Passed)))) ≡ follow (need true Setting (need true Lengths (need (tableOk (s .«max_weight») t) BadRow checked.Passed))) (need (isFinite threshold) BadReading checked.Passed)
+                → need true Setting
+                (need true Lengths
+                (need true Lengths
+                (need (tableOk (s .«max_weight») t) BadRow
+                (need (isFinite threshold) BadReading checked.Passed))))
+                ≡ follow (need true Setting
+                (need true Lengths (need (tableOk (s .«max_weight») t) BadRow checked.Passed)))
+                (need (isFinite threshold) BadReading checked.Passed)
             need-is x p y q = need-follow (tableOk (s .«max_weight») t) BadRow (need (isFinite threshold) BadReading checked.Passed)
 
         pub check-row : (v : Checked) (why : Refusal) → v ≡ tableCheck s t → v ≡ checked.Refused why → marchCheck s t threshold fit ≡ checked.Refused why
@@ -145,7 +152,13 @@ cleared ks₀ cs₀ ds₀ es₀ ks cs ds es h a b c d =
     let z : length es₀ ≡ length cs - 0 = omega arith in
     let w : length cs₀ ≡ length cs - 0 = omega arith in
     record {
-      rows = record { keys = a ∙ ap (λ (i : ℕ). replicate i 0) x; distances = b ∙ ap (λ (i : ℕ). replicate i zero32) y; count = refl; fits = omega arith; ascends = refl };
+      rows = record {
+        keys = a ∙ ap (λ (i : ℕ). replicate i 0) x;
+        distances = b ∙ ap (λ (i : ℕ). replicate i zero32) y;
+        count = refl;
+        fits = omega arith;
+        ascends = refl;
+      };
       cells = record { estimates = c ∙ ap (λ (i : ℕ). replicate i zero32) z; cells = d ∙ ap (λ (i : ℕ). replicate i 0) w; count = refl; fits = omega arith };
     }
 
@@ -164,17 +177,25 @@ five :
 five a b c d e = cc
 
 -- what a march finished, tidied, is what it leaves
-module _ (p : Places) (g : Going) (ks : List ℕ) (ds es : List Float) (cs : List ℕ) (lk : length ks ≡ p .keys) (ld : length ds ≡ p .distances) (le : length es ≡ p .estimates) (lc : length cs ≡ p .cells) where
+module _ (p : Places) (g : Going) (ks : List ℕ) (ds es : List Float) (cs : List ℕ) (lk : length ks ≡ p .keys)
+    (ld : length ds ≡ p .distances) (le : length es ≡ p .estimates) (lc : length cs ≡ p .cells) where
   leaves : (r : Marched) → Finished g r ks ds es cs → outcome r (tidied 0 r ks) (tidied zero32 r ds) (tidied zero32 r es) (tidied 0 r cs) ≡ left p g
   unfolding Finished tidied left answerOf keysLeft distancesLeft padded
   leaves (marched.Refused why) f =
-      rw f (five refl (ap (λ (i : ℕ). replicate i 0) lk) (ap (λ (i : ℕ). replicate i zero32) ld) (ap (λ (i : ℕ). replicate i zero32) le) (ap (λ (i : ℕ). replicate i 0) lc))
+      rw f (five refl (ap (λ (i : ℕ). replicate i 0) lk) (ap (λ (i : ℕ). replicate i zero32) ld)
+      (ap (λ (i : ℕ). replicate i zero32) le) (ap (λ (i : ℕ). replicate i 0) lc))
   leaves (marched.Done n k) f =
       let s = f .0 in
       let h = f .1 .1 .1 in
       let z : s .waiting ≡ [] = nil (s .waiting) (h .cells .count) in
-      let b : length ds ≡ length ks = ap length (h .rows .distances) ∙ padded-length zero32 (length ks) (distancesOf (s .stored)) (rw length-map (let i = h .rows .count in let j = h .rows .fits in omega arith)) in
-      let e : length es ≡ length cs = ap length (h .cells .estimates) ∙ padded-length zero32 (length cs) (estimatesOf (s .waiting)) (rw length-map (let i = h .cells .count in let j = h .cells .fits in omega arith)) in
+      let b : length ds ≡ length ks =
+      ap length (h .rows .distances)
+      ∙ padded-length zero32 (length ks) (distancesOf (s .stored))
+      (rw length-map (let i = h .rows .count in let j = h .rows .fits in omega arith)) in
+      let e : length es ≡ length cs =
+      ap length (h .cells .estimates)
+      ∙ padded-length zero32 (length cs) (estimatesOf (s .waiting))
+      (rw length-map (let i = h .cells .count in let j = h .cells .fits in omega arith)) in
       rw (f .1 .0)
       (five
       (ap (λ (i : ℕ). marched.Done i k) (h .rows .count) ∙ ap (marched.Done (length (s .stored))) (sym (f .1 .1 .0)))
@@ -257,6 +278,11 @@ module _ (s : Settings) (tks : List ℕ) (tds tws : List Float) (n : ℕ) (thres
       let l = places (length ks₀) (length ds₀) (length es₀) (length cs₀) in
       let h = q ∙ ap (marchCheck s (table tks tds tws n) threshold) p in
       let g : Finished (marching s (table tks tds tws n) threshold l) r ks ds es cs =
-      subst (λ (v : Checked). Finished (tested v (marchFrom (s .«voxel_size» .0) (s .«max_distance» .0) (rooms (length ks₀) (length cs₀)) threshold (rowsOf tks tds tws n))) r ks ds es cs) h
-      (subst (λ (m : Rooms). Finished (tested verdict (marchFrom (s .«voxel_size» .0) (s .«max_distance» .0) m threshold (rowsOf tks tds tws n))) r ks ds es cs) (same-rooms (rooms (length ks₀) (length cs₀)) ks₁ cs₁ i j) f) in
+      subst (λ (v : Checked).
+      Finished (tested v (marchFrom (s .«voxel_size» .0) (s .«max_distance» .0) (rooms (length ks₀) (length cs₀))
+      threshold (rowsOf tks tds tws n))) r ks ds es cs) h
+      (subst (λ (m : Rooms).
+      Finished (tested verdict
+      (marchFrom (s .«voxel_size» .0) (s .«max_distance» .0) m threshold (rowsOf tks tds tws n))) r ks ds es
+      cs) (same-rooms (rooms (length ks₀) (length cs₀)) ks₁ cs₁ i j) f) in
       tidied-left l (marching s (table tks tds tws n) threshold l) ks ds es cs lk ld le lc r ks' ds' es' cs' g a b c d

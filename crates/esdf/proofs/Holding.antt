@@ -37,7 +37,13 @@ use Rattle.esdf.proofs.Columns.{column-insert, column-front, beside-fro
 -- two lists that hold rows hold their keys
 pub held-keys : (rs : List MarchedRow) (n : ℕ) (ks : List ℕ) (ds : List Float) → HeldRows rs n ks ds → HeldKeys rs n ks
 held-keys rs n ks ds h =
-    record { keys = column-front 0 (length ks) n (keysOf rs) ks (h .keys) (h .count ∙ sym (length-map rs (λ (r : MarchedRow). r .key))); fits = h .fits; ascends = h .ascends }
+    record {
+      keys =
+          column-front 0 (length ks) n (keysOf rs) ks (h .keys)
+          (h .count ∙ sym (length-map rs (λ (r : MarchedRow). r .key)));
+      fits = h .fits;
+      ascends = h .ascends;
+    }
 
 module _ (rs : List MarchedRow) (n : ℕ) (ks : List ℕ) (h : HeldKeys rs n ks) (k : ℕ) where
   found-is : (f : Found) → f ≡ findBy k (take n ks) → f ≡ find k (keysOf rs)
@@ -72,7 +78,10 @@ module _ (e : Float) (k : ℕ) (s : State) (w : ℕ) (es : List Float) (cs : Lis
   wait-stored a = same _ (rw a)
 
   waiting-is : member k (take w cs) ≡ member k (cellsOf (s .waiting))
-  waiting-is = ap (member k) (column-front 0 (length cs) w (cellsOf (s .waiting)) cs (h .cells) (h .count ∙ sym (length-map (s .waiting) (λ (c : Cell). c .key))))
+  waiting-is =
+      ap (member k)
+      (column-front 0 (length cs) w (cellsOf (s .waiting)) cs (h .cells)
+      (h .count ∙ sym (length-map (s .waiting) (λ (c : Cell). c .key))))
 
   module _ (a : member k (keysOf (s .stored)) ≡ false) where
     pub wait-waits : member k (take w cs) ≡ true → LeftCells (wait (length cs) e k s) s (Now w) es cs
@@ -98,12 +107,26 @@ module _ (e : Float) (k : ℕ) (s : State) (w : ℕ) (es : List Float) (cs : Lis
       wait-placed l p q es' cs' x y =
           let n : w ≡ length (s .waiting) = h .count in
           let c : length (s .waiting) < length cs = omega arith in
-          let o : take w (cellsBeside es cs) ≡ s .waiting = ap (λ (t : List Float). take w (cellsBeside t cs)) (h .estimates) ∙ ap (λ (t : List ℕ). take w (cellsBeside (padded zero32 (length cs) (estimatesOf (s .waiting))) t)) (h .cells) ∙ beside-front (s .waiting) (length cs) w zero32 0 n in
+          let o : take w (cellsBeside es cs) ≡ s .waiting =
+          ap (λ (t : List Float). take w (cellsBeside t cs)) (h .estimates)
+          ∙ ap (λ (t : List ℕ). take w (cellsBeside (padded zero32 (length cs) (estimatesOf (s .waiting))) t))
+          (h .cells)
+          ∙ beside-front (s .waiting) (length cs) w zero32 0 n in
           let r : p ≡ place cellBefore (cell e k) (s .waiting) = q ∙ ap (place cellBefore (cell e k)) o in
-          let E : es' ≡ padded zero32 (length cs) (estimatesOf (insert cellBefore (cell e k) (s .waiting))) = x ∙ ap (λ (t : List Float). inserted t w p e) (h .estimates) ∙ rw (n, r) (column-insert zero32 (length cs) (λ (t : Cell). t .estimate) cellBefore (cell e k) (s .waiting) c) in
-          let K : cs' ≡ padded 0 (length cs) (cellsOf (insert cellBefore (cell e k) (s .waiting))) = y ∙ ap (λ (t : List ℕ). inserted t w p k) (h .cells) ∙ rw (n, r) (column-insert 0 (length cs) (λ (t : Cell). t .key) cellBefore (cell e k) (s .waiting) c) in
+          let E : es' ≡ padded zero32 (length cs) (estimatesOf (insert cellBefore (cell e k) (s .waiting))) =
+          x
+          ∙ ap (λ (t : List Float). inserted t w p e) (h .estimates)
+          ∙ rw (n, r)
+          (column-insert zero32 (length cs) (λ (t : Cell). t .estimate) cellBefore (cell e k) (s .waiting) c) in
+          let K : cs' ≡ padded 0 (length cs) (cellsOf (insert cellBefore (cell e k) (s .waiting))) =
+          y
+          ∙ ap (λ (t : List ℕ). inserted t w p k) (h .cells)
+          ∙ rw (n, r) (column-insert 0 (length cs) (λ (t : Cell). t .key) cellBefore (cell e k) (s .waiting) c) in
           let m : length (insert cellBefore (cell e k) (s .waiting)) ≡ suc (length (s .waiting)) = insert-length cellBefore (cell e k) (s .waiting) in
-          let L : length cs' ≡ length cs = ap length K ∙ padded-length 0 (length cs) (cellsOf (insert cellBefore (cell e k) (s .waiting))) (rw (length-map (insert cellBefore (cell e k) (s .waiting)) (λ (t : Cell). t .key)) (omega arith)) in (
+          let L : length cs' ≡ length cs =
+          ap length K
+          ∙ padded-length 0 (length cs) (cellsOf (insert cellBefore (cell e k) (s .waiting)))
+          (rw (length-map (insert cellBefore (cell e k) (s .waiting)) (λ (t : Cell). t .key)) (omega arith)) in (
             state (s .stored) (insert cellBefore (cell e k) (s .waiting)) (s .takings),
             (
               rw (a, sym waiting-is ∙ b, lt-ltb (length (s .waiting)) (length cs) c),
@@ -164,8 +187,21 @@ module _ (e : Float) (ns list : List ℕ) (listed : list ≡ padded 0 14 ns) (n 
     unfolding LeftCells andThen
     rest-more p w' es' cs' a does s hk hc =
         let x = r s hk hc in
-        let y = subst (λ (o : Placed). LeftCells (wait (length cs) e (getD list i 0) (x .0)) (x .0) o es' cs') a (does (x .0) (carried s (x .0) (x .1 .0) hk) (x .1 .1 .0)) in
-        (y .0, (y .1 .1 .0 ∙ x .1 .0, (y .1 .1 .1, x .1 .1 .1 ∙ one (x .0) ∙ ap (λ (g : Going). andThen g (waitAll (length cs₀) e (drop (suc i) ns))) (y .1 .0) ∙ ap (λ (j : ℕ). waitAll (length cs₀) e (drop j ns) (y .0)) (sym (add-one i)))))
+        let y =
+        subst (λ (o : Placed). LeftCells (wait (length cs) e (getD list i 0) (x .0)) (x .0) o es' cs') a
+        (does (x .0) (carried s (x .0) (x .1 .0) hk) (x .1 .1 .0)) in (
+          y .0,
+          (
+            y .1 .1 .0 ∙ x .1 .0,
+            (
+              y .1 .1 .1,
+              x .1 .1 .1
+                  ∙ one (x .0)
+                  ∙ ap (λ (g : Going). andThen g (waitAll (length cs₀) e (drop (suc i) ns))) (y .1 .0)
+                  ∙ ap (λ (j : ℕ). waitAll (length cs₀) e (drop j ns) (y .0)) (sym (add-one i)),
+            ),
+          ),
+        )
 
     -- there is no place for it
     pub rest-full :
@@ -179,7 +215,9 @@ module _ (e : Float) (ns list : List ℕ) (listed : list ≡ padded 0 14 ns) (n 
     unfolding LeftCells andThen
     rest-full p es' cs' a does s hk hc =
         let x = r s hk hc in
-        let y = subst (λ (o : Placed). LeftCells (wait (length cs) e (getD list i 0) (x .0)) (x .0) o es' cs') a (does (x .0) (carried s (x .0) (x .1 .0) hk) (x .1 .1 .0)) in
+        let y =
+        subst (λ (o : Placed). LeftCells (wait (length cs) e (getD list i 0) (x .0)) (x .0) o es' cs') a
+        (does (x .0) (carried s (x .0) (x .1 .0) hk) (x .1 .1 .0)) in
         x .1 .1 .1 ∙ one (x .0) ∙ rw y
 
   -- all of them wait
@@ -214,7 +252,9 @@ module _ (rs : List MarchedRow) (n : ℕ) (ks : List ℕ) (ds : List Float) (h :
         let l = in-rows in
         let c = h .count in
         let g = h .fits in
-        rw (ap length (h .distances) ∙ padded-length zero32 (length ks) (distancesOf rs) (rw (length-map rs (λ (r : MarchedRow). r .distance)) (omega arith))) (omega arith)
+        rw (ap length (h .distances)
+        ∙ padded-length zero32 (length ks) (distancesOf rs)
+        (rw (length-map rs (λ (r : MarchedRow). r .distance)) (omega arith))) (omega arith)
 
     pub found-distance : distanceOf k rs ≡ some (getD ds i nan)
     unfolding at padded
@@ -245,7 +285,9 @@ module _ (f : Field) (rs : List MarchedRow) (k : ℕ) (ns list : List ℕ) (list
   unfolding settling
   settle-more i best best' l e =
       ap (settling f rs k i best) (drop-cons ns i 0 l)
-      ∙ ap (λ (x : ℕ). settling f rs k (suc i) (heard (f .size) (f .reach k i) best (distanceOf x rs)) (drop (suc i) ns)) (sym (ap (λ (x : List ℕ). getD x i 0) listed ∙ padded-at 0 14 ns i))
+      ∙ ap (λ (x : ℕ).
+      settling f rs k (suc i) (heard (f .size) (f .reach k i) best (distanceOf x rs)) (drop (suc i) ns))
+      (sym (ap (λ (x : List ℕ). getD x i 0) listed ∙ padded-at 0 14 ns i))
       ∙ ap (λ (b : Float). settling f rs k (suc i) b (drop (suc i) ns)) (sym e)
       ∙ ap (λ (j : ℕ). settling f rs k j best' (drop j ns)) (sym (add-one i))
 
@@ -279,11 +321,24 @@ module _ (r : MarchedRow) (s : State) (n : ℕ) (ks : List ℕ) (ds : List Float
       let rs = s .stored in
       let c : n ≡ length rs = h .count in
       let g : length rs < length ks = omega arith in
-      let o : p ≡ place rowBefore r rs = q ∙ ap (halved (r .key)) (held-keys rs n ks ds h .keys) ∙ halved-place (r .key) (keysOf rs) (h .ascends) ∙ sym (row-place r rs) in
-      let K : ks' ≡ padded 0 (length ks) (keysOf (insert rowBefore r rs)) = x ∙ ap (λ (t : List ℕ). inserted t n p (r .key)) (h .keys) ∙ rw (c, o) (column-insert 0 (length ks) (λ (t : MarchedRow). t .key) rowBefore r rs g) in
-      let D : ds' ≡ padded zero32 (length ks) (distancesOf (insert rowBefore r rs)) = y ∙ ap (λ (t : List Float). inserted t n p (r .distance)) (h .distances) ∙ rw (c, o) (column-insert zero32 (length ks) (λ (t : MarchedRow). t .distance) rowBefore r rs g) in
+      let o : p ≡ place rowBefore r rs =
+      q
+      ∙ ap (halved (r .key)) (held-keys rs n ks ds h .keys)
+      ∙ halved-place (r .key) (keysOf rs) (h .ascends)
+      ∙ sym (row-place r rs) in
+      let K : ks' ≡ padded 0 (length ks) (keysOf (insert rowBefore r rs)) =
+      x
+      ∙ ap (λ (t : List ℕ). inserted t n p (r .key)) (h .keys)
+      ∙ rw (c, o) (column-insert 0 (length ks) (λ (t : MarchedRow). t .key) rowBefore r rs g) in
+      let D : ds' ≡ padded zero32 (length ks) (distancesOf (insert rowBefore r rs)) =
+      y
+      ∙ ap (λ (t : List Float). inserted t n p (r .distance)) (h .distances)
+      ∙ rw (c, o) (column-insert zero32 (length ks) (λ (t : MarchedRow). t .distance) rowBefore r rs g) in
       let m : length (insert rowBefore r rs) ≡ suc (length rs) = insert-length rowBefore r rs in
-      let L : length ks' ≡ length ks = ap length K ∙ padded-length 0 (length ks) (keysOf (insert rowBefore r rs)) (rw (length-map (insert rowBefore r rs) (λ (t : MarchedRow). t .key)) (omega arith)) in (
+      let L : length ks' ≡ length ks =
+      ap length K
+      ∙ padded-length 0 (length ks) (keysOf (insert rowBefore r rs))
+      (rw (length-map (insert rowBefore r rs) (λ (t : MarchedRow). t .key)) (omega arith)) in (
         state (insert rowBefore r rs) (s .waiting) (s .takings),
         (
           rw (lt-ltb (length rs) (length ks) g),

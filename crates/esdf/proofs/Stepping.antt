@@ -24,7 +24,8 @@ use Rattle.esdf.proofs.Columns.{column-drop}
 
 -- ---- a row is stored (g), then cells wait (step)
 
-module _ (g : Going) (step : State → Going) (s : State) (w : ℕ) (es : List Float) (cs : List ℕ) (h : HeldCells (s .waiting) w es cs) (p : Placed) (ks : List ℕ) (ds : List Float) (did : LeftRows g s p ks ds) where
+module _ (g : Going) (step : State → Going) (s : State) (w : ℕ) (es : List Float) (cs : List ℕ)
+    (h : HeldCells (s .waiting) w es cs) (p : Placed) (ks : List ℕ) (ds : List Float) (did : LeftRows g s p ks ds) where
   pub no-place : p ≡ Full → (es' : List Float) (cs' : List ℕ) → Left (andThen g step) (Refused NoPlace) ks ds es' cs'
   unfolding LeftRows Left andThen
   no-place e es' cs' = let x = subst (λ (o : Placed). LeftRows g s o ks ds) e did in ap (λ (y : Going). andThen y step) x
@@ -102,7 +103,8 @@ pub uncons : (cs : List Cell) (w : ℕ) → w ≡ length cs → 0 < w → (c : C
 uncons [] w e l = absurd (not-suc-le-zero (rw e at l))
 uncons (c ∷ cs) w e l = (c, (cs, refl))
 
-module _ (s : State) (n : ℕ) (ks : List ℕ) (ds : List Float) (w : ℕ) (es : List Float) (cs : List ℕ) (h : Held s n ks ds w es cs) (c : Cell) (l : List Cell) (e : s .waiting ≡ c ∷ l) where
+module _ (s : State) (n : ℕ) (ks : List ℕ) (ds : List Float) (w : ℕ) (es : List Float) (cs : List ℕ)
+    (h : Held s n ks ds w es cs) (c : Cell) (l : List Cell) (e : s .waiting ≡ c ∷ l) where
   first : HeldCells (c ∷ l) w es cs
   first = subst (λ (x : List Cell). HeldCells x w es cs) e (h .cells)
 
@@ -117,7 +119,9 @@ module _ (s : State) (n : ℕ) (ks : List ℕ) (ds : List Float) (w : ℕ) (es :
     lower v f xs a =
         let m : w ≡ suc (length (map f l)) = first .count ∙ ap suc (sym (length-map l f)) in
         let g : suc (length (map f l)) ≤ length cs = subst (λ (z : ℕ). z ≤ length cs) m (first .fits) in
-        ap (λ (z : List _). firstDropped v z w) a ∙ ap (λ (z : ℕ). firstDropped v (padded v (length cs) (f c ∷ map f l)) z) m ∙ column-drop v (length cs) (f c) (map f l) g
+        ap (λ (z : List _). firstDropped v z w) a
+        ∙ ap (λ (z : ℕ). firstDropped v (padded v (length cs) (f c ∷ map f l)) z) m
+        ∙ column-drop v (length cs) (f c) (map f l) g
 
     pub same-room : length cs' ≡ length cs
     same-room =

@@ -111,7 +111,8 @@ fn wait(
     key: u64,
 ) -> Placed
     requires { ⌜ MayWait count (now keys) waiting (now estimates) (now cells) ⌝ }
-    ensures { λ r. ⌜ DoesWait (wait (length (now (cells .entry))) estimate key) count (now (keys .entry)) waiting (now (estimates .entry)) (now (cells .entry)) r (now (estimates .exit)) (now (cells .exit)) ⌝ }
+    ensures { λ r. ⌜ DoesWait (wait (length (now (cells .entry))) estimate key) count (now (keys .entry)) waiting
+        (now (estimates .entry)) (now (cells .entry)) r (now (estimates .exit)) (now (cells .exit)) ⌝ }
 {
     if let Found::At(_) = find_row(keys, count, key) {
         return Placed::Now(waiting);
@@ -139,7 +140,9 @@ fn wait_around(
     key: u64,
 ) -> Placed
     requires { ⌜ MayWait count (now keys) waiting (now estimates) (now cells) ⌝ }
-    ensures { λ r. ⌜ DoesWait (waitAll (length (now (cells .entry))) estimate (neighbours key)) count (now (keys .entry)) waiting (now (estimates .entry)) (now (cells .entry)) r (now (estimates .exit)) (now (cells .exit)) ⌝ }
+    ensures { λ r. ⌜ DoesWait (waitAll (length (now (cells .entry))) estimate (neighbours key)) count
+        (now (keys .entry)) waiting (now (estimates .entry)) (now (cells .entry)) r (now (estimates .exit))
+        (now (cells .exit)) ⌝ }
 {
     let near = neighbors::around(key);
     let list = near.keys;
@@ -167,7 +170,9 @@ fn heard(
     neighbour: u64,
 ) -> f32
     requires { ⌜ HaveRows count (now keys) (now distances) ⌝ }
-    ensures { λ r. ⌜ ((rs : List MarchedRow) → HeldRows rs count (now (keys .entry)) (now (distances .entry)) → r ≡ heard size (lengthAt place) best (distanceOf neighbour rs)) ⌝ }
+    ensures { λ r. ⌜ ((rs : List MarchedRow)
+        → HeldRows rs count (now (keys .entry)) (now (distances .entry))
+        → r ≡ heard size (lengthAt place) best (distanceOf neighbour rs)) ⌝ }
 {
     let Found::At(at) = find_row(keys, count, neighbour) else {
         return best;
@@ -200,7 +205,11 @@ fn settled(keys: &[u64], distances: &[f32], count: usize, size: f32, most: f32, 
 // A new row.
 fn store(keys: &mut [u64], distances: &mut [f32], count: usize, key: u64, distance: f32) -> Placed
     requires { ⌜ HaveRows count (now keys) (now distances) ⌝ }
-    ensures { λ r. ⌜ ((s : State) → HeldRows (s .stored) count (now (keys .entry)) (now (distances .entry)) → member key (keysOf (s .stored)) ≡ false → LeftRows (store (length (now (keys .entry))) (marchedRow key distance) s) s r (now (keys .exit)) (now (distances .exit))) ⌝ }
+    ensures { λ r. ⌜ ((s : State)
+        → HeldRows (s .stored) count (now (keys .entry)) (now (distances .entry))
+        → member key (keysOf (s .stored)) ≡ false
+        → LeftRows (store (length (now (keys .entry))) (marchedRow key distance) s) s r (now (keys .exit))
+        (now (distances .exit))) ⌝ }
 {
     if keys.len() <= count {
         return Placed::Full;
@@ -223,7 +232,10 @@ fn sow(
     distance: f32,
 ) -> Step
     requires { ⌜ MayStore key count (now keys) (now distances) waiting (now estimates) (now cells) ⌝ }
-    ensures { λ r. ⌜ DoesStore key (sow neighbours (roomsOf (now (keys .entry)) (now (cells .entry))) (marchedRow key distance)) count (now (keys .entry)) (now (distances .entry)) waiting (now (estimates .entry)) (now (cells .entry)) r (now (keys .exit)) (now (distances .exit)) (now (estimates .exit)) (now (cells .exit)) ⌝ }
+    ensures { λ r. ⌜ DoesStore key
+        (sow neighbours (roomsOf (now (keys .entry)) (now (cells .entry))) (marchedRow key distance)) count
+        (now (keys .entry)) (now (distances .entry)) waiting (now (estimates .entry)) (now (cells .entry)) r
+        (now (keys .exit)) (now (distances .exit)) (now (estimates .exit)) (now (cells .exit)) ⌝ }
 {
     let Placed::Now(rows) = store(keys, distances, count, key, distance) else {
         return Step::Refused(Refusal::NoPlace);
@@ -255,7 +267,9 @@ fn spread(
     distance: f32,
 ) -> Placed
     requires { ⌜ MayWait count (now keys) waiting (now estimates) (now cells) ⌝ }
-    ensures { λ r. ⌜ DoesWait (spread (lattice size most) (length (now (cells .entry))) (marchedRow key distance)) count (now (keys .entry)) waiting (now (estimates .entry)) (now (cells .entry)) r (now (estimates .exit)) (now (cells .exit)) ⌝ }
+    ensures { λ r. ⌜ DoesWait (spread (lattice size most) (length (now (cells .entry))) (marchedRow key distance)) count
+        (now (keys .entry)) waiting (now (estimates .entry)) (now (cells .entry)) r (now (estimates .exit))
+        (now (cells .exit)) ⌝ }
 {
     let estimate = floats::size(distance) + f32::from_bits(0x3FDD_B3D7) * size;
     if estimate <= most {
@@ -278,7 +292,9 @@ fn settle(
     key: u64,
 ) -> Step
     requires { ⌜ MayStore key count (now keys) (now distances) waiting (now estimates) (now cells) ⌝ }
-    ensures { λ r. ⌜ DoesStore key (settle (lattice size most) (roomsOf (now (keys .entry)) (now (cells .entry))) key) count (now (keys .entry)) (now (distances .entry)) waiting (now (estimates .entry)) (now (cells .entry)) r (now (keys .exit)) (now (distances .exit)) (now (estimates .exit)) (now (cells .exit)) ⌝ }
+    ensures { λ r. ⌜ DoesStore key (settle (lattice size most) (roomsOf (now (keys .entry)) (now (cells .entry))) key)
+        count (now (keys .entry)) (now (distances .entry)) waiting (now (estimates .entry)) (now (cells .entry)) r
+        (now (keys .exit)) (now (distances .exit)) (now (estimates .exit)) (now (cells .exit)) ⌝ }
 {
     let distance = settled(keys, distances, count, size, most, key);
     let Placed::Now(rows) = store(keys, distances, count, key, distance) else {
@@ -313,7 +329,9 @@ fn take(
 ) -> Step
     requires { ⌜ MayStep count (now keys) (now distances) waiting (now estimates) (now cells) ⌝ }
     requires { ⌜ 0 < waiting ⌝ }
-    ensures { λ r. ⌜ Does (take (lattice size most) (roomsOf (now (keys .entry)) (now (cells .entry)))) count (now (keys .entry)) (now (distances .entry)) waiting (now (estimates .entry)) (now (cells .entry)) r (now (keys .exit)) (now (distances .exit)) (now (estimates .exit)) (now (cells .exit)) ⌝ }
+    ensures { λ r. ⌜ Does (take (lattice size most) (roomsOf (now (keys .entry)) (now (cells .entry)))) count
+        (now (keys .entry)) (now (distances .entry)) waiting (now (estimates .entry)) (now (cells .entry)) r
+        (now (keys .exit)) (now (distances .exit)) (now (estimates .exit)) (now (cells .exit)) ⌝ }
 {
     let key = cells[0];
     drop_first_f32(estimates, waiting);
@@ -349,7 +367,10 @@ fn sow_if(
     weight: f32,
 ) -> Step
     requires { ⌜ MayStore key count (now keys) (now distances) waiting (now estimates) (now cells) ⌝ }
-    ensures { λ r. ⌜ DoesStore key (sowIf threshold neighbours (roomsOf (now (keys .entry)) (now (cells .entry))) (row key distance weight)) count (now (keys .entry)) (now (distances .entry)) waiting (now (estimates .entry)) (now (cells .entry)) r (now (keys .exit)) (now (distances .exit)) (now (estimates .exit)) (now (cells .exit)) ⌝ }
+    ensures { λ r. ⌜ DoesStore key
+        (sowIf threshold neighbours (roomsOf (now (keys .entry)) (now (cells .entry))) (row key distance weight)) count
+        (now (keys .entry)) (now (distances .entry)) waiting (now (estimates .entry)) (now (cells .entry)) r
+        (now (keys .exit)) (now (distances .exit)) (now (estimates .exit)) (now (cells .exit)) ⌝ }
 {
     if is_seed(threshold, key, distance, weight) {
         sow(
@@ -379,8 +400,13 @@ fn sow_all(
     estimates: &mut [f32],
     cells: &mut [u64],
 ) -> Step
-    requires { ⌜ Lent (now «fused_keys») (now «fused_distances») (now «fused_weights») «fused_count» × Held nothing 0 (now keys) (now distances) 0 (now estimates) (now cells) ⌝ }
-    ensures { λ r. ⌜ Left (sowAll neighbours (roomsOf (now (keys .entry)) (now (cells .entry))) (seeds threshold (rowsOf (now («fused_keys» .entry)) (now («fused_distances» .entry)) (now («fused_weights» .entry)) «fused_count»)) nothing) r (now (keys .exit)) (now (distances .exit)) (now (estimates .exit)) (now (cells .exit)) ⌝ }
+    requires { ⌜ Lent (now «fused_keys») (now «fused_distances») (now «fused_weights») «fused_count»
+        × Held nothing 0 (now keys) (now distances) 0 (now estimates) (now cells) ⌝ }
+    ensures { λ r. ⌜ Left (sowAll neighbours (roomsOf (now (keys .entry)) (now (cells .entry)))
+        (seeds threshold
+        (rowsOf (now («fused_keys» .entry)) (now («fused_distances» .entry)) (now («fused_weights» .entry))
+        «fused_count»)) nothing) r (now (keys .exit)) (now (distances .exit)) (now (estimates .exit))
+        (now (cells .exit)) ⌝ }
 {
     let mut rows = 0;
     let mut held = 0;
@@ -421,7 +447,10 @@ fn take_all(
     most: f32,
 ) -> Marched
     requires { ⌜ MayTake count (now keys) (now distances) waiting (now estimates) (now cells) ⌝ }
-    ensures { λ r. ⌜ DoesTake (takeUpTo (lattice size most) (roomsOf (now (keys .entry)) (now (cells .entry))) (suc (length (now (keys .entry))))) count (now (keys .entry)) (now (distances .entry)) waiting (now (estimates .entry)) (now (cells .entry)) r (now (keys .exit)) (now (distances .exit)) (now (estimates .exit)) (now (cells .exit)) ⌝ }
+    ensures { λ r. ⌜ DoesTake (takeUpTo (lattice size most) (roomsOf (now (keys .entry)) (now (cells .entry)))
+        (suc (length (now (keys .entry))))) count (now (keys .entry)) (now (distances .entry)) waiting
+        (now (estimates .entry)) (now (cells .entry)) r (now (keys .exit)) (now (distances .exit)) (now (estimates .exit))
+        (now (cells .exit)) ⌝ }
 {
     let mut rows = count;
     let mut held = waiting;
@@ -453,8 +482,11 @@ fn march_rows(
     estimates: &mut [f32],
     cells: &mut [u64],
 ) -> Marched
-    requires { ⌜ Lent (now «fused_keys») (now «fused_distances») (now «fused_weights») «fused_count» × Held nothing 0 (now keys) (now distances) 0 (now estimates) (now cells) ⌝ }
-    ensures { λ r. ⌜ Finished (marchFrom size most (roomsOf (now (keys .entry)) (now (cells .entry))) threshold (rowsOf (now («fused_keys» .entry)) (now («fused_distances» .entry)) (now («fused_weights» .entry)) «fused_count»)) r (now (keys .exit)) (now (distances .exit)) (now (estimates .exit)) (now (cells .exit)) ⌝ }
+    requires { ⌜ Lent (now «fused_keys») (now «fused_distances») (now «fused_weights») «fused_count»
+        × Held nothing 0 (now keys) (now distances) 0 (now estimates) (now cells) ⌝ }
+    ensures { λ r. ⌜ Finished (marchFrom size most (roomsOf (now (keys .entry)) (now (cells .entry))) threshold
+        (rowsOf (now («fused_keys» .entry)) (now («fused_distances» .entry)) (now («fused_weights» .entry))
+        «fused_count»)) r (now (keys .exit)) (now (distances .exit)) (now (estimates .exit)) (now (cells .exit)) ⌝ }
 {
     match sow_all(
         fused_keys,
@@ -558,8 +590,11 @@ fn march_either(
     estimates: &mut [f32],
     cells: &mut [u64],
 ) -> Marched
-    requires { ⌜ Lent (now «fused_keys») (now «fused_distances») (now «fused_weights») «fused_count» × Held nothing 0 (now keys) (now distances) 0 (now estimates) (now cells) ⌝ }
-    ensures { λ r. ⌜ Finished (marchFrom size most (roomsOf (now (keys .entry)) (now (cells .entry))) threshold (rowsOf (now («fused_keys» .entry)) (now («fused_distances» .entry)) (now («fused_weights» .entry)) «fused_count»)) r (now (keys .exit)) (now (distances .exit)) (now (estimates .exit)) (now (cells .exit)) ⌝ }
+    requires { ⌜ Lent (now «fused_keys») (now «fused_distances») (now «fused_weights») «fused_count»
+        × Held nothing 0 (now keys) (now distances) 0 (now estimates) (now cells) ⌝ }
+    ensures { λ r. ⌜ Finished (marchFrom size most (roomsOf (now (keys .entry)) (now (cells .entry))) threshold
+        (rowsOf (now («fused_keys» .entry)) (now («fused_distances» .entry)) (now («fused_weights» .entry))
+        «fused_count»)) r (now (keys .exit)) (now (distances .exit)) (now (estimates .exit)) (now (cells .exit)) ⌝ }
 {
     match race(
         fused_keys,
@@ -613,8 +648,13 @@ fn march_if(
     estimates: &mut [f32],
     cells: &mut [u64],
 ) -> Marched
-    requires { ⌜ MayMarch verdict (now «fused_keys») (now «fused_distances») (now «fused_weights») «fused_count» (now keys) (now distances) (now estimates) (now cells) ⌝ }
-    ensures { λ r. ⌜ Finished (tested verdict (marchFrom size most (roomsOf (now (keys .entry)) (now (cells .entry))) threshold (rowsOf (now («fused_keys» .entry)) (now («fused_distances» .entry)) (now («fused_weights» .entry)) «fused_count»))) r (now (keys .exit)) (now (distances .exit)) (now (estimates .exit)) (now (cells .exit)) ⌝ }
+    requires { ⌜ MayMarch verdict (now «fused_keys») (now «fused_distances») (now «fused_weights») «fused_count»
+        (now keys) (now distances) (now estimates) (now cells) ⌝ }
+    ensures { λ r. ⌜ Finished (tested verdict
+        (marchFrom size most (roomsOf (now (keys .entry)) (now (cells .entry))) threshold
+        (rowsOf (now («fused_keys» .entry)) (now («fused_distances» .entry)) (now («fused_weights» .entry))
+        «fused_count»))) r (now (keys .exit)) (now (distances .exit)) (now (estimates .exit))
+        (now (cells .exit)) ⌝ }
 {
     match verdict {
         Checked::Refused(why) => Marched::Refused(why),
@@ -647,7 +687,11 @@ pub fn compute_from_tsdf(
     waiting_estimates: &mut [f32],
     waiting_keys: &mut [u64],
 ) -> Marched
-    ensures { λ r. ⌜ outcome r (now («marched_keys» .exit)) (now («marched_distances» .exit)) (now («waiting_estimates» .exit)) (now («waiting_keys» .exit)) ≡ computed settings (table (now (keys .entry)) (now (distances .entry)) (now (weights .entry)) count) threshold (places (length (now («marched_keys» .entry))) (length (now («marched_distances» .entry))) (length (now («waiting_estimates» .entry))) (length (now («waiting_keys» .entry)))) ⌝ }
+    ensures { λ r. ⌜ outcome r (now («marched_keys» .exit)) (now («marched_distances» .exit))
+        (now («waiting_estimates» .exit)) (now («waiting_keys» .exit))
+        ≡ computed settings (table (now (keys .entry)) (now (distances .entry)) (now (weights .entry)) count) threshold
+        (places (length (now («marched_keys» .entry))) (length (now («marched_distances» .entry)))
+        (length (now («waiting_estimates» .entry))) (length (now («waiting_keys» .entry)))) ⌝ }
 {
     let fit = set_ok(marched_keys.len(), marched_distances.len())
         & set_ok(waiting_estimates.len(), waiting_keys.len());

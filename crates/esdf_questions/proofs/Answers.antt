@@ -42,11 +42,15 @@ module _ (t : MarchedTable) (k : ℕ) (v : Checked) (e : v ≡ keyCheck t k) whe
   module _ (f : v ≡ checked.Passed) (s : Stored) (g : s ≡ storedAs (distanceOf k (marchedRows t))) where
     pub distance-of : {d : Float} → s ≡ stored.At d → distance.Of d ≡ getDistance t k
     unfolding distanceSaid
-    distance-of {d} h = sym (ap (λ (x : Checked). distanceSaid x (distanceOf k (marchedRows t))) (sym e ∙ f) ∙ ap (distanceSaid checked.Passed) (stored-some (distanceOf k (marchedRows t)) s g h))
+    distance-of {d} h =
+        sym (ap (λ (x : Checked). distanceSaid x (distanceOf k (marchedRows t))) (sym e ∙ f)
+        ∙ ap (distanceSaid checked.Passed) (stored-some (distanceOf k (marchedRows t)) s g h))
 
     pub distance-absent : s ≡ stored.Absent → distance.Absent ≡ getDistance t k
     unfolding distanceSaid
-    distance-absent h = sym (ap (λ (x : Checked). distanceSaid x (distanceOf k (marchedRows t))) (sym e ∙ f) ∙ ap (distanceSaid checked.Passed) (stored-none (distanceOf k (marchedRows t)) s g h))
+    distance-absent h =
+        sym (ap (λ (x : Checked). distanceSaid x (distanceOf k (marchedRows t))) (sym e ∙ f)
+        ∙ ap (distanceSaid checked.Passed) (stored-none (distanceOf k (marchedRows t)) s g h))
 
     said : gradientAt (marchedRows t) k (distanceOf k (marchedRows t)) ≡ getGradient t k
     unfolding gradientSaid
@@ -74,7 +78,9 @@ module _ (t : MarchedTable) (k : ℕ) (threshold : Float) (v : Checked) (e : v �
   module _ (f : v ≡ checked.Passed) (s : Stored) (g : s ≡ storedAs (distanceOf k (marchedRows t))) where
     answers : (o : Option Float) → distanceOf k (marchedRows t) ≡ o → free.Answer (isAbove threshold o) ≡ isFreeSpace t k threshold
     unfolding freeSaid
-    answers o h = ap (λ (x : Option Float). free.Answer (isAbove threshold x)) (sym h) ∙ sym (ap (λ (x : Checked). freeSaid x (isAbove threshold (distanceOf k (marchedRows t)))) (sym e ∙ f))
+    answers o h =
+        ap (λ (x : Option Float). free.Answer (isAbove threshold x)) (sym h)
+        ∙ sym (ap (λ (x : Checked). freeSaid x (isAbove threshold (distanceOf k (marchedRows t)))) (sym e ∙ f))
 
     pub free-of : {d : Float} → s ≡ stored.At d → free.Answer (lt threshold d) ≡ isFreeSpace t k threshold
     unfolding isAbove
@@ -101,7 +107,14 @@ pub slopes-of :
     → x ≡ stepOf (a .x) (b .x)
     → y ≡ stepOf (a .y) (b .y)
     → z ≡ stepOf (a .z) (b .z)
-    → _≡_ {A = Slopes} (record { x = add binary32 (sum .x) (mul binary32 (sub binary32 e d) x); y = add binary32 (sum .y) (mul binary32 (sub binary32 e d) y); z = add binary32 (sum .z) (mul binary32 (sub binary32 e d) z); count = sum .count + 1 }) (slopesWith k d sum n (some e))
+    → _≡_ {A = Slopes}
+    (record {
+      x = add binary32 (sum .x) (mul binary32 (sub binary32 e d) x);
+      y = add binary32 (sum .y) (mul binary32 (sub binary32 e d) y);
+      z = add binary32 (sum .z) (mul binary32 (sub binary32 e d) z);
+      count = sum .count + 1;
+    })
+    (slopesWith k d sum n (some e))
 unfolding slopesWith
 slopes-of k d sum n e a b x y z i j p q r = rw (p, q, r, i, j)
 
@@ -141,6 +154,7 @@ mean-none sum h = rw (eq-eqb (sum .count) 0 h)
 pub mean-some :
     (sum : Slopes)
     → (sum .count ≡ 0 → ⊥)
-    → directionOf (div binary32 (sum .x) (whole (sum .count))) (div binary32 (sum .y) (whole (sum .count))) (div binary32 (sum .z) (whole (sum .count))) ≡ meanOf sum
+    → directionOf (div binary32 (sum .x) (whole (sum .count))) (div binary32 (sum .y) (whole (sum .count)))
+    (div binary32 (sum .z) (whole (sum .count))) ≡ meanOf sum
 unfolding meanOf
 mean-some sum h = rw (ne-eqb (sum .count) 0 h)

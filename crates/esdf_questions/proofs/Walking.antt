@@ -32,7 +32,8 @@ module _ (rs : List MarchedRow) (k : ℕ) (d : Float) (ns list : List ℕ) (fill
   unfolding slopesFrom
   slopes-more i sum sum' l e =
       ap (slopesFrom rs k d sum) (drop-cons ns i 0 l)
-      ∙ ap (λ (x : ℕ). slopesFrom rs k d (slopesWith k d sum x (distanceOf x rs)) (drop (suc i) ns)) (sym (ap (λ (x : List ℕ). getD x i 0) filled ∙ padded-at 0 14 ns i))
+      ∙ ap (λ (x : ℕ). slopesFrom rs k d (slopesWith k d sum x (distanceOf x rs)) (drop (suc i) ns))
+      (sym (ap (λ (x : List ℕ). getD x i 0) filled ∙ padded-at 0 14 ns i))
       ∙ ap (λ (s : Slopes). slopesFrom rs k d s (drop (suc i) ns)) (sym e)
       ∙ ap (λ (j : ℕ). slopesFrom rs k d sum' (drop j ns)) (sym (add-one i))
 

@@ -32,14 +32,24 @@ pub stats-of :
     (n : ℕ) (t : Tally) (low high : Float)
     → low ≡ unlessStart largest (t .low)
     → high ≡ unlessStart (neg largest) (t .high)
-    → _≡_ {A = EsdfStats} (record { «voxel_count» = n; «obstacle_voxel_count» = t .obstacles; «free_voxel_count» = t .free; «min_distance» = low; «max_distance» = high }) (statsOf n t)
+    → _≡_ {A = EsdfStats}
+    (record {
+      «voxel_count» = n;
+      «obstacle_voxel_count» = t .obstacles;
+      «free_voxel_count» = t .free;
+      «min_distance» = low;
+      «max_distance» = high;
+    }) (statsOf n t)
 unfolding statsOf
 stats-of n t low high p q = rw (p, q)
 
 module _ (ks : List ℕ) (ds : List Float) (n : ℕ) (v : Checked) (e : v ≡ marchedCheck (marchedTable ks ds n)) where
   pub stats-refused : {why : Refusal} → v ≡ checked.Refused why → statistics.Refused why ≡ getStats (marchedTable ks ds n)
   unfolding statisticsSaid
-  stats-refused f = sym (ap (λ (x : Checked). statisticsSaid x (statsOf (length (marchedRowsOf ks ds n)) (talliedAll noTally (marchedRowsOf ks ds n)))) (sym e ∙ f))
+  stats-refused f =
+      sym (ap (λ (x : Checked).
+      statisticsSaid x (statsOf (length (marchedRowsOf ks ds n)) (talliedAll noTally (marchedRowsOf ks ds n))))
+      (sym e ∙ f))
 
   pub stats-known :
       (s : EsdfStats) (t : Tally)
@@ -50,5 +60,8 @@ module _ (ks : List ℕ) (ds : List Float) (n : ℕ) (v : Checked) (e : v ≡ ma
       → statistics.Of s ≡ getStats (marchedTable ks ds n)
   unfolding statisticsSaid
   stats-known s t f h i j =
-      ap statistics.Of (j ∙ ap (statsOf n) i ∙ ap (λ (x : ℕ). statsOf x (talliedAll noTally (marchedRowsOf ks ds n))) (sym (pair-count ks ds n (h .distances) (h .fits))))
+      ap statistics.Of
+      (j ∙ ap (statsOf n) i
+      ∙ ap (λ (x : ℕ). statsOf x (talliedAll noTally (marchedRowsOf ks ds n)))
+      (sym (pair-count ks ds n (h .distances) (h .fits))))
       ∙ sym (ap (λ (x : Checked). statisticsSaid x (statsOf (length (marchedRowsOf ks ds n)) (talliedAll noTally (marchedRowsOf ks ds n)))) (sym e ∙ f))

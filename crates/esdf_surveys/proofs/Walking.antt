@@ -78,7 +78,10 @@ module _ (threshold : Float) where
     unfolding kept
     put-next r here n' ks' ds' o =
         subst (λ (j : ℕ). Putting rs j n' ks₀ ds₀ ks' ds') (sym (add-one i))
-        (cases (λ (b : Bool). isWithin threshold r ≡ b → PutOne b (r .key) (r .distance) n n' ks ds ks' ds' → Putting rs (suc i) n' ks₀ ds₀ ks' ds') (isWithin threshold r)
+        (cases (λ (b : Bool).
+        isWithin threshold r ≡ b
+        → PutOne b (r .key) (r .distance) n n' ks ds ks' ds'
+        → Putting rs (suc i) n' ks₀ ds₀ ks' ds') (isWithin threshold r)
         (λ _ w p.
         let l : left rs i ≡ r ∷ left rs (suc i) = rw (here, w) in
         let c = at .counts in
@@ -156,7 +159,9 @@ module _ (verdict : Checked) (rs : List MarchedRow) (ks : List ℕ) (ds : List F
     where
       fits : (i : ℕ) → roomFor (length rs) (length ks) ≡ listed.Count i → Counted rs i ks ds ks' ds'
       fits i =
-          cases (λ (x : Bool). cond x (listed.Count (length rs)) (listed.Refused NoPlace) ≡ listed.Count i → Counted rs i ks ds ks' ds') (leb (length rs) (length ks))
+          cases (λ (x : Bool).
+          cond x (listed.Count (length rs)) (listed.Refused NoPlace) ≡ listed.Count i
+          → Counted rs i ks ds ks' ds') (leb (length rs) (length ks))
           (λ f g.
           let j : length rs ≡ i = cc in
           let h = leb-true (length rs) (length ks) f in
@@ -179,12 +184,18 @@ module _ {A : Type 0} (v : A) (xs l l' : List A) (long : length l' ≡ length l)
       let g = h .1 in
       rw (e, z, h .2, length-sets l 0 xs) (ap (λ (t : List A). t ++ replicate (length l - length xs) v) (sets-front l xs (omega arith)))
 
-module _ (ks : List ℕ) (ds : List Float) (n : ℕ) (threshold : Float) (oks : List ℕ) (ods : List Float) (fit : Bool) (v : Checked) (r : Listed) (oks' : List ℕ) (ods' : List Float) (p : fit ≡ pairOk (length oks) (length ods)) (q : v ≡ listCheck (marchedTable ks ds n) fit threshold) (f : Filled (listedSaid v (roomFor (length (cellsWithin threshold (marchedRowsOf ks ds n))) (length oks))) (cellsWithin threshold (marchedRowsOf ks ds n)) r oks ods oks' ods') where
+module _ (ks : List ℕ) (ds : List Float) (n : ℕ) (threshold : Float) (oks : List ℕ) (ods : List Float) (fit : Bool)
+    (v : Checked) (r : Listed) (oks' : List ℕ) (ods' : List Float) (p : fit ≡ pairOk (length oks) (length ods))
+    (q : v ≡ listCheck (marchedTable ks ds n) fit threshold)
+    (f : Filled (listedSaid v (roomFor (length (cellsWithin threshold (marchedRowsOf ks ds n))) (length oks)))
+    (cellsWithin threshold (marchedRowsOf ks ds n)) r oks ods oks' ods') where
   pub within-answer : r ≡ withinListed (marchedTable ks ds n) threshold (length oks) (length ods)
   unfolding withinListed
   within-answer =
       f .answer
-      ∙ ap (λ (x : Checked). listedSaid x (roomFor (length (cellsWithin threshold (marchedRowsOf ks ds n))) (length oks))) (q ∙ ap (λ (b : Bool). listCheck (marchedTable ks ds n) b threshold) p)
+      ∙ ap (λ (x : Checked).
+      listedSaid x (roomFor (length (cellsWithin threshold (marchedRowsOf ks ds n))) (length oks)))
+      (q ∙ ap (λ (b : Bool). listCheck (marchedTable ks ds n) b threshold) p)
 
   pub within-keys :
       (i : ℕ)

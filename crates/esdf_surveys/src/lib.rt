@@ -66,7 +66,8 @@ fn put_if(
     n: usize,
 ) -> usize
     requires { ⌜ n < 2 ^ 32 ⌝ }
-    ensures { λ r. ⌜ PutOne (isWithin threshold (marchedRow key distance)) key distance n r (now («out_keys» .entry)) (now («out_distances» .entry)) (now («out_keys» .exit)) (now («out_distances» .exit)) ⌝ }
+    ensures { λ r. ⌜ PutOne (isWithin threshold (marchedRow key distance)) key distance n r (now («out_keys» .entry))
+        (now («out_distances» .entry)) (now («out_keys» .exit)) (now («out_distances» .exit)) ⌝ }
 {
     if size(distance) <= threshold {
         put_key(out_keys, n, key);
@@ -87,7 +88,9 @@ fn put_within(
     out_distances: &mut [f32],
 ) -> usize
     requires { ⌜ Accepted (now keys) (now distances) count × (length (now keys) ≤ 1048576) ⌝ }
-    ensures { λ r. ⌜ Put (cellsWithin threshold (marchedRowsOf (now (keys .entry)) (now (distances .entry)) count)) r (now («out_keys» .entry)) (now («out_distances» .entry)) (now («out_keys» .exit)) (now («out_distances» .exit)) ⌝ }
+    ensures { λ r. ⌜ Put (cellsWithin threshold (marchedRowsOf (now (keys .entry)) (now (distances .entry)) count)) r
+        (now («out_keys» .entry)) (now («out_distances» .entry)) (now («out_keys» .exit))
+        (now («out_distances» .exit)) ⌝ }
 {
     let mut n = 0;
     let mut i = 0;
@@ -109,7 +112,12 @@ fn fill(
     out_distances: &mut [f32],
 ) -> Listed
     requires { ⌜ MayFill verdict (now keys) (now distances) count (now «out_keys») (now «out_distances») ⌝ }
-    ensures { λ r. ⌜ Filled (listedSaid verdict (roomFor (length (cellsWithin threshold (marchedRowsOf (now (keys .entry)) (now (distances .entry)) count))) (length (now («out_keys» .entry))))) (cellsWithin threshold (marchedRowsOf (now (keys .entry)) (now (distances .entry)) count)) r (now («out_keys» .entry)) (now («out_distances» .entry)) (now («out_keys» .exit)) (now («out_distances» .exit)) ⌝ }
+    ensures { λ r. ⌜ Filled (listedSaid verdict
+        (roomFor (length (cellsWithin threshold (marchedRowsOf (now (keys .entry)) (now (distances .entry)) count)))
+        (length (now («out_keys» .entry)))))
+        (cellsWithin threshold (marchedRowsOf (now (keys .entry)) (now (distances .entry)) count)) r
+        (now («out_keys» .entry)) (now («out_distances» .entry)) (now («out_keys» .exit))
+        (now («out_distances» .exit)) ⌝ }
 {
     match verdict {
         Checked::Refused(why) => Listed::Refused(why),
@@ -129,9 +137,14 @@ pub fn get_voxels_within_distance(
     out_keys: &mut [u64],
     out_distances: &mut [f32],
 ) -> Listed
-    ensures { λ r. ⌜ r ≡ withinListed (marchedTable (now (keys .entry)) (now (distances .entry)) count) threshold (length (now («out_keys» .entry))) (length (now («out_distances» .entry))) ⌝ }
-    ensures { λ _. ⌜ now («out_keys» .exit) ≡ withinKeys (marchedTable (now (keys .entry)) (now (distances .entry)) count) threshold (length (now («out_keys» .entry))) (length (now («out_distances» .entry))) ⌝ }
-    ensures { λ _. ⌜ now («out_distances» .exit) ≡ withinDistances (marchedTable (now (keys .entry)) (now (distances .entry)) count) threshold (length (now («out_keys» .entry))) (length (now («out_distances» .entry))) ⌝ }
+    ensures { λ r. ⌜ r ≡ withinListed (marchedTable (now (keys .entry)) (now (distances .entry)) count) threshold
+        (length (now («out_keys» .entry))) (length (now («out_distances» .entry))) ⌝ }
+    ensures { λ _. ⌜ now («out_keys» .exit) ≡ withinKeys
+        (marchedTable (now (keys .entry)) (now (distances .entry)) count) threshold (length (now («out_keys» .entry)))
+        (length (now («out_distances» .entry))) ⌝ }
+    ensures { λ _. ⌜ now («out_distances» .exit) ≡ withinDistances
+        (marchedTable (now (keys .entry)) (now (distances .entry)) count) threshold (length (now («out_keys» .entry)))
+        (length (now («out_distances» .entry))) ⌝ }
 {
     let fit = pair_ok(out_keys.len(), out_distances.len());
     let verdict = check_list(keys, distances, count, fit, threshold);

@@ -40,7 +40,8 @@ doubled-value m e f h =
     let j = u .1 .0 in
     let d = down e in
     round-exact binary32 false (m * up e * d + m * up e * d) (d * d) m (suc j) (mul-pos (down-pos e) (down-pos e)) (u .0)
-    (lt-trans (lt-of-le-of-lt (le-of-eq (ap (λ (z : ℕ). m * z) (pow-suc 2 j))) (twice-fits m (2 ^ j) (2 ^ 181) (few-units (m * up e) d (m * 2 ^ j) (down-pos e) (u .1 .1) h))) (lit< tt))
+    (lt-trans (lt-of-le-of-lt (le-of-eq (ap (λ (z : ℕ). m * z) (pow-suc 2 j)))
+    (twice-fits m (2 ^ j) (2 ^ 181) (few-units (m * up e) d (m * 2 ^ j) (down-pos e) (u .1 .1) h))) (lit< tt))
     (in-units (2 ^ 149) (m * up e) d m (2 ^ j) (u .1 .1) ∙ ap (λ (z : ℕ). m * z * (d * d)) (sym (pow-suc 2 j)))
 
 -- ---- what it is cut to

@@ -1,4 +1,5 @@
--- What the tests say of any two floats that are no NaN, whatever their format: `le x y` is `not (lt y x)`, so a value is beyond a limit or within it. Assumes nothing.
+-- What the tests say of any two floats that are no NaN, whatever their format: `le x y` is `not (lt y x)`, so a value
+-- is beyond a limit or within it. Assumes nothing.
 use mathlib.Core.Path.{_≡_, refl, sym, ap, _∙_}
 use mathlib.Core.Logic.{_⊎_, inl, inr}
 use mathlib.Core.Bool.{Bool, true, false, cond, not, _&&_, _||_, true≢false, false≢true, and-true, and-false, or-false, or-true}
@@ -171,8 +172,14 @@ within-size most x = by (isNan most) (isNan x) refl refl
 
     by : (u v : Bool) → isNan most ≡ u → isNan x ≡ v → within most x ≡ le (sizeOf x) most
     by false false p q = within-not-beyond most x p q ∙ ap not (beyond-size most x) ∙ sym (le-not-lt (sizeOf x) most (size-nan x ∙ q) p)
-    by true v p q = nowhere (within most x) (le (sizeOf x) most) (λ h. true≢false (sym p ∙ le-second x most (and-second (le (neg most) x) (le x most) h))) (λ h. true≢false (sym p ∙ le-second (sizeOf x) most h))
-    by false true p q = nowhere (within most x) (le (sizeOf x) most) (λ h. true≢false (sym q ∙ le-first x most (and-second (le (neg most) x) (le x most) h))) (λ h. true≢false (sym (size-nan x ∙ q) ∙ le-first (sizeOf x) most h))
+    by true v p q =
+        nowhere (within most x) (le (sizeOf x) most)
+        (λ h. true≢false (sym p ∙ le-second x most (and-second (le (neg most) x) (le x most) h)))
+        (λ h. true≢false (sym p ∙ le-second (sizeOf x) most h))
+    by false true p q =
+        nowhere (within most x) (le (sizeOf x) most)
+        (λ h. true≢false (sym q ∙ le-first x most (and-second (le (neg most) x) (le x most) h)))
+        (λ h. true≢false (sym (size-nan x ∙ q) ∙ le-first (sizeOf x) most h))
 
 -- ---- a limit that is not below 0
 

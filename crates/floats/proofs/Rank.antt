@@ -1,4 +1,5 @@
--- Every number of binary32, the infinities too, as a whole number, its rank: the order of the floats is that of the ranks. So `omega` proves what follows from comparisons of floats. Assumes nothing.
+-- Every number of binary32, the infinities too, as a whole number, its rank: the order of the floats is that of the
+-- ranks. So `omega` proves what follows from comparisons of floats. Assumes nothing.
 use mathlib.Core.Path.{_≡_, refl, sym, ap, _∙_, subst}
 use Prim.Native.Nat.{ℕ, zero, suc, _+_, _-_, _*_, _/_, _^_, _≤_, _<_, zero-le}
 use native.Mathlib.Nat.{le-of-eq, le-of-lt, le-refl, lt-of-le-of-lt, lt-of-lt-of-le, mul-lt-mul-of-pos-right, lt-of-mul-lt-mul-right, mul-pos, mul-div-cancel, zero-mul, eq-of-mul-eq-mul-right, ne-of-gt, ne-of-lt}
@@ -43,10 +44,14 @@ rank x = placed (negative x) (units x)
 
 -- ---- two tests are equal
 same-lt : (a b x y : ℕ) → (a < b → x < y) → (x < y → a < b) → ltb a b ≡ ltb x y
-same-lt a b x y f g = both-ways (ltb a b) (ltb x y) (λ (h : ltb a b ≡ true). lt-ltb x y (f (ltb-true a b h))) (λ (h : ltb x y ≡ true). lt-ltb a b (g (ltb-true x y h)))
+same-lt a b x y f g =
+    both-ways (ltb a b) (ltb x y) (λ (h : ltb a b ≡ true). lt-ltb x y (f (ltb-true a b h)))
+    (λ (h : ltb x y ≡ true). lt-ltb a b (g (ltb-true x y h)))
 
 same-eq : (a b x y : ℕ) → (a ≡ b → x ≡ y) → (x ≡ y → a ≡ b) → eqb a b ≡ eqb x y
-same-eq a b x y f g = both-ways (eqb a b) (eqb x y) (λ (h : eqb a b ≡ true). eq-eqb x y (f (eqb-true a b h))) (λ (h : eqb x y ≡ true). eq-eqb a b (g (eqb-true x y h)))
+same-eq a b x y f g =
+    both-ways (eqb a b) (eqb x y) (λ (h : eqb a b ≡ true). eq-eqb x y (f (eqb-true a b h)))
+    (λ (h : eqb x y ≡ true). eq-eqb a b (g (eqb-true x y h)))
 
 -- ---- a finite value's units
 exact : (s : Bool) (m : ℕ) (e : ℤ) → T (fits binary32 (fin s m e)) → m * up e * 2 ^ 149 ≡ units (fin s m e) * down e
@@ -57,7 +62,11 @@ exact s m e f =
 
 finite-under : (s : Bool) (m : ℕ) (e : ℤ) → T (fits binary32 (fin s m e)) → units (fin s m e) < top
 unfolding top
-finite-under s zero e f = lt-of-mul-lt-mul-right (down e) (lt-of-le-of-lt (le-of-eq (sym (exact s zero e f) ∙ ap (λ (z : ℕ). z * 2 ^ 149) (zero-mul (up e)) ∙ zero-mul (2 ^ 149))) (mul-pos (pow-pos 277) (down-pos e)))
+finite-under s zero e f =
+    lt-of-mul-lt-mul-right (down e)
+    (lt-of-le-of-lt
+    (le-of-eq (sym (exact s zero e f) ∙ ap (λ (z : ℕ). z * 2 ^ 149) (zero-mul (up e)) ∙ zero-mul (2 ^ 149)))
+    (mul-pos (pow-pos 277) (down-pos e)))
 finite-under s (suc m) e f = below-top (suc m * up e) (units (fin s (suc m) e)) (down e) (down-pos e) (exact s (suc m) e f) (fitting s m e f .high)
 
 -- ---- two finite values: a / d and b / g as X and Y units
@@ -71,8 +80,14 @@ module _ (U a d b g X Y : ℕ) (P : 0 < U) (D : 0 < d) (G : 0 < g) (p : a * U �
   cross-lt : ltb (a * g) (b * d) ≡ ltb X Y
   cross-lt =
       same-lt (a * g) (b * d) X Y
-      (λ (h : a * g < b * d). lt-of-mul-lt-mul-right (d * g) (lt-of-le-of-lt (le-of-eq (sym scaled-left)) (lt-of-lt-of-le (mul-lt-mul-of-pos-right h P) (le-of-eq scaled-right))))
-      (λ (h : X < Y). lt-of-mul-lt-mul-right U (lt-of-le-of-lt (le-of-eq scaled-left) (lt-of-lt-of-le (mul-lt-mul-of-pos-right h (mul-pos D G)) (le-of-eq (sym scaled-right)))))
+      (λ (h : a * g < b * d).
+      lt-of-mul-lt-mul-right (d * g)
+      (lt-of-le-of-lt (le-of-eq (sym scaled-left))
+      (lt-of-lt-of-le (mul-lt-mul-of-pos-right h P) (le-of-eq scaled-right))))
+      (λ (h : X < Y).
+      lt-of-mul-lt-mul-right U
+      (lt-of-le-of-lt (le-of-eq scaled-left)
+      (lt-of-lt-of-le (mul-lt-mul-of-pos-right h (mul-pos D G)) (le-of-eq (sym scaled-right)))))
 
   cross-eq : eqb (a * g) (b * d) ≡ eqb X Y
   cross-eq =
@@ -101,7 +116,9 @@ module _ (U a d b g X Y : ℕ) (P : 0 < U) (D : 0 < d) (G : 0 < g) (p : a * U �
   cross-below true true = cross-lt U b g a d Y X P G D q p
 
   cross-level : (s t : Bool) → level s (a * g) t (b * d) ≡ level s X t Y
-  cross-level s t = ap (λ (v : Bool). v && (Bool·beq s t || eqb (a * g) 0)) (cross-eq U a d b g X Y P D G p q) ∙ ap (λ (v : Bool). eqb X Y && (Bool·beq s t || v)) (cross-none U a d b g X Y P D G p q)
+  cross-level s t =
+      ap (λ (v : Bool). v && (Bool·beq s t || eqb (a * g) 0)) (cross-eq U a d b g X Y P D G p q)
+      ∙ ap (λ (v : Bool). eqb X Y && (Bool·beq s t || v)) (cross-none U a d b g X Y P D G p q)
 
 -- ---- signed units and ranks
 placed-below : (s t : Bool) (X Y : ℕ) → X ≤ top → Y ≤ top → below s X t Y ≡ ltb (placed s X) (placed t Y)
@@ -185,7 +202,8 @@ lt-units (inf s) (fin t n d) p q = inf-fin s t (units (fin t n d)) (finite-under
 lt-units (fin s m e) nan p q = absurd (true≢false (q .number))
 lt-units (fin s m e) (inf t) p q = fin-inf s t (units (fin s m e)) (finite-under s m e (p .held))
 lt-units (fin s m e) (fin t n d) p q =
-    cross-below (2 ^ 149) (m * up e) (down e) (n * up d) (down d) (units (fin s m e)) (units (fin t n d)) (pow-pos 149) (down-pos e) (down-pos d) (exact s m e (p .held)) (exact t n d (q .held)) s t
+    cross-below (2 ^ 149) (m * up e) (down e) (n * up d) (down d) (units (fin s m e)) (units (fin t n d)) (pow-pos 149)
+    (down-pos e) (down-pos d) (exact s m e (p .held)) (exact t n d (q .held)) s t
 
 eq-units : (x y : Float) → Number x → Number y → eq x y ≡ level (negative x) (units x) (negative y) (units y)
 unfolding eq negative units isNan
@@ -196,7 +214,8 @@ eq-units (inf s) (fin t n d) p q = inf-no s t (units (fin t n d)) (finite-under 
 eq-units (fin s m e) nan p q = absurd (true≢false (q .number))
 eq-units (fin s m e) (inf t) p q = no-inf s t (units (fin s m e)) (finite-under s m e (p .held))
 eq-units (fin s m e) (fin t n d) p q =
-    cross-level (2 ^ 149) (m * up e) (down e) (n * up d) (down d) (units (fin s m e)) (units (fin t n d)) (pow-pos 149) (down-pos e) (down-pos d) (exact s m e (p .held)) (exact t n d (q .held)) s t
+    cross-level (2 ^ 149) (m * up e) (down e) (n * up d) (down d) (units (fin s m e)) (units (fin t n d)) (pow-pos 149)
+    (down-pos e) (down-pos d) (exact s m e (p .held)) (exact t n d (q .held)) s t
 
 pub lt-rank : (x y : Float) → Number x → Number y → lt x y ≡ ltb (rank x) (rank y)
 unfolding rank
@@ -208,7 +227,10 @@ eq-rank x y p q = eq-units x y p q ∙ placed-level (negative x) (negative y) (u
 
 pub le-rank : (x y : Float) → Number x → Number y → le x y ≡ leb (rank x) (rank y)
 unfolding le
-le-rank x y p q = ap (λ (b : Bool). b || eq x y) (lt-rank x y p q) ∙ ap (λ (b : Bool). ltb (rank x) (rank y) || b) (eq-rank x y p q) ∙ lt-or-eq (rank x) (rank y)
+le-rank x y p q =
+    ap (λ (b : Bool). b || eq x y) (lt-rank x y p q)
+    ∙ ap (λ (b : Bool). ltb (rank x) (rank y) || b) (eq-rank x y p q)
+    ∙ lt-or-eq (rank x) (rank y)
   where
     lt-or-eq : (a b : ℕ) → (ltb a b || eqb a b) ≡ leb a b
     lt-or-eq a b = go (ltb a b) (eqb a b) refl refl

@@ -1,4 +1,5 @@
--- What rounding gives: a number, and how large a sum, a difference or a product can be. Rounding keeps the order, so a result is at most b in size where the exact one is,
+-- What rounding gives: a number, and how large a sum, a difference or a product can be. Rounding keeps the order, so a
+-- result is at most b in size where the exact one is,
 -- and b is a value of the format.
 -- Assumes nothing.
 use Prim.Native.Nat.{ℕ, zero, suc, _+_, _-_, _*_, _^_, _<_, _≤_}
@@ -65,7 +66,9 @@ odd-size d s (suc q) k l = refl
 units-size : (f : Format) (s : Bool) (q k : ℕ) → sizeOf (units f s q k) ≡ units f false q k
 unfolding units
 units-size f s q k =
-    cases (λ (b : Bool). sizeOf (cond b (odd (suc (prec f)) s q k (low f)) (inf s)) ≡ cond b (odd (suc (prec f)) false q k (low f)) (inf false)) (ltb (q * 2 ^ k) (2 ^ (low f + suc (emax f))))
+    cases (λ (b : Bool).
+    sizeOf (cond b (odd (suc (prec f)) s q k (low f)) (inf s))
+    ≡ cond b (odd (suc (prec f)) false q k (low f)) (inf false)) (ltb (q * 2 ^ k) (2 ^ (low f + suc (emax f))))
     (λ e. odd-size (suc (prec f)) s q k (low f))
     (λ e. refl)
 
@@ -147,7 +150,9 @@ mul-small a b (fin s m e) (fin t n d) h p q =
 sum-small : (s t : Bool) (a b c m : ℕ) → Held m → 0 < c → a + b ≤ m * c → Small m (sum binary32 s a t b c)
 unfolding sum
 sum-small s t a b c m h C l =
-    cases (λ (u : Bool). Small m (cond u (round binary32 s (a + b) c) (cond (ltb a b) (round binary32 t (b - a) c) (round binary32 (s && ltb b a) (a - b) c)))) (Bool·beq s t)
+    cases (λ (u : Bool).
+    Small m (cond u (round binary32 s (a + b) c)
+    (cond (ltb a b) (round binary32 t (b - a) c) (round binary32 (s && ltb b a) (a - b) c)))) (Bool·beq s t)
     (λ e. round-small s (a + b) c m h C l)
     (λ e.
     cases (λ (u : Bool). Small m (cond u (round binary32 t (b - a) c) (round binary32 (s && ltb b a) (a - b) c))) (ltb a b)

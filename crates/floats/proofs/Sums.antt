@@ -89,7 +89,9 @@ add-at0 (fin false m e) (fin true n d) p q =
     rw (neg-zero n d (down e) q, le-ltb (m * up e * down d) 0 zero-le) (round-at0 binary32 (m * up e * down d - 0) (down e * down d))
 add-at0 (fin true m e) (fin false n d) p q =
     rw (neg-zero m e (down d) p, le-ltb (n * up d * down e) 0 zero-le)
-    (cases (λ (b : Bool). atLeast0 (cond b (round binary32 false (n * up d * down e - 0) (down e * down d)) (round binary32 false (0 - n * up d * down e) (down e * down d))) ≡ true) (ltb 0 (n * up d * down e))
+    (cases (λ (b : Bool).
+    atLeast0 (cond b (round binary32 false (n * up d * down e - 0) (down e * down d))
+    (round binary32 false (0 - n * up d * down e) (down e * down d))) ≡ true) (ltb 0 (n * up d * down e))
     (λ h. round-at0 binary32 (n * up d * down e - 0) (down e * down d))
     (λ h. round-at0 binary32 (0 - n * up d * down e) (down e * down d)))
 add-at0 (fin true m e) (fin true n d) p q =

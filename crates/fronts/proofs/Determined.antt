@@ -1,4 +1,5 @@
--- The contracts of the small functions settle their answers, and the march's settles where it does not give up: whether it is done, with how many rows and takings.
+-- The contracts of the small functions settle their answers, and the march's settles where it does not give up: whether
+-- it is done, with how many rows and takings.
 -- Assumes nothing.
 use mathlib.Core.Path.{_≡_, refl, sym, ap, _∙_}
 use Rattle.fronts.proofs.step_length.Reads as step_length

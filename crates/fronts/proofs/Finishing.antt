@@ -67,7 +67,9 @@ member-row : (r : MarchedRow) (rs : List MarchedRow) → r ∈ rs → member (r 
 unfolding member
 member-row r [] m = absurd (List·Memᴰ·not-nil m)
 member-row r (s ∷ rs) m =
-    ⊎-elim (λ (e : r ≡ s). let q : s .key ≡ r .key = ap (λ (x : MarchedRow). x .key) (sym e) in rw (eq-eqb (s .key) (r .key) q)) (λ n. rw (member-row r rs n) (or-true (eqb (s .key) (r .key)))) (List·Memᴰ·cases-cons m)
+    ⊎-elim (λ (e : r ≡ s). let q : s .key ≡ r .key = ap (λ (x : MarchedRow). x .key) (sym e) in
+    rw (eq-eqb (s .key) (r .key) q)) (λ n. rw (member-row r rs n) (or-true (eqb (s .key) (r .key))))
+    (List·Memᴰ·cases-cons m)
 
 nil : (cs : List Cell) → 0 ≡ length cs → cs ≡ []
 nil [] e = refl
@@ -97,7 +99,10 @@ module _ (s : State) (n : ℕ) (ks : List ℕ) (ds es : List Float) (cs : List �
         ascends = bare .ascends;
         real = λ r m. stands r m .1 .1 .1;
         all = λ r m. let x = stands r m in (x .0, (x .1 .0, x .1 .1 .0));
-        held = λ i l z. only (distanceOf (getD ks i 0) (s .stored)) (getD ds i nan) (sym (bare .marks (getD ks i 0)) ∙ look-at (getD ks i 0) ks ds i (bare .kept i z));
+        held =
+            λ i l z.
+            only (distanceOf (getD ks i 0) (s .stored)) (getD ds i nan)
+            (sym (bare .marks (getD ks i 0)) ∙ look-at (getD ks i 0) ks ds i (bare .kept i z));
         once = λ i j l m z e. kept-once ks (bare .kept) i j z e;
       }
     where
@@ -128,7 +133,8 @@ module _ (s : State) (n : ℕ) (ks : List ℕ) (ds es : List Float) (cs : List �
 
 -- ---- the whole
 
-module _ (size most t : Float) (rs : List Row) (ks₀ cs₀ : List ℕ) (r : Step) (ks : List ℕ) (ds es : List Float) (cs : List ℕ) (did : Left (sowAll neighbours (roomsOf ks₀ cs₀) (seeds t rs) nothing) r ks ds es cs) where
+module _ (size most t : Float) (rs : List Row) (ks₀ cs₀ : List ℕ) (r : Step) (ks : List ℕ) (ds es : List Float)
+    (cs : List ℕ) (did : Left (sowAll neighbours (roomsOf ks₀ cs₀) (seeds t rs) nothing) r ks ds es cs) where
   -- a seed stops it
   pub march-stopped :
       (why : Stop)
@@ -156,13 +162,16 @@ module _ (size most t : Float) (rs : List Row) (ks₀ cs₀ : List ℕ) (r : Ste
           ),
         )
 
-    module _ (o : Raced) (ks' : List ℕ) (ds' es' : List Float) (cs' : List ℕ) (takes : DoesTake (takeUpTo (lattice size most) (roomsOf ks cs) (suc (length ks))) n ks ds w es cs o ks' ds' es' cs') where
+    module _ (o : Raced) (ks' : List ℕ) (ds' es' : List Float) (cs' : List ℕ)
+        (takes : DoesTake (takeUpTo (lattice size most) (roomsOf ks cs) (suc (length ks))) n ks ds w es cs o ks' ds' es'
+        cs') where
       emptied : Emptied (marchFrom size most (roomsOf ks₀ cs₀) t rs) o ks' ds' es' cs'
       unfolding march.march andThen
       emptied =
           let x = sown-all in
           subst (λ (g : Going). Emptied (andThen g (takeUpTo (lattice size most) (roomsOf ks₀ cs₀) (suc (length ks₀)))) o ks' ds' es' cs') (sym (x .1 .0))
-          (subst (λ (m : Rooms). Emptied (takeUpTo (lattice size most) m (suc (m .rows)) (x .0)) o ks' ds' es' cs') (same-rooms (roomsOf ks₀ cs₀) ks cs p q) (takes (seeds t rs) (x .0) (x .1 .1)))
+          (subst (λ (m : Rooms). Emptied (takeUpTo (lattice size most) m (suc (m .rows)) (x .0)) o ks' ds' es' cs')
+          (same-rooms (roomsOf ks₀ cs₀) ks cs p q) (takes (seeds t rs) (x .0) (x .1 .1)))
 
       -- a taking stops it
       pub march-halted : (why : Stop) → o ≡ raced.Not why → Finished (marchFrom size most (roomsOf ks₀ cs₀) t rs) (raced.Not why) ks' ds' es' cs'

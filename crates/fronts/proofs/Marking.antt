@@ -75,10 +75,15 @@ pub distance-insert :
 unfolding distanceOf insert member
 distance-insert n r [] o = refl
 distance-insert n r (s ∷ rs) o =
-    cases (λ (b : Bool). distanceOf n (cond b (s ∷ insert rowBefore r rs) (r ∷ (s ∷ rs))) ≡ cond (eqb (r .key) n) (some (r .distance)) (cond (eqb (s .key) n) (some (s .distance)) (distanceOf n rs))) (ltb (s .key) (r .key))
+    cases (λ (b : Bool).
+    distanceOf n (cond b (s ∷ insert rowBefore r rs) (r ∷ (s ∷ rs)))
+    ≡ cond (eqb (r .key) n) (some (r .distance)) (cond (eqb (s .key) n) (some (s .distance)) (distanceOf n rs)))
+    (ltb (s .key) (r .key))
     (λ e. rw (distance-insert n r rs (or-second (eqb (s .key) (r .key)) (member (r .key) (keysOf rs)) o))
     (swap (eqb (s .key) n) (eqb (r .key) n) (some (s .distance)) (some (r .distance)) (distanceOf n rs)
-    (λ p q. eqb-false (s .key) (r .key) (or-first (eqb (s .key) (r .key)) (member (r .key) (keysOf rs)) o) (eqb-true (s .key) n p ∙ sym (eqb-true (r .key) n q)))))
+    (λ p q.
+    eqb-false (s .key) (r .key) (or-first (eqb (s .key) (r .key)) (member (r .key) (keysOf rs)) o)
+    (eqb-true (s .key) n p ∙ sym (eqb-true (r .key) n q)))))
     (λ e. refl)
   where
     swap : (a b : Bool) (x y z : Option Float) → (a ≡ true → b ≡ true → ⊥) → cond a x (cond b y z) ≡ cond b y (cond a x z)
@@ -134,7 +139,9 @@ said-none d o e f = e ∙ rw f
 
 -- ---- one mark more, or another
 
-module _ (rs : List MarchedRow) (ws : List ℕ) (ks : List ℕ) (ds : List Float) (h : Marked rs ws ks ds) (k : ℕ) (v : Float) (ks' : List ℕ) (ds' : List Float) (kept : Kept ks') (long : length ds' ≡ length ks') (new : look k ks' ds' ≡ some v) (others : (j : ℕ) → (j ≡ k → ⊥) → look j ks' ds' ≡ look j ks ds) where
+module _ (rs : List MarchedRow) (ws : List ℕ) (ks : List ℕ) (ds : List Float) (h : Marked rs ws ks ds) (k : ℕ)
+    (v : Float) (ks' : List ℕ) (ds' : List Float) (kept : Kept ks') (long : length ds' ≡ length ks')
+    (new : look k ks' ds' ≡ some v) (others : (j : ℕ) → (j ≡ k → ⊥) → look j ks' ds' ≡ look j ks ds) where
   -- k is stored
   marked-row :
       (vs : List ℕ)
@@ -146,7 +153,12 @@ module _ (rs : List MarchedRow) (ws : List ℕ) (ks : List ℕ) (ds : List Float
   marked-row vs same o f =
       let r = marchedRow k v in
       record {
-        marks = λ j. cases (λ (b : Bool). eqb k j ≡ b → look j ks' ds' ≡ orWaits (cond b (some v) (distanceOf j rs)) (member j vs) → look j ks' ds' ≡ markOf (insert rowBefore r rs) vs j) (eqb k j)
+        marks =
+            λ j.
+            cases (λ (b : Bool).
+            eqb k j ≡ b
+            → look j ks' ds' ≡ orWaits (cond b (some v) (distanceOf j rs)) (member j vs)
+            → look j ks' ds' ≡ markOf (insert rowBefore r rs) vs j) (eqb k j)
             (λ _ e q. q ∙ rw (distance-insert j r rs o, e))
             (λ _ e q. q ∙ rw (distance-insert j r rs o, e)) refl
             (cases (λ (b : Bool). eqb k j ≡ b → look j ks' ds' ≡ orWaits (cond b (some v) (distanceOf j rs)) (member j vs)) (eqb k j)
@@ -154,7 +166,10 @@ module _ (rs : List MarchedRow) (ws : List ℕ) (ks : List ℕ) (ds : List Float
             (λ _ e. others j (λ q. eqb-false k j e (sym q)) ∙ h .marks j ∙ rw (same j (eqb-false k j e))) refl);
         kept = kept;
         long = long;
-        finite = λ j d e. cases (λ (b : Bool). cond b (some v) (distanceOf j rs) ≡ some d → isFinite d ≡ true) (eqb k j) (λ _ q. let x : v ≡ d = cc in rw x at f) (λ _ q. h .finite j d q) (sym (distance-insert j r rs o) ∙ e);
+        finite =
+            λ j d e.
+            cases (λ (b : Bool). cond b (some v) (distanceOf j rs) ≡ some d → isFinite d ≡ true) (eqb k j)
+            (λ _ q. let x : v ≡ d = cc in rw x at f) (λ _ q. h .finite j d q) (sym (distance-insert j r rs o) ∙ e);
         ascends = ascending-insert r rs (h .ascends) o;
       }
 
@@ -182,7 +197,12 @@ pub marked-skip :
 unfolding orWaits member
 marked-skip k rs ws ks ds d e h =
     record {
-      marks = λ j. h .marks j ∙ cases (λ (b : Bool). eqb k j ≡ b → orWaits (distanceOf j rs) (b || member j ws) ≡ orWaits (distanceOf j rs) (member j ws)) (eqb k j)
+      marks =
+          λ j.
+          h .marks j
+          ∙ cases (λ (b : Bool).
+          eqb k j ≡ b → orWaits (distanceOf j rs) (b || member j ws) ≡ orWaits (distanceOf j rs) (member j ws))
+          (eqb k j)
           (λ _ q. let x = eqb-true k j q in rw (← x, e)) (λ _ q. refl) refl;
       kept = h .kept;
       long = h .long;
@@ -240,7 +260,9 @@ module _ (e : Float) (k : ℕ) (s : State) (w : ℕ) (ks : List ℕ) (ds es : Li
 
 -- ---- storing
 
-module _ (k : ℕ) (v : Float) (s : State) (ws vs : List ℕ) (n : ℕ) (ks : List ℕ) (ds : List Float) (h : Marked (s .stored) ws ks ds) (same : (j : ℕ) → (k ≡ j → ⊥) → member j ws ≡ member j vs) (c : n ≡ length (s .stored)) (o : member k (keysOf (s .stored)) ≡ false) where
+module _ (k : ℕ) (v : Float) (s : State) (ws vs : List ℕ) (n : ℕ) (ks : List ℕ) (ds : List Float)
+    (h : Marked (s .stored) ws ks ds) (same : (j : ℕ) → (k ≡ j → ⊥) → member j ws ≡ member j vs)
+    (c : n ≡ length (s .stored)) (o : member k (keysOf (s .stored)) ≡ false) where
   pub store-full : length ks ≤ n → LeftRows (store (length ks) (marchedRow k v) s) s vs (Not NoRow) ks ds
   unfolding store LeftRows Stopped
   store-full l = rw (le-ltb (length (s .stored)) (length ks) (omega arith))
@@ -272,4 +294,6 @@ module _ (k : ℕ) (v : Float) (s : State) (ws vs : List ℕ) (n : ℕ) (ks : Li
 
     pub store-put : (i : ℕ) → spotOf k ks ≡ Free i → (k ≡ 0 → ⊥) → LeftRows (store (length ks) (marchedRow k v) s) s vs (Now (n + 1)) (set ks i k) (set ds i v)
     store-put i a z =
-        stored (set ks i k) (set ds i v) (kept-put k ks ds i a z (h .long) v (h .kept)) (length-set ds i v ∙ h .long ∙ sym (length-set ks i k)) (look-put k ks ds i a z (h .long) v) (look-put-other k ks ds i a z (h .long) v (h .kept))
+        stored (set ks i k) (set ds i v) (kept-put k ks ds i a z (h .long) v (h .kept))
+        (length-set ds i v ∙ h .long ∙ sym (length-set ks i k)) (look-put k ks ds i a z (h .long) v)
+        (look-put-other k ks ds i a z (h .long) v (h .kept))

@@ -24,12 +24,15 @@ use Rattle.fronts.proofs.Walking.{stopped-then, stopped-by}
 
 -- ---- a row is stored (g), then cells wait (go)
 
-module _ (g : Going) (go : State → Going) (s : State) (w : ℕ) (es : List Float) (cs : List ℕ) (h : Heaped (s .waiting) w es cs) (p : Placed) (ks : List ℕ) (ds : List Float) (did : LeftRows g s (cellsOf (s .waiting)) p ks ds) where
+module _ (g : Going) (go : State → Going) (s : State) (w : ℕ) (es : List Float) (cs : List ℕ)
+    (h : Heaped (s .waiting) w es cs) (p : Placed) (ks : List ℕ) (ds : List Float)
+    (did : LeftRows g s (cellsOf (s .waiting)) p ks ds) where
   pub no-row : (why : Stop) → p ≡ Not why → (es' : List Float) (cs' : List ℕ) → Left (andThen g go) (step.Not why) ks ds es' cs'
   unfolding LeftRows Left
   no-row why e es' cs' = stopped-then g go why (subst (λ (o : Placed). LeftRows g s (cellsOf (s .waiting)) o ks ds) e did)
 
-  module _ (n : ℕ) (e : p ≡ Now n) (q : Placed) (ks' : List ℕ) (ds' es' : List Float) (cs' : List ℕ) (then-did : DoesWait go ks ds w es cs q ks' ds' es' cs') where
+  module _ (n : ℕ) (e : p ≡ Now n) (q : Placed) (ks' : List ℕ) (ds' es' : List Float) (cs' : List ℕ)
+      (then-did : DoesWait go ks ds w es cs q ks' ds' es' cs') where
     stored : LeftRows g s (cellsOf (s .waiting)) (Now n) ks ds
     stored = subst (λ (o : Placed). LeftRows g s (cellsOf (s .waiting)) o ks ds) e did
 
@@ -114,7 +117,13 @@ pub uncons : (cs : List Cell) (w : ℕ) → w ≡ length cs → 0 < w → (c : C
 uncons [] w e l = absurd (not-suc-le-zero (rw e at l))
 uncons (c ∷ cs) w e l = (c, (cs, refl))
 
-module _ (f : Field) (s : State) (n : ℕ) (ks : List ℕ) (ds : List Float) (w : ℕ) (es : List Float) (cs : List ℕ) (h : Held s n ks ds w es cs) (l : 0 < w) (es' : List Float) (cs' : List ℕ) (popped : (c : Cell) (l : List Cell) → Heaped (c ∷ l) w es cs → Heaped l (w - 1) es' cs') (long : length cs' ≡ length cs) (d : Float) (known : (rs : List MarchedRow) (ws : List ℕ) → Marked rs ws ks ds → distanceOf (getD cs 0 0) rs ≡ cond (isFinite d) (some d) none) where
+module _ (f : Field) (s : State) (n : ℕ) (ks : List ℕ) (ds : List Float) (w : ℕ) (es : List Float) (cs : List ℕ)
+    (h : Held s n ks ds w es cs) (l : 0 < w) (es' : List Float) (cs' : List ℕ)
+    (popped : (c : Cell) (l : List Cell) → Heaped (c ∷ l) w es cs → Heaped l (w - 1) es' cs')
+    (long : length cs' ≡ length cs) (d : Float)
+    (known : (rs : List MarchedRow) (ws : List ℕ)
+    → Marked rs ws ks ds
+    → distanceOf (getD cs 0 0) rs ≡ cond (isFinite d) (some d) none) where
   parts : (c : Cell) × ((l : List Cell) × (s .waiting ≡ c ∷ l))
   parts = uncons (s .waiting) w (h .front .heap .counted) l
 

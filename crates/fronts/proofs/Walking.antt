@@ -33,7 +33,9 @@ front-end d l n i g = drop-of-length-le (take n l) {i = i} (rw length-take (omeg
 pub lt-of-lt-of-eq : (i n m : ℕ) → i < n → n ≡ m → i < m
 lt-of-lt-of-eq i n m h e = rw e at h
 
-pub near-list : (k : ℕ) (f : Near) → f ≡ record { keys = padded 0 14 (neighbours k); count = length (neighbours k) } → (f .keys ≡ padded 0 14 (neighbours k)) × (f .count ≡ length (neighbours k)) × (f .count ≤ 14)
+pub near-list : (k : ℕ) (f : Near)
+    → f ≡ record { keys = padded 0 14 (neighbours k); count = length (neighbours k) }
+    → (f .keys ≡ padded 0 14 (neighbours k)) × (f .count ≡ length (neighbours k)) × (f .count ≤ 14)
 near-list k f e = (ap (λ (x : Near). x .keys) e, ap (λ (x : Near). x .count) e, rw (ap (λ (x : Near). x .count) e) (at-most-14 k))
 
 -- ---- a step that stopped
@@ -61,7 +63,8 @@ module _ (e : Float) (ns list : List ℕ) (listed : list ≡ padded 0 14 ns) (ks
   rest-all s h = (s, (refl, (h, refl)))
 
   module _ (i : ℕ) (ks : List ℕ) (ds : List Float) (w : ℕ) (es : List Float) (cs : List ℕ) (r : Rest e ns ks₀ ds₀ w₀ es₀ cs₀ i ks ds w es cs) where
-    module _ (long : length cs ≡ length cs₀) (l : i < length ns) (p : Placed) (ks' : List ℕ) (ds' es' : List Float) (cs' : List ℕ) (does : DoesWait (wait (length cs) e (getD list i 0)) ks ds w es cs p ks' ds' es' cs') where
+    module _ (long : length cs ≡ length cs₀) (l : i < length ns) (p : Placed) (ks' : List ℕ) (ds' es' : List Float)
+        (cs' : List ℕ) (does : DoesWait (wait (length cs) e (getD list i 0)) ks ds w es cs p ks' ds' es' cs') where
       one : (t : State) → waitAll (length cs₀) e (drop i ns) t ≡ andThen (wait (length cs) e (getD list i 0) t) (waitAll (length cs₀) e (drop (suc i) ns))
       unfolding waitAll
       one t = rw (drop-cons ns i 0 l, long, ap (λ (x : List ℕ). getD x i 0) listed ∙ padded-at 0 14 ns i)
@@ -71,11 +74,26 @@ module _ (e : Float) (ns list : List ℕ) (listed : list ≡ padded 0 14 ns) (ks
       unfolding LeftCells andThen
       rest-more w' a s h =
           let x = r s h in
-          let y = subst (λ (o : Placed). LeftCells (wait (length cs) e (getD list i 0) (x .0)) (x .0) o ks' ds' es' cs') a (does (x .0) (x .1 .1 .0)) in
-          (y .0, (y .1 .1 .0 ∙ x .1 .0, (y .1 .1 .1, x .1 .1 .1 ∙ one (x .0) ∙ ap (λ (g : Going). andThen g (waitAll (length cs₀) e (drop (suc i) ns))) (y .1 .0) ∙ ap (λ (j : ℕ). waitAll (length cs₀) e (drop j ns) (y .0)) (sym (add-one i)))))
+          let y = subst (λ (o : Placed). LeftCells (wait (length cs) e (getD list i 0) (x .0)) (x .0) o ks' ds' es' cs') a (does (x .0) (x .1 .1 .0)) in (
+            y .0,
+            (
+              y .1 .1 .0 ∙ x .1 .0,
+              (
+                y .1 .1 .1,
+                x .1 .1 .1
+                    ∙ one (x .0)
+                    ∙ ap (λ (g : Going). andThen g (waitAll (length cs₀) e (drop (suc i) ns))) (y .1 .0)
+                    ∙ ap (λ (j : ℕ). waitAll (length cs₀) e (drop j ns) (y .0)) (sym (add-one i)),
+              ),
+            ),
+          )
 
       -- one stops
-      pub rest-stop : (why : Stop) → p ≡ Not why → (s : State) → Front s ks₀ ds₀ w₀ es₀ cs₀ → LeftCells (waitAll (length cs₀) e ns s) s (Not why) ks' ds' es' cs'
+      pub rest-stop : (why : Stop)
+          → p ≡ Not why
+          → (s : State)
+          → Front s ks₀ ds₀ w₀ es₀ cs₀
+          → LeftCells (waitAll (length cs₀) e ns s) s (Not why) ks' ds' es' cs'
       unfolding LeftCells
       rest-stop why a s h =
           let x = r s h in
@@ -91,7 +109,8 @@ module _ (e : Float) (ns list : List ℕ) (listed : list ≡ padded 0 14 ns) (ks
 
 -- ---- a neighbour is heard
 
-module _ (size l best voice x y d : Float) (o : Option Float) (e : o ≡ some d) (c : voice ≡ candidate size l d) (p : x ≡ sizeOf voice) (q : y ≡ sizeOf best) where
+module _ (size l best voice x y d : Float) (o : Option Float) (e : o ≡ some d) (c : voice ≡ candidate size l d)
+    (p : x ≡ sizeOf voice) (q : y ≡ sizeOf best) where
   pub heard-better : lt x y ≡ true → voice ≡ heard size l best o
   unfolding heard
   heard-better h = rw (e, ← c, ← p, ← q, h)
@@ -103,11 +122,16 @@ module _ (size l best voice x y d : Float) (o : Option Float) (e : o ≡ some d)
 -- ---- settling, from place i of the neighbours on
 
 module _ (f : Field) (rs : List MarchedRow) (k : ℕ) (ns list : List ℕ) (listed : list ≡ padded 0 14 ns) where
-  pub settle-more : (i : ℕ) (best best' : Float) → i < length ns → best' ≡ heard (f .size) (f .reach k i) best (distanceOf (getD list i 0) rs) → settling f rs k i best (drop i ns) ≡ settling f rs k (i + 1) best' (drop (i + 1) ns)
+  pub settle-more : (i : ℕ) (best best' : Float)
+      → i < length ns
+      → best' ≡ heard (f .size) (f .reach k i) best (distanceOf (getD list i 0) rs)
+      → settling f rs k i best (drop i ns) ≡ settling f rs k (i + 1) best' (drop (i + 1) ns)
   unfolding settling
   settle-more i best best' l e =
       ap (settling f rs k i best) (drop-cons ns i 0 l)
-      ∙ ap (λ (x : ℕ). settling f rs k (suc i) (heard (f .size) (f .reach k i) best (distanceOf x rs)) (drop (suc i) ns)) (sym (ap (λ (x : List ℕ). getD x i 0) listed ∙ padded-at 0 14 ns i))
+      ∙ ap (λ (x : ℕ).
+      settling f rs k (suc i) (heard (f .size) (f .reach k i) best (distanceOf x rs)) (drop (suc i) ns))
+      (sym (ap (λ (x : List ℕ). getD x i 0) listed ∙ padded-at 0 14 ns i))
       ∙ ap (λ (b : Float). settling f rs k (suc i) b (drop (suc i) ns)) (sym e)
       ∙ ap (λ (j : ℕ). settling f rs k j best' (drop j ns)) (sym (add-one i))
 

@@ -1,4 +1,5 @@
--- What the functions of the fast march promise each other. The marched lists hold a mark for each stored and each waiting cell, in no order; the waiting lists are a heap.
+-- What the functions of the fast march promise each other. The marched lists hold a mark for each stored and each
+-- waiting cell, in no order; the waiting lists are a heap.
 use Prim.Native.Nat.{ℕ, _≤_}
 use mathlib.Core.Path.{_≡_}
 use mathlib.Core.Bool.{Bool, true, false, cond}

@@ -1,4 +1,5 @@
-// The fast march: the marched lists are a table of marks with open addressing, the waiting lists a heap. A stored cell's mark is its distance, a waiting one's is +infinity.
+// The fast march: the marched lists are a table of marks with open addressing, the waiting lists a heap. A stored
+// cell's mark is its distance, a waiting one's is +infinity.
 // It gives up where a cell has no place for its mark, a key is 0, or a distance or an estimate is no number: then nothing is said.
 use heap::pop;
 use heap::push;
@@ -53,7 +54,9 @@ fn wait(
     key: u64,
 ) -> Placed
     requires { ⌜ Paired (now keys) (now distances) (now estimates) (now cells) ⌝ }
-    ensures { λ r. ⌜ DoesWait (wait (length (now (cells .entry))) estimate key) (now (keys .entry)) (now (distances .entry)) waiting (now (estimates .entry)) (now (cells .entry)) r (now (keys .exit)) (now (distances .exit)) (now (estimates .exit)) (now (cells .exit)) ⌝ }
+    ensures { λ r. ⌜ DoesWait (wait (length (now (cells .entry))) estimate key) (now (keys .entry))
+        (now (distances .entry)) waiting (now (estimates .entry)) (now (cells .entry)) r (now (keys .exit))
+        (now (distances .exit)) (now (estimates .exit)) (now (cells .exit)) ⌝ }
 {
     match find(keys, key) {
         Spot::At(_) => Placed::Now(waiting),
@@ -87,7 +90,9 @@ fn wait_around(
     key: u64,
 ) -> Placed
     requires { ⌜ Paired (now keys) (now distances) (now estimates) (now cells) ⌝ }
-    ensures { λ r. ⌜ DoesWait (waitAll (length (now (cells .entry))) estimate (neighbours key)) (now (keys .entry)) (now (distances .entry)) waiting (now (estimates .entry)) (now (cells .entry)) r (now (keys .exit)) (now (distances .exit)) (now (estimates .exit)) (now (cells .exit)) ⌝ }
+    ensures { λ r. ⌜ DoesWait (waitAll (length (now (cells .entry))) estimate (neighbours key)) (now (keys .entry))
+        (now (distances .entry)) waiting (now (estimates .entry)) (now (cells .entry)) r (now (keys .exit))
+        (now (distances .exit)) (now (estimates .exit)) (now (cells .exit)) ⌝ }
 {
     let near = neighbors::around(key);
     let list = near.keys;
@@ -138,7 +143,9 @@ fn known(keys: &[u64], distances: &[f32], key: u64) -> f32
 // The best so far, once the neighbour at a place is heard.
 fn heard(keys: &[u64], distances: &[f32], size: f32, best: f32, place: usize, neighbour: u64) -> f32
     requires { ⌜ length (now distances) ≡ length (now keys) ⌝ }
-    ensures { λ r. ⌜ ((rs : List MarchedRow) (ws : List ℕ) → Marked rs ws (now (keys .entry)) (now (distances .entry)) → r ≡ heard size (lengthAt place) best (distanceOf neighbour rs)) ⌝ }
+    ensures { λ r. ⌜ ((rs : List MarchedRow) (ws : List ℕ)
+        → Marked rs ws (now (keys .entry)) (now (distances .entry))
+        → r ≡ heard size (lengthAt place) best (distanceOf neighbour rs)) ⌝ }
 {
     let distance = known(keys, distances, neighbour);
     if !floats::is_finite(distance) {
@@ -155,7 +162,9 @@ fn heard(keys: &[u64], distances: &[f32], size: f32, best: f32, place: usize, ne
 // A cell's distance from its stored neighbours.
 fn settled(keys: &[u64], distances: &[f32], size: f32, most: f32, key: u64) -> f32
     requires { ⌜ length (now distances) ≡ length (now keys) ⌝ }
-    ensures { λ r. ⌜ ((rs : List MarchedRow) (ws : List ℕ) → Marked rs ws (now (keys .entry)) (now (distances .entry)) → r ≡ settled (lattice size most) rs key) ⌝ }
+    ensures { λ r. ⌜ ((rs : List MarchedRow) (ws : List ℕ)
+        → Marked rs ws (now (keys .entry)) (now (distances .entry))
+        → r ≡ settled (lattice size most) rs key) ⌝ }
 {
     let near = neighbors::around(key);
     let list = near.keys;
@@ -172,7 +181,13 @@ fn settled(keys: &[u64], distances: &[f32], size: f32, most: f32, key: u64) -> f
 // A new row: its mark is its distance.
 fn store(keys: &mut [u64], distances: &mut [f32], count: usize, key: u64, distance: f32) -> Placed
     requires { ⌜ length (now distances) ≡ length (now keys) ⌝ }
-    ensures { λ r. ⌜ ((s : State) (ws vs : List ℕ) → Marked (s .stored) ws (now (keys .entry)) (now (distances .entry)) → ((j : ℕ) → (key ≡ j → ⊥) → member j ws ≡ member j vs) → count ≡ length (s .stored) → member key (keysOf (s .stored)) ≡ false → LeftRows (store (length (now (keys .entry))) (marchedRow key distance) s) s vs r (now (keys .exit)) (now (distances .exit))) ⌝ }
+    ensures { λ r. ⌜ ((s : State) (ws vs : List ℕ)
+        → Marked (s .stored) ws (now (keys .entry)) (now (distances .entry))
+        → ((j : ℕ) → (key ≡ j → ⊥) → member j ws ≡ member j vs)
+        → count ≡ length (s .stored)
+        → member key (keysOf (s .stored)) ≡ false
+        → LeftRows (store (length (now (keys .entry))) (marchedRow key distance) s) s vs r (now (keys .exit))
+        (now (distances .exit))) ⌝ }
 {
     if keys.len() <= count {
         return Placed::Not(Stop::NoRow);
@@ -209,7 +224,10 @@ fn sow(
     distance: f32,
 ) -> Step
     requires { ⌜ Paired (now keys) (now distances) (now estimates) (now cells) ⌝ }
-    ensures { λ r. ⌜ DoesSow key (sow neighbours (roomsOf (now (keys .entry)) (now (cells .entry))) (marchedRow key distance)) count (now (keys .entry)) (now (distances .entry)) waiting (now (estimates .entry)) (now (cells .entry)) r (now (keys .exit)) (now (distances .exit)) (now (estimates .exit)) (now (cells .exit)) ⌝ }
+    ensures { λ r. ⌜ DoesSow key
+        (sow neighbours (roomsOf (now (keys .entry)) (now (cells .entry))) (marchedRow key distance)) count
+        (now (keys .entry)) (now (distances .entry)) waiting (now (estimates .entry)) (now (cells .entry)) r
+        (now (keys .exit)) (now (distances .exit)) (now (estimates .exit)) (now (cells .exit)) ⌝ }
 {
     match store(keys, distances, count, key, distance) {
         Placed::Not(why) => Step::Not(why),
@@ -243,7 +261,9 @@ fn spread(
     distance: f32,
 ) -> Placed
     requires { ⌜ Paired (now keys) (now distances) (now estimates) (now cells) ⌝ }
-    ensures { λ r. ⌜ DoesWait (spread (lattice size most) (length (now (cells .entry))) (marchedRow key distance)) (now (keys .entry)) (now (distances .entry)) waiting (now (estimates .entry)) (now (cells .entry)) r (now (keys .exit)) (now (distances .exit)) (now (estimates .exit)) (now (cells .exit)) ⌝ }
+    ensures { λ r. ⌜ DoesWait (spread (lattice size most) (length (now (cells .entry))) (marchedRow key distance))
+        (now (keys .entry)) (now (distances .entry)) waiting (now (estimates .entry)) (now (cells .entry)) r
+        (now (keys .exit)) (now (distances .exit)) (now (estimates .exit)) (now (cells .exit)) ⌝ }
 {
     let estimate = floats::size(distance) + f32::from_bits(0x3FDD_B3D7) * size;
     if estimate <= most {
@@ -266,7 +286,9 @@ fn settle(
     key: u64,
 ) -> Step
     requires { ⌜ Paired (now keys) (now distances) (now estimates) (now cells) ⌝ }
-    ensures { λ r. ⌜ DoesSettle key (settle (lattice size most) (roomsOf (now (keys .entry)) (now (cells .entry))) key) count (now (keys .entry)) (now (distances .entry)) waiting (now (estimates .entry)) (now (cells .entry)) r (now (keys .exit)) (now (distances .exit)) (now (estimates .exit)) (now (cells .exit)) ⌝ }
+    ensures { λ r. ⌜ DoesSettle key (settle (lattice size most) (roomsOf (now (keys .entry)) (now (cells .entry))) key)
+        count (now (keys .entry)) (now (distances .entry)) waiting (now (estimates .entry)) (now (cells .entry)) r
+        (now (keys .exit)) (now (distances .exit)) (now (estimates .exit)) (now (cells .exit)) ⌝ }
 {
     let distance = settled(keys, distances, size, most, key);
     match store(keys, distances, count, key, distance) {
@@ -302,7 +324,9 @@ fn take(
     most: f32,
 ) -> Step
     requires { ⌜ Paired (now keys) (now distances) (now estimates) (now cells) × ((0 < waiting) × (waiting ≤ length (now cells))) ⌝ }
-    ensures { λ r. ⌜ Does (take (lattice size most) (roomsOf (now (keys .entry)) (now (cells .entry)))) count (now (keys .entry)) (now (distances .entry)) waiting (now (estimates .entry)) (now (cells .entry)) r (now (keys .exit)) (now (distances .exit)) (now (estimates .exit)) (now (cells .exit)) ⌝ }
+    ensures { λ r. ⌜ Does (take (lattice size most) (roomsOf (now (keys .entry)) (now (cells .entry)))) count
+        (now (keys .entry)) (now (distances .entry)) waiting (now (estimates .entry)) (now (cells .entry)) r
+        (now (keys .exit)) (now (distances .exit)) (now (estimates .exit)) (now (cells .exit)) ⌝ }
 {
     let key = cells[0];
     pop(estimates, cells, waiting);
@@ -348,7 +372,10 @@ fn sow_if(
     weight: f32,
 ) -> Step
     requires { ⌜ Paired (now keys) (now distances) (now estimates) (now cells) ⌝ }
-    ensures { λ r. ⌜ DoesSow key (sowIf threshold neighbours (roomsOf (now (keys .entry)) (now (cells .entry))) (row key distance weight)) count (now (keys .entry)) (now (distances .entry)) waiting (now (estimates .entry)) (now (cells .entry)) r (now (keys .exit)) (now (distances .exit)) (now (estimates .exit)) (now (cells .exit)) ⌝ }
+    ensures { λ r. ⌜ DoesSow key
+        (sowIf threshold neighbours (roomsOf (now (keys .entry)) (now (cells .entry))) (row key distance weight)) count
+        (now (keys .entry)) (now (distances .entry)) waiting (now (estimates .entry)) (now (cells .entry)) r
+        (now (keys .exit)) (now (distances .exit)) (now (estimates .exit)) (now (cells .exit)) ⌝ }
 {
     if is_seed(threshold, key, distance, weight) {
         sow(
@@ -378,8 +405,13 @@ fn sow_all(
     estimates: &mut [f32],
     cells: &mut [u64],
 ) -> Step
-    requires { ⌜ Lent (now «fused_keys») (now «fused_distances») (now «fused_weights») «fused_count» × Blank (now keys) (now distances) (now estimates) (now cells) ⌝ }
-    ensures { λ r. ⌜ Left (sowAll neighbours (roomsOf (now (keys .entry)) (now (cells .entry))) (seeds threshold (rowsOf (now («fused_keys» .entry)) (now («fused_distances» .entry)) (now («fused_weights» .entry)) «fused_count»)) nothing) r (now (keys .exit)) (now (distances .exit)) (now (estimates .exit)) (now (cells .exit)) ⌝ }
+    requires { ⌜ Lent (now «fused_keys») (now «fused_distances») (now «fused_weights») «fused_count»
+        × Blank (now keys) (now distances) (now estimates) (now cells) ⌝ }
+    ensures { λ r. ⌜ Left (sowAll neighbours (roomsOf (now (keys .entry)) (now (cells .entry)))
+        (seeds threshold
+        (rowsOf (now («fused_keys» .entry)) (now («fused_distances» .entry)) (now («fused_weights» .entry))
+        «fused_count»)) nothing) r (now (keys .exit)) (now (distances .exit)) (now (estimates .exit))
+        (now (cells .exit)) ⌝ }
 {
     let mut rows = 0;
     let mut held = 0;
@@ -420,7 +452,10 @@ fn take_all(
     most: f32,
 ) -> Raced
     requires { ⌜ MayTake count (now keys) (now distances) waiting (now estimates) (now cells) ⌝ }
-    ensures { λ r. ⌜ DoesTake (takeUpTo (lattice size most) (roomsOf (now (keys .entry)) (now (cells .entry))) (suc (length (now (keys .entry))))) count (now (keys .entry)) (now (distances .entry)) waiting (now (estimates .entry)) (now (cells .entry)) r (now (keys .exit)) (now (distances .exit)) (now (estimates .exit)) (now (cells .exit)) ⌝ }
+    ensures { λ r. ⌜ DoesTake (takeUpTo (lattice size most) (roomsOf (now (keys .entry)) (now (cells .entry)))
+        (suc (length (now (keys .entry))))) count (now (keys .entry)) (now (distances .entry)) waiting
+        (now (estimates .entry)) (now (cells .entry)) r (now (keys .exit)) (now (distances .exit)) (now (estimates .exit))
+        (now (cells .exit)) ⌝ }
 {
     let mut rows = count;
     let mut held = waiting;
@@ -452,8 +487,11 @@ pub fn race(
     estimates: &mut [f32],
     cells: &mut [u64],
 ) -> Raced
-    requires { ⌜ Lent (now «fused_keys») (now «fused_distances») (now «fused_weights») «fused_count» × Blank (now keys) (now distances) (now estimates) (now cells) ⌝ }
-    ensures { λ r. ⌜ Finished (marchFrom size most (roomsOf (now (keys .entry)) (now (cells .entry))) threshold (rowsOf (now («fused_keys» .entry)) (now («fused_distances» .entry)) (now («fused_weights» .entry)) «fused_count»)) r (now (keys .exit)) (now (distances .exit)) (now (estimates .exit)) (now (cells .exit)) ⌝ }
+    requires { ⌜ Lent (now «fused_keys») (now «fused_distances») (now «fused_weights») «fused_count»
+        × Blank (now keys) (now distances) (now estimates) (now cells) ⌝ }
+    ensures { λ r. ⌜ Finished (marchFrom size most (roomsOf (now (keys .entry)) (now (cells .entry))) threshold
+        (rowsOf (now («fused_keys» .entry)) (now («fused_distances» .entry)) (now («fused_weights» .entry))
+        «fused_count»)) r (now (keys .exit)) (now (distances .exit)) (now (estimates .exit)) (now (cells .exit)) ⌝ }
 {
     match sow_all(
         fused_keys,

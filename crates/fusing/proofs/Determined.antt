@@ -1,4 +1,5 @@
--- Every public contract settles its outcome: two that meet it are equal, in the answer and in every lent place. Each is one equation of an answer beside the table that is left, and its parts follow.
+-- Every public contract settles its outcome: two that meet it are equal, in the answer and in every lent place. Each is
+-- one equation of an answer beside the table that is left, and its parts follow.
 -- Assumes nothing.
 use mathlib.Core.Path.{_≡_, sym, ap, _∙_}
 use mathlib.Core.List.{List}
@@ -18,8 +19,13 @@ parts :
     {a a' : Fused} {ks ks' : List ℕ} {ds ds' ws ws' : List Float} {n n' : ℕ}
     → outcome a (table ks ds ws n) ≡ outcome a' (table ks' ds' ws' n')
     → (a ≡ a') × (ks ≡ ks') × (ds ≡ ds') × (ws ≡ ws') × (n ≡ n')
-parts e =
-    (ap (λ (o : Outcome). o .answer) e, ap (λ (o : Outcome). o .left .keys) e, ap (λ (o : Outcome). o .left .distances) e, ap (λ (o : Outcome). o .left .weights) e, ap (λ (o : Outcome). o .left .count) e)
+parts e = (
+  ap (λ (o : Outcome). o .answer) e,
+  ap (λ (o : Outcome). o .left .keys) e,
+  ap (λ (o : Outcome). o .left .distances) e,
+  ap (λ (o : Outcome). o .left .weights) e,
+  ap (λ (o : Outcome). o .left .count) e,
+)
 
 pub fused-voxel-determined : (κs : _) (a : _) (r r' : _) (s s' : _) → fused_voxel.Post κs a r s → fused_voxel.Post κs a r' s' → r ≡ r'
 fused-voxel-determined κs a r r' s s' p q = p ∙ sym q

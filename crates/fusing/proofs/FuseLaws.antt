@@ -30,7 +30,10 @@ stored-careful : (t : Table) (k : ℕ) (b : Bool) (v : Voxel) → Careful t (sto
 unfolding stored
 stored-careful t k false v = λ n. refl
 stored-careful t k true v =
-    cases (λ (x : Bool). Careful t (cond x (outcome Fused.Stored (relaid t (put (row k (v .distance) (v .weight)) (rows t)))) (outcome (Fused.Refused TooLarge) t))) (within million (v .distance))
+    cases (λ (x : Bool).
+    Careful t
+    (cond x (outcome Fused.Stored (relaid t (put (row k (v .distance) (v .weight)) (rows t))))
+    (outcome (Fused.Refused TooLarge) t))) (within million (v .distance))
     (λ e n. absurd (n refl))
     (λ e n. refl)
 

@@ -1,4 +1,5 @@
--- Fusing keeps an accepted table accepted: the key is on the lattice, the distance was tested, and a weight of at least 0 grown by a confidence of at least 0 and capped is in range.
+-- Fusing keeps an accepted table accepted: the key is on the lattice, the distance was tested, and a weight of at least
+-- 0 grown by a confidence of at least 0 and capped is in range.
 -- Assumes nothing.
 use mathlib.Core.Path.{_≡_, refl, ap}
 use mathlib.Core.Bool.{Bool, true, false, cond}
@@ -52,7 +53,8 @@ pub zero-in : (most : Float) → lt zero32 most ≡ true → between zero32 most
 unfolding le lt eq ofBits ofFields odd
 zero-in most h = rw h
 
-module _ (s : Settings) (t : Table) (k : ℕ) (m : Measured) (e : tableCheck s t ≡ Passed) (on : onLattice k ≡ true) (sure : between zero32 one32 (m .confidence) ≡ true) where
+module _ (s : Settings) (t : Table) (k : ℕ) (m : Measured) (e : tableCheck s t ≡ Passed) (on : onLattice k ≡ true)
+    (sure : between zero32 one32 (m .confidence) ≡ true) where
   abbrev most : Float
   most = s .«max_weight»
 
@@ -62,7 +64,9 @@ module _ (s : Settings) (t : Table) (k : ℕ) (m : Measured) (e : tableCheck s t
   fit : (t .count ≤ length (t .keys)) × (length (t .distances) ≡ length (t .keys)) × (length (t .weights) ≡ length (t .keys)) × (length (t .keys) ≤ 65536)
   fit = lengths-known (length (t .keys)) (length (t .distances)) (length (t .weights)) (t .count) (sound s t e .lengths)
 
-  cols : (keysOf (rows t) ≡ take (t .count) (t .keys)) × (distancesOf (rows t) ≡ take (t .count) (t .distances)) × (weightsOf (rows t) ≡ take (t .count) (t .weights))
+  cols : (keysOf (rows t) ≡ take (t .count) (t .keys))
+      × (distancesOf (rows t) ≡ take (t .count) (t .distances))
+      × (weightsOf (rows t) ≡ take (t .count) (t .weights))
   cols = columns (t .keys) (t .distances) (t .weights) (t .count) (fit .1) (fit .2)
 
   many : length (rows t) ≡ t .count
@@ -83,7 +87,9 @@ module _ (s : Settings) (t : Table) (k : ℕ) (m : Measured) (e : tableCheck s t
   unfolding hasPlace
   placed Absent d w q h = omega (arith, put-length (row k d w) (rows t), many, ltb-true (t .count) (length (t .keys)) h)
   placed (At i) d w q h =
-      let p : put (row k d w) (rows t) ≡ set (rows t) i (row k d w) = put-set (row k d w) (rows t) i (rw (cols .0) (sound s t e .order)) (rw many (inside i q)) (rw (cols .0) (found k (take (t .count) (t .keys)) i q .1)) in
+      let p : put (row k d w) (rows t) ≡ set (rows t) i (row k d w) =
+      put-set (row k d w) (rows t) i (rw (cols .0) (sound s t e .order)) (rw many (inside i q))
+      (rw (cols .0) (found k (take (t .count) (t .keys)) i q .1)) in
       omega (arith, ap length p, length-set (rows t) i (row k d w), many, fit .0)
 
   keeps-if :
@@ -95,7 +101,10 @@ module _ (s : Settings) (t : Table) (k : ℕ) (m : Measured) (e : tableCheck s t
   keeps-if false v h w = e
   keeps-if true v h w =
       let r = row k (v .distance) (v .weight) in
-      cases (λ (x : Bool). tableCheck s (cond x (outcome Fused.Stored (relaid t (put r (rows t)))) (outcome (Fused.Refused TooLarge) t) .left) ≡ Passed) (within million (v .distance))
+      cases (λ (x : Bool).
+      tableCheck s
+      (cond x (outcome Fused.Stored (relaid t (put r (rows t)))) (outcome (Fused.Refused TooLarge) t) .left)
+      ≡ Passed) (within million (v .distance))
       (λ x.
       relaid-check s t (put r (rows t)) e (h refl)
       (put-rowsOk most r (rows t) (rw (on, x, w)) (sound s t e .ranges))
@@ -109,7 +118,8 @@ module _ (s : Settings) (t : Table) (k : ℕ) (m : Measured) (e : tableCheck s t
       → tableCheck s (stored t k (hasPlace f t) (fusedVoxel most (voxelAt f t) m) .left) ≡ Passed
   unfolding fusedVoxel
   stored-keeps f q =
-      keeps-if (hasPlace f t) (fusedVoxel most (voxelAt f t) m) (λ h. placed f _ _ q h) (weight-kept most (voxelAt f t .weight) (m .confidence) above (old-weight f q) sure)
+      keeps-if (hasPlace f t) (fusedVoxel most (voxelAt f t) m) (λ h. placed f _ _ q h)
+      (weight-kept most (voxelAt f t .weight) (m .confidence) above (old-weight f q) sure)
 
   near-keeps : tableCheck s (fusedNear most t k m .left) ≡ Passed
   unfolding fusedNear

@@ -1,4 +1,5 @@
--- Document 01's samples on fusing, with rows in order, rays, the refusals and their order: settings, readings from an empty table on, what each answers, and the rows that are left. By computation.
+-- Document 01's samples on fusing, with rows in order, rays, the refusals and their order: settings, readings from an
+-- empty table on, what each answers, and the rows that are left. By computation.
 -- Assumes nothing.
 use Prim.Native.Nat.{ℕ}
 use mathlib.Core.Path.{_≡_, refl}
@@ -87,22 +88,67 @@ allHold (s ∷ ss) = holds s && allHold ss
 unfoldable pub samples : List Sample
 samples =
     -- 0.5 then -0.25: distance 0.125, weight 2
-    record { truncation = 0x3F80_0000; most = 0x42C8_0000; room = 2; steps = step 7 0x3F00_0000 0x3F80_0000 0 ∷ step 7 0xBE80_0000 0x3F80_0000 0 ∷ []; left = bits 7 0x3E00_0000 0x4000_0000 ∷ [] }
+    record {
+      truncation = 0x3F80_0000;
+      most = 0x42C8_0000;
+      room = 2;
+      steps = step 7 0x3F00_0000 0x3F80_0000 0 ∷ step 7 0xBE80_0000 0x3F80_0000 0 ∷ [];
+      left = bits 7 0x3E00_0000 0x4000_0000 ∷ [];
+    }
     -- maximum weight 1, 0.5 twice: distance 1.0, weight 1
-    ∷ record { truncation = 0x3F80_0000; most = 0x3F80_0000; room = 2; steps = step 7 0x3F00_0000 0x3F80_0000 0 ∷ step 7 0x3F00_0000 0x3F80_0000 0 ∷ []; left = bits 7 0x3F80_0000 0x3F80_0000 ∷ [] }
+    ∷ record {
+      truncation = 0x3F80_0000;
+      most = 0x3F80_0000;
+      room = 2;
+      steps = step 7 0x3F00_0000 0x3F80_0000 0 ∷ step 7 0x3F00_0000 0x3F80_0000 0 ∷ [];
+      left = bits 7 0x3F80_0000 0x3F80_0000 ∷ [];
+    }
     -- 1.0 is stored; the next float above is Far, even with a full table; a new key within the truncation then has no place (6)
-    ∷ record { truncation = 0x3F80_0000; most = 0x42C8_0000; room = 1; steps = step 8 0x3F80_0000 0x3F80_0000 0 ∷ step 7 0x3F80_0001 0x3F80_0000 100 ∷ step 7 0x3F80_0000 0x3F80_0000 6 ∷ []; left = bits 8 0x3F80_0000 0x3F80_0000 ∷ [] }
+    ∷ record {
+      truncation = 0x3F80_0000;
+      most = 0x42C8_0000;
+      room = 1;
+      steps =
+          step 8 0x3F80_0000 0x3F80_0000 0 ∷ step 7 0x3F80_0001 0x3F80_0000 100 ∷ step 7 0x3F80_0000 0x3F80_0000 6 ∷ [];
+      left = bits 8 0x3F80_0000 0x3F80_0000 ∷ [];
+    }
     -- confidence 0, reading 0.25, new key: row (0.25, 0)
     ∷ record { truncation = 0x3F80_0000; most = 0x42C8_0000; room = 2; steps = step 7 0x3E80_0000 0 0 ∷ []; left = bits 7 0x3E80_0000 0 ∷ [] }
     -- rows stand ascending by key
-    ∷ record { truncation = 0x3F80_0000; most = 0x42C8_0000; room = 3; steps = step 15 0x3F00_0000 0x3F80_0000 0 ∷ step 7 0x3E80_0000 0x3F80_0000 0 ∷ step 8 0xBE80_0000 0x3F80_0000 0 ∷ []; left = bits 7 0x3E80_0000 0x3F80_0000 ∷ bits 8 0xBE80_0000 0x3F80_0000 ∷ bits 15 0x3F00_0000 0x3F80_0000 ∷ [] }
+    ∷ record {
+      truncation = 0x3F80_0000;
+      most = 0x42C8_0000;
+      room = 3;
+      steps =
+          step 15 0x3F00_0000 0x3F80_0000 0 ∷ step 7 0x3E80_0000 0x3F80_0000 0 ∷ step 8 0xBE80_0000 0x3F80_0000 0 ∷ [];
+      left = bits 7 0x3E80_0000 0x3F80_0000 ∷ bits 8 0xBE80_0000 0x3F80_0000 ∷ bits 15 0x3F00_0000 0x3F80_0000 ∷ [];
+    }
     -- rays to (1, 1, 1): from (1, 1, 5) at depth 4.5 a distance of 0.5; from (1, 1, 2 ^ 100) the square overflows, Far
-    ∷ record { truncation = 0x3F80_0000; most = 0x42C8_0000; room = 2; steps = ray 7 0x3F80_0000 0x3F80_0000 0x40A0_0000 0x4090_0000 0x3F80_0000 0 ∷ ray 7 0x3F80_0000 0x3F80_0000 0x7180_0000 0x4090_0000 0x3F80_0000 100 ∷ []; left = bits 7 0x3F00_0000 0x3F80_0000 ∷ [] }
+    ∷ record {
+      truncation = 0x3F80_0000;
+      most = 0x42C8_0000;
+      room = 2;
+      steps =
+          ray 7 0x3F80_0000 0x3F80_0000 0x40A0_0000 0x4090_0000 0x3F80_0000 0
+          ∷ ray 7 0x3F80_0000 0x3F80_0000 0x7180_0000 0x4090_0000 0x3F80_0000 100 ∷ [];
+      left = bits 7 0x3F00_0000 0x3F80_0000 ∷ [];
+    }
     -- truncation 0 (1); a key off the lattice (4) before a confidence above 1 and infinite readings (5)
     ∷ record { truncation = 0; most = 0x42C8_0000; room = 2; steps = step 6 0x7F80_0000 0x3F80_0000 1 ∷ []; left = [] }
-    ∷ record { truncation = 0x3F80_0000; most = 0x42C8_0000; room = 2; steps = step 6 0x7F80_0000 0x3F80_0000 4 ∷ step 7 0 0x3F80_0001 5 ∷ step 7 0x7F80_0000 0x3F80_0000 5 ∷ ray 7 0 0x7F80_0000 0 0 0 5 ∷ []; left = [] }
+    ∷ record {
+      truncation = 0x3F80_0000;
+      most = 0x42C8_0000;
+      room = 2;
+      steps =
+          step 6 0x7F80_0000 0x3F80_0000 4 ∷ step 7 0 0x3F80_0001 5 ∷ step 7 0x7F80_0000 0x3F80_0000 5
+          ∷ ray 7 0 0x7F80_0000 0 0 0 5 ∷ [];
+      left = [];
+    }
     ∷ []
 
 pub samples-hold : allHold samples ≡ true
-unfolding trailingZeros span climb size odd units round neg sum add sub mul div lt eq le ofFields ofBits toBits ofInt beside rowsOk risesFrom ascending need tableCheck next find put relaid admitIf admitted squares rayDistance rootBelow isqrt rounded rootOf respaced sameParity fusedVoxel voxelAt hasPlace stored fusedNear fusedIf fuseIf fuse sameRows runs allHold samples
+unfolding trailingZeros span climb size odd units round neg sum add sub mul div lt eq le ofFields ofBits toBits ofInt
+    beside rowsOk risesFrom ascending need tableCheck next find put relaid admitIf admitted squares rayDistance rootBelow
+    isqrt rounded rootOf respaced sameParity fusedVoxel voxelAt hasPlace stored fusedNear fusedIf fuseIf fuse sameRows
+    runs allHold samples
 samples-hold = refl

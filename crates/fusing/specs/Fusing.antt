@@ -31,7 +31,8 @@ pub record Outcome : Type 0 where
 abbrev pub outcome : Fused → Table → Outcome
 outcome a t = record { answer = a; left = t }
 
--- the averaging rule: the weight grows by the confidence up to the maximum; where the old weight is above 0 the distance is the mean by weights, over the new weight, and otherwise the reading's
+-- the averaging rule: the weight grows by the confidence up to the maximum; where the old weight is above 0 the
+-- distance is the mean by weights, over the new weight, and otherwise the reading's
 unfoldable pub fusedVoxel : Float → Voxel → Measured → Voxel
 fusedVoxel most old m =
     let w = smallerOf (add binary32 (old .weight) (m .confidence)) most in

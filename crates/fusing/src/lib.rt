@@ -184,7 +184,8 @@ pub fn update_from_depth(
     confidence: f32,
 ) -> Fused
     ensures { λ r. ⌜ outcome r (table (now (keys .exit)) (now (distances .exit)) (now (weights .exit)) (now (count .exit)))
-        ≡ fuse settings (table (now (keys .entry)) (now (distances .entry)) (now (weights .entry)) (now (count .entry))) key (Reading.Direct distance confidence) ⌝ }
+        ≡ fuse settings (table (now (keys .entry)) (now (distances .entry)) (now (weights .entry)) (now (count .entry)))
+        key (Reading.Direct distance confidence) ⌝ }
 {
     let reading = Reading::Direct {
         distance,
@@ -208,7 +209,8 @@ pub fn update_from_depth_ray(
     confidence: f32,
 ) -> Fused
     ensures { λ r. ⌜ outcome r (table (now (keys .exit)) (now (distances .exit)) (now (weights .exit)) (now (count .exit)))
-        ≡ fuse settings (table (now (keys .entry)) (now (distances .entry)) (now (weights .entry)) (now (count .entry))) key (Reading.Ray «sensor_x» «sensor_y» «sensor_z» depth confidence) ⌝ }
+        ≡ fuse settings (table (now (keys .entry)) (now (distances .entry)) (now (weights .entry)) (now (count .entry)))
+        key (Reading.Ray «sensor_x» «sensor_y» «sensor_z» depth confidence) ⌝ }
 {
     let reading = Reading::Ray {
         x: sensor_x,

@@ -30,7 +30,8 @@ pub mark-waits : (most : Float) → standing most (f32 0xBF80_0000) ≡ false
 unfolding le lt eq ofBits ofFields odd
 mark-waits most = refl
 
-module _ (most : Float) (ks : List ℕ) (ds ws : List Float) (n : ℕ) (known : lengthsOk (length ks) (length ds) (length ws) n ≡ true) (a : ascending (take n ks) ≡ true) where
+module _ (most : Float) (ks : List ℕ) (ds ws : List Float) (n : ℕ)
+    (known : lengthsOk (length ks) (length ds) (length ws) n ≡ true) (a : ascending (take n ks) ≡ true) where
   abbrev t : Table
   t = table ks ds ws n
 
@@ -111,7 +112,9 @@ pub loaded-more :
     → Loaded t ks ds ws i
     → Loaded t ks (set ds i (v .distance)) (set ws i (v .weight)) (i + 1)
 loaded-more t ks ds ws i v h g e l q m =
-    cases (λ (b : Bool). (record { distance = getD (set ds i (v .distance)) q nan; weight = getD (set ws i (v .weight)) q nan }) ≡ valuesAt (find (getD ks q 0) (take (t .count) (t .keys))) (t .distances) (t .weights)) (eqb q i)
+    cases (λ (b : Bool).
+    (record { distance = getD (set ds i (v .distance)) q nan; weight = getD (set ws i (v .weight)) q nan })
+    ≡ valuesAt (find (getD ks q 0) (take (t .count) (t .keys))) (t .distances) (t .weights)) (eqb q i)
     (λ c. rw (eqb-true q i c, getD-set-same ds i (v .distance) nan h, getD-set-same ws i (v .weight) nan g) e)
     (λ c.
     let ne : q ≡ i → ⊥ = eqb-false q i c in

@@ -62,7 +62,12 @@ put-again r s (x ∷ l) e = go (put-again r s l e) (three (x .key) (s .key))
     go ih (inr (inr h)) = rw (front s x l h, here r s (x ∷ l) e, front r x l (omega arith))
 
 pub put-swaps : (r s : Row) (l : List Row) → s .key < r .key → put r (put s l) ≡ put s (put r l)
-put-swaps r s [] h = ap (put r) (put-none s) ∙ past r s [] h ∙ ap {B = List Row} (λ t. s ∷ t) (put-none r) ∙ sym (front s r [] h) ∙ ap (put s) (sym (put-none r))
+put-swaps r s [] h =
+    ap (put r) (put-none s)
+    ∙ past r s [] h
+    ∙ ap {B = List Row} (λ t. s ∷ t) (put-none r)
+    ∙ sym (front s r [] h)
+    ∙ ap (put s) (sym (put-none r))
 put-swaps r s (x ∷ l) h = go (put-swaps r s l h) (three (x .key) (s .key)) (three (x .key) (r .key))
   where
     go :

@@ -110,7 +110,9 @@ module _ (most : Float) (own before : List Row) (n total : ℕ) (fits : n ≤ le
     writes r' j' w' x e h g l q =
         let p : w' ≡ length (rest most own before j' r') = omega (arith, s .place, ap length q, length-append (rest most own before j' r') (x ∷ [])) in
         let m : r' ≤ w' = omega (arith, p, puts-no-shorter most (take j' own) (take r' before), length-take-le r' before (omega (arith, s .inside))) in
-        let d : drop w' (set held w' x) ≡ x ∷ drop w held = drop-cons (set held w' x) w' x (rw length-set l) ∙ rw (getD-set-same held w' x x l, drop-set-lt (suc w') held w' x (omega arith), e) in
+        let d : drop w' (set held w' x) ≡ x ∷ drop w held =
+        drop-cons (set held w' x) w' x (rw length-set l)
+        ∙ rw (getD-set-same held w' x x l, drop-set-lt (suc w') held w' x (omega arith), e) in
         record {
           inside = omega (arith, s .inside);
           left = omega (arith, s .left);
@@ -153,7 +155,8 @@ module _ (most : Float) (own before : List Row) (n total : ℕ) (fits : n ≤ le
 
   -- ---- the three turns, with the last own row y and the last row x of the table
 
-  module _ (up : ascending (keysOf own) ≡ true) (rise : ascending (keysOf (take n before)) ≡ true) (j' : ℕ) (y : Row) (split : take (suc j') own ≡ take j' own ++ y ∷ []) where
+  module _ (up : ascending (keysOf own) ≡ true) (rise : ascending (keysOf (take n before)) ≡ true) (j' : ℕ) (y : Row)
+      (split : take (suc j') own ≡ take j' own ++ y ∷ []) where
     under-own : Under (y .key) (take j' own)
     under-own = under-last (take j' own) y (rw split at (ascending-take own (suc j') up))
 
@@ -164,7 +167,9 @@ module _ (most : Float) (own before : List Row) (n total : ℕ) (fits : n ≤ le
         → rest most own before (suc j') (suc r') ≡ rest most own before (suc j') r' ++ x ∷ []
     moves r' x e h =
         ap (λ (t : List Row). puts most (take (suc j') own) t) e
-        ∙ puts-past most (take (suc j') own) (take r' before) x (rw split (under-snoc (x .key) (take j' own) y (under-more (y .key) (x .key) (take j' own) (omega arith) under-own) h))
+        ∙ puts-past most (take (suc j') own) (take r' before) x
+        (rw split (under-snoc (x .key) (take j' own) y
+        (under-more (y .key) (x .key) (take j' own) (omega arith) under-own) h))
 
     pub waits : (r : ℕ) → standing most (y .weight) ≡ false → rest most own before (suc j') r ≡ rest most own before j' r
     waits r h = ap (λ (t : List Row). puts most t (take r before)) split ∙ puts-drops most (take j' own) (take r before) y h
@@ -198,7 +203,10 @@ module _ (most : Float) (own before : List Row) (n total : ℕ) (fits : n ≤ le
         → standing most (y .weight) ≡ true
         → rest most own before (suc j') (suc r') ≡ rest most own before j' (suc r') ++ y ∷ []
     adds r' x h e q s =
-        put-at (suc r') (suc r') s (put-end y (take (suc r') before) (rw e (under-snoc (y .key) (take r' before) x (under-more (x .key) (y .key) (take r' before) (omega arith) (below-last r' x h e)) q)))
+        put-at (suc r') (suc r') s
+        (put-end y (take (suc r') before)
+        (rw e (under-snoc (y .key) (take r' before) x
+        (under-more (x .key) (y .key) (take r' before) (omega arith) (below-last r' x h e)) q)))
 
     pub adds-first : standing most (y .weight) ≡ true → rest most own before (suc j') 0 ≡ rest most own before j' 0 ++ y ∷ []
     unfolding All

@@ -61,7 +61,10 @@ says b ks n k =
 
 -- ---- the lists
 
-module _ (most : Float) (ks₀ : List ℕ) (ds₀ ws₀ : List Float) (n : ℕ) (known : lengthsOk (length ks₀) (length ds₀) (length ws₀) n ≡ true) (oks : List ℕ) (ods ows : List Float) (own : ℕ) (own-known : lengthsOk (length oks) (length ods) (length ows) own ≡ true) (rise : ascending (take n ks₀) ≡ true) (up : ascending (take own oks) ≡ true) (total : ℕ) where
+module _ (most : Float) (ks₀ : List ℕ) (ds₀ ws₀ : List Float) (n : ℕ)
+    (known : lengthsOk (length ks₀) (length ds₀) (length ws₀) n ≡ true) (oks : List ℕ) (ods ows : List Float) (own : ℕ)
+    (own-known : lengthsOk (length oks) (length ods) (length ows) own ≡ true) (rise : ascending (take n ks₀) ≡ true)
+    (up : ascending (take own oks) ≡ true) (total : ℕ) where
   abbrev mine : List Row
   mine = rowsOf oks ods ows own
 
@@ -92,7 +95,9 @@ module _ (most : Float) (ks₀ : List ℕ) (ds₀ ws₀ : List Float) (n : ℕ) 
   pub starts : total ≤ length ks₀ → total ≡ length (puts most mine (take n before)) → Settling most mine before n total n own total before
   starts l e = begins most mine before n total inside own (sym own-size) (rw size l) e
 
-  module _ (ks : List ℕ) (ds ws : List Float) (p : length ks ≡ length ks₀) (q : length ds ≡ length ds₀) (r : length ws ≡ length ws₀) (rows left place : ℕ) (s : Settling most mine before n total rows left place (beside ks ds ws)) where
+  module _ (ks : List ℕ) (ds ws : List Float) (p : length ks ≡ length ks₀) (q : length ds ≡ length ds₀)
+      (r : length ws ≡ length ws₀) (rows left place : ℕ)
+      (s : Settling most mine before n total rows left place (beside ks ds ws)) where
     dl : length ds ≡ length ks
     dl = q ∙ fit .1 ∙ sym p
 
@@ -133,8 +138,12 @@ module _ (most : Float) (ks₀ : List ℕ) (ds₀ ws₀ : List Float) (n : ℕ) 
           → (0 < place) × Settling most mine before n total r' j' (place - 1) (beside (set ks (place - 1) k) (set ds (place - 1) d) (set ws (place - 1) w))
       written r' j' k d w h g e =
           let z : 0 < place = omega (arith, s .place, ap length e, length-append (rest most mine before j' r') (row k d w ∷ [])) in
-          let l : place - 1 < length (beside ks ds ws) = omega (arith, s .room) in
-          (z, rw (beside-set ks ds ws (place - 1) k d w dl wl) (writes most mine before n total inside rows left place (beside ks ds ws) s r' j' (place - 1) (row k d w) (omega arith) h g l e))
+          let l : place - 1 < length (beside ks ds ws) = omega (arith, s .room) in (
+            z,
+            rw (beside-set ks ds ws (place - 1) k d w dl wl)
+                (writes most mine before n total inside rows left place (beside ks ds ws) s r' j' (place - 1) (row k d w)
+                (omega arith) h g l e),
+          )
 
       abbrev rest-at : ℕ → ℕ → List Row
       rest-at i m = rest most mine before i m
@@ -149,24 +158,38 @@ module _ (most : Float) (ks₀ : List ℕ) (ds₀ ws₀ : List Float) (n : ℕ) 
             let b = bounds in
             let k : take (suc m) (beside ks ds ws) ≡ take (suc m) before = rw last at (s .kept) in
             sym k ∙ take-row ks ds ws m dl wl (omega arith)
-            ∙ ap (λ (l : List Row). l ++ x ∷ []) (sym (take-take m (suc m) (beside ks ds ws) (omega arith)) ∙ ap (take m) k ∙ take-take m (suc m) before (omega arith))
+            ∙ ap (λ (l : List Row). l ++ x ∷ [])
+            (sym (take-take m (suc m) (beside ks ds ws) (omega arith))
+            ∙ ap (take m) k
+            ∙ take-take m (suc m) before (omega arith))
 
         pub moved :
             getD oks j 0 < getD ks m 0
-            → (0 < place) × Settling most mine before n total m left (place - 1) (beside (set ks (place - 1) (getD ks m 0)) (set ds (place - 1) (getD ds m nan)) (set ws (place - 1) (getD ws m nan)))
+            → (0 < place)
+            × Settling most mine before n total m left (place - 1)
+            (beside (set ks (place - 1) (getD ks m 0)) (set ds (place - 1) (getD ds m nan))
+            (set ws (place - 1) (getD ws m nan)))
         moved h =
             written m left (getD ks m 0) (getD ds m nan) (getD ws m nan) (omega arith) (omega arith)
-            (ap (λ (i : ℕ). rest-at i rows) more ∙ ap (rest-at (suc j)) last ∙ moves most mine before n total inside own-up rows-rise j y split m x row-split h ∙ ap (λ (i : ℕ). rest-at i m ++ x ∷ []) (sym more))
+            (ap (λ (i : ℕ). rest-at i rows) more
+            ∙ ap (rest-at (suc j)) last
+            ∙ moves most mine before n total inside own-up rows-rise j y split m x row-split h
+            ∙ ap (λ (i : ℕ). rest-at i m ++ x ∷ []) (sym more))
 
         replaced : getD ks m 0 ≡ getD oks j 0 → standing most (getD ows j nan) ≡ true → rest-at left rows ≡ rest-at j m ++ y ∷ []
         replaced h b =
             let i = bounds in
-            ap (λ (i : ℕ). rest-at i rows) more ∙ ap (rest-at (suc j)) last ∙ replaces most mine before n total inside own-up rows-rise j y split m x (omega arith) row-split h b
+            ap (λ (i : ℕ). rest-at i rows) more
+            ∙ ap (rest-at (suc j)) last
+            ∙ replaces most mine before n total inside own-up rows-rise j y split m x (omega arith) row-split h b
 
         added : getD ks m 0 < getD oks j 0 → standing most (getD ows j nan) ≡ true → rest-at left rows ≡ rest-at j rows ++ y ∷ []
         added h b =
             let i = bounds in
-            ap (λ (i : ℕ). rest-at i rows) more ∙ ap (rest-at (suc j)) last ∙ adds most mine before n total inside own-up rows-rise j y split m x (omega arith) row-split h b ∙ ap (λ (i : ℕ). rest-at j i ++ y ∷ []) (sym last)
+            ap (λ (i : ℕ). rest-at i rows) more
+            ∙ ap (rest-at (suc j)) last
+            ∙ adds most mine before n total inside own-up rows-rise j y split m x (omega arith) row-split h b
+            ∙ ap (λ (i : ℕ). rest-at j i ++ y ∷ []) (sym last)
 
       pub skipped : standing most (getD ows j nan) ≡ false → Settling most mine before n total rows j place (beside ks ds ws)
       skipped b =
@@ -177,13 +200,20 @@ module _ (most : Float) (ks₀ : List ℕ) (ds₀ ws₀ : List Float) (n : ℕ) 
       pub put-down :
           (m : ℕ)
           → Says (standing most (getD ows j nan)) ks rows (getD oks j 0) (Put m)
-          → (0 < place) × Settling most mine before n total m j (place - 1) (beside (set ks (place - 1) (getD oks j 0)) (set ds (place - 1) (getD ods j nan)) (set ws (place - 1) (getD ows j nan)))
+          → (0 < place)
+          × Settling most mine before n total m j (place - 1)
+          (beside (set ks (place - 1) (getD oks j 0)) (set ds (place - 1) (getD ods j nan))
+          (set ws (place - 1) (getD ows j nan)))
       unfolding Says
       put-down m h = go (h .1)
         where
           go :
-              (((0 < rows) × (getD ks (rows - 1) 0 < getD oks j 0) × (m ≡ rows)) ⊎ (((0 < rows) × (getD ks (rows - 1) 0 ≡ getD oks j 0) × (m ≡ rows - 1)) ⊎ ((rows ≡ 0) × (m ≡ 0))))
-              → (0 < place) × Settling most mine before n total m j (place - 1) (beside (set ks (place - 1) (getD oks j 0)) (set ds (place - 1) (getD ods j nan)) (set ws (place - 1) (getD ows j nan)))
+              (((0 < rows) × (getD ks (rows - 1) 0 < getD oks j 0) × (m ≡ rows))
+              ⊎ (((0 < rows) × (getD ks (rows - 1) 0 ≡ getD oks j 0) × (m ≡ rows - 1)) ⊎ ((rows ≡ 0) × (m ≡ 0))))
+              → (0 < place)
+              × Settling most mine before n total m j (place - 1)
+              (beside (set ks (place - 1) (getD oks j 0)) (set ds (place - 1) (getD ods j nan))
+              (set ws (place - 1) (getD ows j nan)))
           go (inl g) =
               written m j (getD oks j 0) (getD ods j nan) (getD ows j nan) (omega arith) (omega arith)
               (added (rows - 1) (omega arith) (g .1) (h .0) ∙ ap (λ (i : ℕ). rest-at j i ++ y ∷ []) (sym (g .2)))
@@ -192,7 +222,10 @@ module _ (most : Float) (ks₀ : List ℕ) (ds₀ ws₀ : List Float) (n : ℕ) 
               (replaced (rows - 1) (omega arith) (g .1) (h .0) ∙ ap (λ (i : ℕ). rest-at j i ++ y ∷ []) (sym (g .2)))
           go (inr (inr g)) =
               written m j (getD oks j 0) (getD ods j nan) (getD ows j nan) (omega arith) (omega arith)
-              (ap (λ (i : ℕ). rest-at i rows) more ∙ ap (rest-at (suc j)) (g .0) ∙ adds-first most mine before n total inside own-up rows-rise j y split (h .0) ∙ ap (λ (i : ℕ). rest-at j i ++ y ∷ []) (sym (g .1)))
+              (ap (λ (i : ℕ). rest-at i rows) more
+              ∙ ap (rest-at (suc j)) (g .0)
+              ∙ adds-first most mine before n total inside own-up rows-rise j y split (h .0)
+              ∙ ap (λ (i : ℕ). rest-at j i ++ y ∷ []) (sym (g .1)))
 
 -- ---- what the answer of a turn tells
 

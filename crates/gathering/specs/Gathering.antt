@@ -29,4 +29,7 @@ valuesAt Absent ds ws = record { distance = zero32; weight = f32 0xBF80_0000 }
 -- each of the first n own keys has the values of its row
 abbrev pub Loaded : Table → List ℕ → List Float → List Float → ℕ → Type 0
 Loaded t ks ds ws n =
-    (i : ℕ) → i < n → (record { distance = getD ds i nan; weight = getD ws i nan }) ≡ valuesAt (find (getD ks i 0) (take (t .count) (t .keys))) (t .distances) (t .weights)
+    (i : ℕ)
+    → i < n
+    → (record { distance = getD ds i nan; weight = getD ws i nan })
+    ≡ valuesAt (find (getD ks i 0) (take (t .count) (t .keys))) (t .distances) (t .weights)

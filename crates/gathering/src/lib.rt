@@ -101,7 +101,8 @@ pub fn load(
     requires { ⌜ lengthsOk (length (now keys)) (length (now distances)) (length (now weights)) count ≡ true ⌝ }
     requires { ⌜ ascending (take count (now keys)) ≡ true ⌝ }
     requires { ⌜ lengthsOk (length (now «own_keys»)) (length (now «own_distances»)) (length (now «own_weights»)) own ≡ true ⌝ }
-    ensures { λ _. ⌜ Loaded (table (now (keys .entry)) (now (distances .entry)) (now (weights .entry)) count) (now («own_keys» .entry)) (now («own_distances» .exit)) (now («own_weights» .exit)) own ⌝ }
+    ensures { λ _. ⌜ Loaded (table (now (keys .entry)) (now (distances .entry)) (now (weights .entry)) count)
+        (now («own_keys» .entry)) (now («own_distances» .exit)) (now («own_weights» .exit)) own ⌝ }
 {
     let mut place = 0;
     let mut i = 0;
@@ -150,7 +151,9 @@ fn write_row(
     weight: f32,
 )
     requires { ⌜ (place < length (now keys)) × (length (now distances) ≡ length (now keys)) × (length (now weights) ≡ length (now keys)) ⌝ }
-    ensures { λ _. ⌜ (now (keys .exit) ≡ set (now (keys .entry)) place key) × (now (distances .exit) ≡ set (now (distances .entry)) place distance) × (now (weights .exit) ≡ set (now (weights .entry)) place weight) ⌝ }
+    ensures { λ _. ⌜ (now (keys .exit) ≡ set (now (keys .entry)) place key)
+        × (now (distances .exit) ≡ set (now (distances .entry)) place distance)
+        × (now (weights .exit) ≡ set (now (weights .entry)) place weight) ⌝ }
 {
     keys[place] = key;
     distances[place] = distance;
@@ -173,9 +176,13 @@ pub fn settle(
     requires { ⌜ lengthsOk (length (now keys)) (length (now distances)) (length (now weights)) count ≡ true ⌝ }
     requires { ⌜ lengthsOk (length (now «own_keys»)) (length (now «own_distances»)) (length (now «own_weights»)) own ≡ true ⌝ }
     requires { ⌜ (ascending (take count (now keys)) ≡ true) × (ascending (take own (now «own_keys»)) ≡ true) ⌝ }
-    requires { ⌜ (total ≡ length (puts most (rowsOf (now «own_keys») (now «own_distances») (now «own_weights») own) (rowsOf (now keys) (now distances) (now weights) count))) × (total ≤ length (now keys)) ⌝ }
+    requires { ⌜ (total ≡ length (puts most (rowsOf (now «own_keys») (now «own_distances») (now «own_weights») own)
+        (rowsOf (now keys) (now distances) (now weights) count)))
+        × (total ≤ length (now keys)) ⌝ }
     ensures { λ _. ⌜ table (now (keys .exit)) (now (distances .exit)) (now (weights .exit)) total
-        ≡ relaid (table (now (keys .entry)) (now (distances .entry)) (now (weights .entry)) count) (puts most (rowsOf (now («own_keys» .entry)) (now («own_distances» .entry)) (now («own_weights» .entry)) own) (rowsOf (now (keys .entry)) (now (distances .entry)) (now (weights .entry)) count)) ⌝ }
+        ≡ relaid (table (now (keys .entry)) (now (distances .entry)) (now (weights .entry)) count)
+        (puts most (rowsOf (now («own_keys» .entry)) (now («own_distances» .entry)) (now («own_weights» .entry)) own)
+        (rowsOf (now (keys .entry)) (now (distances .entry)) (now (weights .entry)) count)) ⌝ }
 {
     let mut rows = count;
     let mut left = own;

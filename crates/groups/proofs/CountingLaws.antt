@@ -39,7 +39,11 @@ ends-few first second n cell h =
     omega (arith, start-most cell (edgesIn first second n), count-most cell (edgesIn first second n), length-take n (paired first second))
 
 -- the edge at a place, and those after it
-pub edge-next : (first second : List ℕ) (n i : ℕ) → length second ≡ length first → i < n → n ≤ length first → drop i (edgesIn first second n) ≡ edge (getD first i 0) (getD second i 0) ∷ drop (suc i) (edgesIn first second n)
+pub edge-next : (first second : List ℕ) (n i : ℕ)
+    → length second ≡ length first
+    → i < n
+    → n ≤ length first
+    → drop i (edgesIn first second n) ≡ edge (getD first i 0) (getD second i 0) ∷ drop (suc i) (edgesIn first second n)
 unfolding paired
 edge-next first second zero i p h g = absurd (not-suc-le-zero h)
 edge-next [] second (suc n) i p h g = absurd (not-suc-le-zero g)
@@ -48,11 +52,15 @@ edge-next (a ∷ first) (b ∷ second) (suc n) zero p h g = refl
 edge-next (a ∷ first) (b ∷ second) (suc n) (suc i) p h g = edge-next first second n i (suc-inj p) (le-of-suc-le-suc h) (le-of-suc-le-suc g)
 
 module _ (first second : List ℕ) (n i cell : ℕ) (p : length second ≡ length first) (h : i < n) (g : n ≤ length first) where
-  pub start-next : startOf cell (drop i (edgesIn first second n)) ≡ (one (ltb (getD first i 0) cell) + one (ltb (getD second i 0) cell)) + startOf cell (drop (i + 1) (edgesIn first second n))
+  pub start-next : startOf cell (drop i (edgesIn first second n))
+      ≡ (one (ltb (getD first i 0) cell) + one (ltb (getD second i 0) cell))
+      + startOf cell (drop (i + 1) (edgesIn first second n))
   unfolding startOf
   start-next = rw (edge-next first second n i p h g, add-one)
 
-  pub count-next : countOf cell (drop i (edgesIn first second n)) ≡ one (touches cell (edge (getD first i 0) (getD second i 0))) + countOf cell (drop (i + 1) (edgesIn first second n))
+  pub count-next : countOf cell (drop i (edgesIn first second n))
+      ≡ one (touches cell (edge (getD first i 0) (getD second i 0)))
+      + countOf cell (drop (i + 1) (edgesIn first second n))
   unfolding countOf
   count-next = rw (edge-next first second n i p h g, add-one)
 
@@ -87,7 +95,10 @@ nowhere = record { start = 0; end = 0 }
 Of : List ℕ → Span → List ℕ → Type 0
 Of groups s part = (s .start ≤ s .end) × (s .end ≤ length groups) × (take (s .end - s .start) (drop (s .start) groups) ≡ part)
 
-span-of : (groups : List ℕ) (start count : ℕ) (b : Bool) → leb (start + count) (length groups) ≡ b → Of groups (cond b (record { start = start; end = start + count }) nowhere) (cond b (take count (drop start groups)) [])
+span-of : (groups : List ℕ) (start count : ℕ) (b : Bool)
+    → leb (start + count) (length groups) ≡ b
+    → Of groups (cond b (record { start = start; end = start + count }) nowhere)
+    (cond b (take count (drop start groups)) [])
 unfolding Of nowhere
 span-of groups start count true e = (omega arith, leb-true (start + count) (length groups) e, rw (add-sub-cancel-left start count))
 span-of groups start count false e = (omega arith, omega arith, refl)

@@ -54,7 +54,9 @@ module _ (near : ℕ → List ℕ) (adjacent : ℕ → ℕ → Bool) (crosses : 
         ends =
             λ e m.
             let c = h .only e m in
-            let p = pair-in (c .0 .key) (c .1 .key) (keysOf rows) (in-map (λ (r : Row). r .key) rows (c .2 .stored)) (in-map (λ (r : Row). r .key) rows (c .2 .beside)) in
+            let p =
+            pair-in (c .0 .key) (c .1 .key) (keysOf rows) (in-map (λ (r : Row). r .key) rows (c .2 .stored))
+            (in-map (λ (r : Row). r .key) rows (c .2 .beside)) in
             (Memᴰ·cast (ap (λ (x : Edge). x .first) (c .3)) (p .0), Memᴰ·cast (ap (λ (x : Edge). x .second) (c .3)) (p .1));
         ascending = ascending-keys (keysOf rows) up;
       }

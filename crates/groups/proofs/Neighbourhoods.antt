@@ -37,7 +37,8 @@ pub group-only :
     → ((i : ℕ) → EndsAt es i cell → i ∈ l)
     → l ≡ groupOf es cell
 group-only es cell l o sound complete =
-    one-order _<_ (λ x y p q. omega arith) l (groupOf es cell) o (group-ordered es cell) (λ i m. in-group es cell i (sound i m)) (λ i m. complete i (group-in es cell i m))
+    one-order _<_ (λ x y p q. omega arith) l (groupOf es cell) o (group-ordered es cell)
+    (λ i m. in-group es cell i (sound i m)) (λ i m. complete i (group-in es cell i m))
 
 -- the smaller and the larger of two keys, whichever is named first
 pair-either : (a b : ℕ) → pairOf a b ≡ pairOf b a
@@ -148,7 +149,8 @@ pub gather-begun :
 unfolding gathered padded
 gather-begun es cell others i h = rw (drop-of-length-le others {i = i} h)
 
-module _ (es : List Edge) (cell : ℕ) (others : List ℕ) (i : ℕ) (g : Group) (e : g ≡ held (gathered es cell (drop i others))) (up : 0 < i) (h : i ≤ length others) where
+module _ (es : List Edge) (cell : ℕ) (others : List ℕ) (i : ℕ) (g : Group)
+    (e : g ≡ held (gathered es cell (drop i others))) (up : 0 < i) (h : i ≤ length others) where
   pub gather-open : length others ≤ 14 → Open g
   gather-open m =
       rw e (held-open (gathered es cell (drop i others)) (omega (arith, gathered-few es cell (drop i others), length-drop i others)))
@@ -165,7 +167,9 @@ module _ (es : List Edge) (cell : ℕ) (others : List ℕ) (i : ℕ) (g : Group)
       drop-cons others (i - 1) 0 (omega arith) ∙ ap (λ (k : ℕ). getD others (i - 1) 0 ∷ drop k others) next in
       let held-now : numbersOf g ≡ gathered es cell (drop i others) =
       ap numbersOf e ∙ held-numbers (gathered es cell (drop i others)) in
-      t ∙ ap (λ (y : Found). held (withNumber y (numbersOf g))) q ∙ ap (λ (l : List ℕ). held (withNumber (pairNumber es cell (getD others (i - 1) 0)) l)) held-now ∙ rw rest
+      t ∙ ap (λ (y : Found). held (withNumber y (numbersOf g))) q
+      ∙ ap (λ (l : List ℕ). held (withNumber (pairNumber es cell (getD others (i - 1) 0)) l)) held-now
+      ∙ rw rest
 
 -- ---- on the edge list of a table
 

@@ -130,7 +130,12 @@ module _ (es : List Edge) (u : Upward es) where
   split [] lo f cell m = absurd (List·Memᴰ·not-nil m)
   split (d ∷ ds) lo f cell m =
       ⊎-elim
-      (λ (e : cell ≡ d). ([], groups es ds, ap (λ (c : ℕ). groupOf es c ++ groups es ds) (sym e), zero-add (startOf lo es) ∙ sym (from-first lo d ds f) ∙ ap (λ (c : ℕ). startOf c es) (sym e)))
+      (λ (e : cell ≡ d). (
+        [],
+        groups es ds,
+        ap (λ (c : ℕ). groupOf es c ++ groups es ds) (sym e),
+        zero-add (startOf lo es) ∙ sym (from-first lo d ds f) ∙ ap (λ (c : ℕ). startOf c es) (sym e),
+      ))
       (λ t.
       let rest = split ds (suc d) (from-rest lo d ds f) cell t in
       let a = from-first lo d ds f in

@@ -51,7 +51,15 @@ pub record SameParts (h x y z h' x' y' z' : ℕ) : Type 0 where
   pub ys : y ≡ y'
   pub zs : z ≡ z'
 
-pub same-parts : (h x y z h' x' y' z' : ℕ) → x < 65536 → y < 65536 → z < 65536 → x' < 65536 → y' < 65536 → z' < 65536 → keyOf h x y z ≡ keyOf h' x' y' z' → SameParts h x y z h' x' y' z'
+pub same-parts : (h x y z h' x' y' z' : ℕ)
+    → x < 65536
+    → y < 65536
+    → z < 65536
+    → x' < 65536
+    → y' < 65536
+    → z' < 65536
+    → keyOf h x y z ≡ keyOf h' x' y' z'
+    → SameParts h x y z h' x' y' z'
 same-parts h x y z h' x' y' z' lx ly lz lx' ly' lz' e =
     record {
       heads = sym (head-of-key h x y z) ∙ ap headOf e ∙ head-of-key h' x' y' z';
@@ -124,13 +132,23 @@ module _ (head x y z k : ℕ) (lx : x < 65536) (ly : y < 65536) (lz : z < 65536)
 
   pub decoded-made : decodedOf k ≡ decoded.At (record { 0 = x }) (record { 0 = y }) (record { 0 = z })
   decoded-made =
-      rw (← key-made, made-on-lattice head x y z lx ly lz, made-key (sameParity x y z) (keyOf head x y z) k e .0, x-of-key head x y z lx, y-of-key head x y z ly, z-of-key head x y z lz)
+      rw (
+        ← key-made,
+        made-on-lattice head x y z lx ly lz,
+        made-key (sameParity x y z) (keyOf head x y z) k e .0,
+        x-of-key head x y z lx,
+        y-of-key head x y z ly,
+        z-of-key head x y z lz,
+      )
 
   pub head-made : headOf k ≡ head
   head-made = rw (← key-made) (head-of-key head x y z)
 
 -- what was decoded makes the key again
-decoded-on : (b : Bool) (x y z : ℕ) (x' y' z' : Cells) → cond b (decoded.At (record { 0 = x }) (record { 0 = y }) (record { 0 = z })) (decoded.Refused OffLattice) ≡ decoded.At x' y' z' → (b ≡ true) × (x ≡ x' .0) × (y ≡ y' .0) × (z ≡ z' .0)
+decoded-on : (b : Bool) (x y z : ℕ) (x' y' z' : Cells)
+    → cond b (decoded.At (record { 0 = x }) (record { 0 = y }) (record { 0 = z })) (decoded.Refused OffLattice)
+    ≡ decoded.At x' y' z'
+    → (b ≡ true) × (x ≡ x' .0) × (y ≡ y' .0) × (z ≡ z' .0)
 decoded-on true x y z x' y' z' e = (refl, cc, cc, cc)
 decoded-on false x y z x' y' z' e = let o : _≡_ {A = ℕ} 0 1 = cc in let no : ⊥ = omega arith in absurd no
 

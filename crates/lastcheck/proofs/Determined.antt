@@ -17,7 +17,10 @@ pub moved : {room : ℕ} {s : State} {text : List ℕ} {r r' : Run} {line line' 
 moved m n = (m .next ∙ sym (n .next), m .printed ∙ sym (n .printed), m .wrote ∙ sym (n .wrote))
 
 -- so the bytes that are written are the text
-pub written-text : {room : ℕ} {s : State} {text : List ℕ} {r : Run} {line : List ℕ} {t : Table} {out a : List ℕ} → Moved room s text r line t out a → 15000 ≤ length out → take (r .printed) a ≡ text
+pub written-text : {room : ℕ} {s : State} {text : List ℕ} {r : Run} {line : List ℕ} {t : Table} {out a : List ℕ}
+    → Moved room s text r line t out a
+    → 15000 ≤ length out
+    → take (r .printed) a ≡ text
 written-text {text = text} {out = out} m h = rw (m .printed, m .wrote) (sets-front out text (omega (arith, m .printed, m .short)))
 
 -- the end of the input

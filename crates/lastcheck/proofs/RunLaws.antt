@@ -72,7 +72,12 @@ module _ (run : Run) (byte : ℕ) (line : List ℕ) (t : Table) (fits : run .kep
         }
 
     -- any other byte
-    pub byte-kept : (r : Run) (line' out : List ℕ) → (byte ≡ 10 → ⊥) → stateOf r line' t ≡ longer (length line) (stateOf run line t) byte → r .kept ≤ length line → r .printed ≡ 0 →
+    pub byte-kept : (r : Run) (line' out : List ℕ)
+        → (byte ≡ 10 → ⊥)
+        → stateOf r line' t ≡ longer (length line) (stateOf run line t) byte
+        → r .kept ≤ length line
+        → r .printed ≡ 0
+        →
         ByteTaken run byte line t r line' t out out
     unfolding stepByte textByte
     byte-kept r line' out e s k p =
@@ -128,7 +133,13 @@ module _ (room : ℕ) (s : State) (bytes : List ℕ) where
   abbrev pub Before : ℕ → State → Type 0
   Before i at = (at ≡ fed room s (take i bytes)) ⊎ Cut room s bytes at
 
-  pub fed-more : (i room' : ℕ) (at next then : State) → i < length bytes → room' ≡ room → Before i at → next ≡ stepByte room' at (getD bytes i 0) → (then ≡ next) ⊎ (then ≡ stopped next) → Before (i + 1) then
+  pub fed-more : (i room' : ℕ) (at next then : State)
+      → i < length bytes
+      → room' ≡ room
+      → Before i at
+      → next ≡ stepByte room' at (getD bytes i 0)
+      → (then ≡ next) ⊎ (then ≡ stopped next)
+      → Before (i + 1) then
   fed-more i room' at next then h same b e' w =
       let e : next ≡ stepByte room at (getD bytes i 0) = rw same at e' in
       ⊎-elim
@@ -161,7 +172,9 @@ pub kept-fits : (p q x y : ℕ) → p ≡ q → q ≤ y → x ≡ y → p ≤ x
 kept-fits p q x y e h f = omega arith
 
 -- what is written leaves the state, or ends the run
-pub written-state : (run r : Run) (line : List ℕ) (t : Table) → Written run r → (stateOf r line t ≡ stateOf run line t) ⊎ (stateOf r line t ≡ stopped (stateOf run line t))
+pub written-state : (run r : Run) (line : List ℕ) (t : Table)
+    → Written run r
+    → (stateOf r line t ≡ stateOf run line t) ⊎ (stateOf r line t ≡ stopped (stateOf run line t))
 written-state run r line t w = ⊎-elim (λ e. inl (ap (λ (x : Run). stateOf x line t) e)) (λ e. inr (ap (λ (x : Run). stateOf x line t) e)) w
 
 pub written-kept : (run r : Run) → Written run r → r .kept ≡ run .kept

@@ -47,7 +47,9 @@ next : (n : ℕ) → n < 18446744073709551615 → counted n ≡ suc n
 next n h = rw (lt-ltb n 18446744073709551615 h, add-one n)
 
 -- a run that goes on or has ended
-going : (g : Bool) (n : ℕ) (started : Bool) (s : Settings) (t : Table) (bytes rest : List ℕ) → textFrom 38 (state [] n started s t true) bytes ≡ rest → textFrom 38 (state [] n started s t g) bytes ≡ cond g rest []
+going : (g : Bool) (n : ℕ) (started : Bool) (s : Settings) (t : Table) (bytes rest : List ℕ)
+    → textFrom 38 (state [] n started s t true) bytes ≡ rest
+    → textFrom 38 (state [] n started s t g) bytes ≡ cond g rest []
 going true n started s t bytes rest e = e
 going false n started s t bytes rest e = silent [] n started s t bytes
 
@@ -58,7 +60,8 @@ one-line l n started s t =
     let a = stepOf l n started s t in
     cases (λ (b : Bool). a .text ++ cond b [] [] ≡ a .text) (a .goes) (λ e. append-nil (a .text)) (λ e. append-nil (a .text))
 
-last-line : (l : List ℕ) (n : ℕ) (started : Bool) (s : Settings) (t : Table) → lastText (state (take 38 l) n started s t true) ≡ transcriptFrom n started s t (unended l)
+last-line : (l : List ℕ) (n : ℕ) (started : Bool) (s : Settings) (t : Table)
+    → lastText (state (take 38 l) n started s t true) ≡ transcriptFrom n started s t (unended l)
 unfolding lastText unended transcriptFrom
 last-line [] n started s t = refl
 last-line (x ∷ xs) n started s t =
@@ -68,7 +71,9 @@ last-line (x ∷ xs) n started s t =
 module _ (l : List ℕ) (byte : ℕ) (bytes : List ℕ) (n : ℕ) (started : Bool) (s : Settings) (t : Table) where
   -- a newline
   after-newline : eqb byte 10 ≡ true → n < 18446744073709551615 →
-      ((st' : Bool) (s' : Settings) (t' : Table) → textFrom 38 (state [] (suc n) st' s' t' true) bytes ≡ transcriptFrom (suc n) st' s' t' (linesFrom [] bytes)) →
+      ((st' : Bool) (s' : Settings) (t' : Table)
+      → textFrom 38 (state [] (suc n) st' s' t' true) bytes ≡ transcriptFrom (suc n) st' s' t' (linesFrom [] bytes))
+      →
       textFrom 38 (state (take 38 l) n started s t true) (byte ∷ bytes) ≡ transcriptFrom n started s t (linesFrom l (byte ∷ bytes))
   unfolding textFrom textByte stepByte linesFrom transcriptFrom
   after-newline e h rest =
@@ -77,17 +82,24 @@ module _ (l : List ℕ) (byte : ℕ) (bytes : List ℕ) (n : ℕ) (started : Boo
       (ap (λ (r : List ℕ). a .text ++ r) (going (a .goes) (suc n) (a .started) (a .settings) (a .left) bytes _ (rest (a .started) (a .settings) (a .left))))
 
   -- any other byte
-  after-other : eqb byte 10 ≡ false → textFrom 38 (state (take 38 (l ++ (byte ∷ []))) n started s t true) bytes ≡ transcriptFrom n started s t (linesFrom (l ++ (byte ∷ [])) bytes) →
+  after-other : eqb byte 10 ≡ false
+      → textFrom 38 (state (take 38 (l ++ (byte ∷ []))) n started s t true) bytes
+      ≡ transcriptFrom n started s t (linesFrom (l ++ (byte ∷ [])) bytes)
+      →
       textFrom 38 (state (take 38 l) n started s t true) (byte ∷ bytes) ≡ transcriptFrom n started s t (linesFrom l (byte ∷ bytes))
   unfolding textFrom textByte stepByte linesFrom
   after-other e rest = rw (e, grown l byte) rest
 
 -- from any place of a line on
-streamed : (l bytes : List ℕ) (n : ℕ) (started : Bool) (s : Settings) (t : Table) → n + length bytes < 18446744073709551615 → textFrom 38 (state (take 38 l) n started s t true) bytes ≡ transcriptFrom n started s t (linesFrom l bytes)
+streamed : (l bytes : List ℕ) (n : ℕ) (started : Bool) (s : Settings) (t : Table)
+    → n + length bytes < 18446744073709551615
+    → textFrom 38 (state (take 38 l) n started s t true) bytes ≡ transcriptFrom n started s t (linesFrom l bytes)
 unfolding textFrom linesFrom
 streamed l [] n started s t h = last-line l n started s t
 streamed l (byte ∷ bytes) n started s t h =
-    cases (λ (b : Bool). textFrom 38 (state (take 38 l) n started s t true) (byte ∷ bytes) ≡ transcriptFrom n started s t (linesFrom l (byte ∷ bytes))) (eqb byte 10)
+    cases (λ (b : Bool).
+    textFrom 38 (state (take 38 l) n started s t true) (byte ∷ bytes)
+    ≡ transcriptFrom n started s t (linesFrom l (byte ∷ bytes))) (eqb byte 10)
     (λ e. after-newline l byte bytes n started s t e (omega arith) (λ st' s' t'. streamed [] bytes (suc n) st' s' t' (omega arith)))
     (λ e. after-other l byte bytes n started s t e (streamed (l ++ (byte ∷ [])) bytes n started s t (omega arith)))
 

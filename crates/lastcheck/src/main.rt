@@ -12,7 +12,8 @@ ghost use Rattle.lastlines.specs.Lastcheck.{unset};
 ghost use Rattle.lastcheck.specs.Run.{counted, longer, lastText};
 ghost use Rattle.lastcheck.specs.Steps.{stateOf, LineTaken, ByteTaken, Finished, silenced, halted, Written, Fed};
 
-// Where a run stands: how many bytes of the present line are kept, its number, whether P came, its settings, whether the run goes on, and how many bytes are to be printed.
+// Where a run stands: how many bytes of the present line are kept, its number, whether P came, its settings, whether
+// the run goes on, and how many bytes are to be printed.
 struct Run {
     kept: usize,
     number: u64,
@@ -157,7 +158,9 @@ fn take_byte(
 ) -> Run
     requires { ⌜ run .kept ≤ length (now line) ⌝ }
     ensures { λ r. ⌜ ByteTaken run byte (now (line .entry)) (table (now (keys .entry)) (now (distances .entry)) (now (weights .entry)) (now (count .entry)))
-        r (now (line .exit)) (table (now (keys .exit)) (now (distances .exit)) (now (weights .exit)) (now (count .exit))) (now (out .entry)) (now (out .exit)) ⌝ }
+        r (now (line .exit))
+        (table (now (keys .exit)) (now (distances .exit)) (now (weights .exit)) (now (count .exit)))
+        (now (out .entry)) (now (out .exit)) ⌝ }
 {
     if !run.going {
         return silent(run);

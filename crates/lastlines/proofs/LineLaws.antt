@@ -56,7 +56,11 @@ module _ (xs ys zs : List Float) where
   unfolding vertexLines
   lines-length zero i = refl
   lines-length (suc n) i =
-      rw (length-append (vertexLine (getD xs i nan) (getD ys i nan) (getD zs i nan)) (vertexLines n (suc i) xs ys zs), vertex-length (getD xs i nan) (getD ys i nan) (getD zs i nan), lines-length n (suc i)) (omega arith)
+      rw (
+        length-append (vertexLine (getD xs i nan) (getD ys i nan) (getD zs i nan)) (vertexLines n (suc i) xs ys zs),
+        vertex-length (getD xs i nan) (getD ys i nan) (getD zs i nan),
+        lines-length n (suc i),
+      ) (omega arith)
 
   pub lines-none : (l : List ℕ) (at : ℕ) → l ≡ sets l at (vertexLines 0 0 xs ys zs)
   unfolding vertexLines
@@ -77,7 +81,14 @@ module _ (xs ys zs : List Float) where
       (l : List ℕ) (at i : ℕ) {m n : List ℕ} → m ≡ sets l at (vertexLines i 0 xs ys zs) →
       n ≡ sets m (at + 29 * i) (vertexLine (getD xs i nan) (getD ys i nan) (getD zs i nan)) → n ≡ sets l at (vertexLines (i + 1) 0 xs ys zs)
   lines-more l at i e f =
-      f ∙ rw (e, lines-step i 0, zero-add i, sets-append l at (vertexLines i 0 xs ys zs) (vertexLine (getD xs i nan) (getD ys i nan) (getD zs i nan)), lines-length i 0)
+      f
+      ∙ rw (
+        e,
+        lines-step i 0,
+        zero-add i,
+        sets-append l at (vertexLines i 0 xs ys zs) (vertexLine (getD xs i nan) (getD ys i nan) (getD zs i nan)),
+        lines-length i 0,
+      )
 
   pub lines-all : (l : List ℕ) (at : ℕ) {i n : ℕ} {m : List ℕ} → m ≡ sets l at (vertexLines i 0 xs ys zs) → i ≡ n → m ≡ sets l at (vertexLines n 0 xs ys zs)
   lines-all l at e f = e ∙ ap (λ (k : ℕ). sets l at (vertexLines k 0 xs ys zs)) f
@@ -171,12 +182,19 @@ module _ (started : Bool) (s : Settings) (t : Table) (rows n m : ℕ) (xs ys zs 
       Prints (after started s t (printedFor a rows xs ys zs) (goesOn a)) (stepped started s (at + 29 * n) true) l o
   unfolding printedFor
   print-done {a} {k} {o} {at} d e f g =
-      let long : at + 29 * n ≡ length (countsLine rows n m ++ vertexLines n 0 xs ys zs) = rw (length-append (countsLine rows n m) (vertexLines n 0 xs ys zs), lines-length xs ys zs n 0, e) in
+      let long : at + 29 * n ≡ length (countsLine rows n m ++ vertexLines n 0 xs ys zs) =
+      rw (length-append (countsLine rows n m) (vertexLines n 0 xs ys zs), lines-length xs ys zs n 0, e) in
       let place : 0 + length (countsLine rows n m) ≡ at = omega arith in
-      rw d (record { answer = ap (λ (j : ℕ). stepped started s j true) long; text = g ∙ rw (f, sets-append l 0 (countsLine rows n m) (vertexLines n 0 xs ys zs), place) })
+      rw d (record {
+        answer = ap (λ (j : ℕ). stepped started s j true) long;
+        text = g ∙ rw (f, sets-append l 0 (countsLine rows n m) (vertexLines n 0 xs ys zs), place);
+      })
 
 pub print-refused :
-    (started : Bool) (s : Settings) (t : Table) (rows : ℕ) (xs ys zs : List Float) (why : Refusal) {a : Meshed} {r : Stepped} {l o : List ℕ} → a ≡ meshed.Refused why →
+    (started : Bool) (s : Settings) (t : Table) (rows : ℕ) (xs ys zs : List Float) (why : Refusal) {a : Meshed}
+    {r : Stepped} {l o : List ℕ}
+    → a ≡ meshed.Refused why
+    →
     Prints (after started s t (refusedLine why) false) r l o → Prints (after started s t (printedFor a rows xs ys zs) (goesOn a)) r l o
 unfolding printedFor
 print-refused started s t rows xs ys zs why e p = rw e p
@@ -242,7 +260,8 @@ module _ (started : Bool) (s : Settings) (t : Table) where
   reading-left (fused.Refused why) = refl
 
 -- one line is what its kind does
-module _ (bytes : List ℕ) (n : ℕ) (started : Bool) (s : Settings) (t : Table) (l : List ℕ) {f g : Line} (e : f ≡ lineOf bytes) (h : g ≡ placedOf started f) where
+module _ (bytes : List ℕ) (n : ℕ) (started : Bool) (s : Settings) (t : Table) (l : List ℕ) {f g : Line}
+    (e : f ≡ lineOf bytes) (h : g ≡ placedOf started f) where
   one-line : stepOf bytes n started s t ≡ afterLine g n started s t
   unfolding stepOf
   one-line = ap (λ (q : Line). afterLine q n started s t) (sym (h ∙ ap (placedOf started) e))
@@ -273,7 +292,11 @@ module _ (bytes : List ℕ) (n : ℕ) (started : Bool) (s : Settings) (t : Table
   step-settings {w = w} k d p = is-step (rw (k, d)) p (setup-left started s t w)
 
   pub step-reading :
-      {x y z d c : ℕ} {w : Fused} {t' : Table} {r : Stepped} {o : List ℕ} → g ≡ line.Reading x y z d c → outcome w t' ≡ readingOf s t x y z d c → Prints (afterReading w started s t') r l o →
+      {x y z d c : ℕ} {w : Fused} {t' : Table} {r : Stepped} {o : List ℕ}
+      → g ≡ line.Reading x y z d c
+      → outcome w t' ≡ readingOf s t x y z d c
+      → Prints (afterReading w started s t') r l o
+      →
       IsStep (stepOf bytes n started s t) r t' l o
   unfolding afterLine
   step-reading {w = w} {t' = t'} k d p = is-step (rw (k, ← d)) p (reading-left started s t' w)

@@ -47,7 +47,10 @@ split w v k = split-by (16 ^ k) (one-le-pow k 16 (lit< tt)) w v (pow-suc 16 k)
 
 -- k digits of w after others of value v: the line goes on with their value
 hex-back :
-    (k : ℕ) (s : List ℕ) (at v w : ℕ) (rest : List ℕ) → drop at s ≡ hexDigits k w ++ rest → (f : ℕ → Line) → withWord (hexFrom k s at v) f ≡ f (v * 16 ^ k + w % 16 ^ k)
+    (k : ℕ) (s : List ℕ) (at v w : ℕ) (rest : List ℕ)
+    → drop at s ≡ hexDigits k w ++ rest
+    → (f : ℕ → Line)
+    → withWord (hexFrom k s at v) f ≡ f (v * 16 ^ k + w % 16 ^ k)
 unfolding hexFrom hexDigits
 hex-back zero s at v w rest e f = let same : v ≡ v * 16 ^ 0 + w % 16 ^ 0 = omega (arith, mod-one w) in ap f same
 hex-back (suc k) s at v w rest e f =
@@ -74,7 +77,8 @@ settings-back :
 unfolding lineOf settingsLine
 settings-back s a b c p q r ha hb hc first long ea eb ec =
     let ends : endsAt 28 s (Settings a b c) ≡ Settings a b c = rw (eq-eqb (length s) 28 long) in
-    let third : withWord (wordAt s 19) (λ z. endsAt 28 s (Settings a b z)) ≡ Settings a b c = word-back s 19 c r hc ec (λ z. endsAt 28 s (Settings a b z)) ∙ ends in
+    let third : withWord (wordAt s 19) (λ z. endsAt 28 s (Settings a b z)) ≡ Settings a b c =
+    word-back s 19 c r hc ec (λ z. endsAt 28 s (Settings a b z)) ∙ ends in
     let second : withWord (wordAt s 10) (λ w. withWord (wordAt s 19) (λ z. endsAt 28 s (Settings a w z))) ≡ Settings a b c =
     word-back s 10 b q hb eb (λ w. withWord (wordAt s 19) (λ z. endsAt 28 s (Settings a w z))) ∙ third in
     rw first (word-back s 1 a p ha ea (λ t. withWord (wordAt s 10) (λ w. withWord (wordAt s 19) (λ z. endsAt 28 s (Settings t w z)))) ∙ second)
@@ -89,7 +93,8 @@ pub vertex-back :
     lineOf (80 ∷ take 27 (drop 1 (vertexLine x y z))) ≡ Settings (toBits binary32 x) (toBits binary32 y) (toBits binary32 z)
 unfolding vertexLine hexField hexDigits
 vertex-back x y z hx hy hz =
-    settings-back (80 ∷ take 27 (drop 1 (vertexLine x y z))) (toBits binary32 x) (toBits binary32 y) (toBits binary32 z) _ _ _ (bits-fit x hx) (bits-fit y hy) (bits-fit z hz) refl refl refl refl refl
+    settings-back (80 ∷ take 27 (drop 1 (vertexLine x y z))) (toBits binary32 x) (toBits binary32 y) (toBits binary32 z)
+    _ _ _ (bits-fit x hx) (bits-fit y hy) (bits-fit z hz) refl refl refl refl refl
 
 -- the value of decimal digits after others of value v
 unfoldable pub valueOf : ℕ → List ℕ → ℕ

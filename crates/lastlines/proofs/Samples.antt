@@ -43,10 +43,15 @@ inputs =
     ∷ (80 ∷ 32 ∷ 51 ∷ 102 ∷ 56 ∷ 48 ∷ 48 ∷ 48 ∷ 48 ∷ 48 ∷ 32 ∷ 52 ∷ 50 ∷ 99 ∷ 56 ∷ 48 ∷ 48 ∷ 48 ∷ 48 ∷ 32 ∷ 56 ∷ 48 ∷ 48 ∷ 48 ∷ 48 ∷ 48 ∷ 48 ∷ 48 ∷ [])
     ∷ (ready ++ ready)
     ∷ (ready ++ (10 ∷ []))
-    ∷ (ready ++ (68 ∷ 32 ∷ 48 ∷ 32 ∷ 49 ∷ 32 ∷ 48 ∷ 32 ∷ 51 ∷ 101 ∷ 56 ∷ 48 ∷ 48 ∷ 48 ∷ 48 ∷ 48 ∷ 32 ∷ 51 ∷ 102 ∷ 56 ∷ 48 ∷ 48 ∷ 48 ∷ 48 ∷ 48 ∷ 10 ∷ 77 ∷ 10 ∷ []))
+    ∷ (ready
+    ++ (68 ∷ 32 ∷ 48 ∷ 32 ∷ 49 ∷ 32 ∷ 48 ∷ 32 ∷ 51 ∷ 101 ∷ 56 ∷ 48 ∷ 48 ∷ 48 ∷ 48 ∷ 48 ∷ 32 ∷ 51 ∷ 102 ∷ 56 ∷ 48
+    ∷ 48 ∷ 48 ∷ 48 ∷ 48 ∷ 10 ∷ 77 ∷ 10 ∷ []))
     ∷ (ready ++ (68 ∷ 32 ∷ 48 ∷ 32 ∷ 48 ∷ 32 ∷ 48 ∷ 32 ∷ 51 ∷ 101 ∷ 56 ∷ 48 ∷ 48 ∷ 48 ∷ 48 ∷ 48 ∷ 32 ∷ 102 ∷ 102 ∷ 99 ∷ 48 ∷ 48 ∷ 48 ∷ 48 ∷ 48 ∷ 10 ∷ []))
     ∷ (ready ++ (77 ∷ 10 ∷ 88 ∷ []))
-    ∷ (ready ++ (68 ∷ 32 ∷ 49 ∷ 48 ∷ 32 ∷ 49 ∷ 48 ∷ 32 ∷ 49 ∷ 48 ∷ 32 ∷ 51 ∷ 101 ∷ 56 ∷ 48 ∷ 48 ∷ 48 ∷ 48 ∷ 48 ∷ 32 ∷ 51 ∷ 102 ∷ 56 ∷ 48 ∷ 48 ∷ 48 ∷ 48 ∷ 48 ∷ 10 ∷ 68 ∷ 32 ∷ 49 ∷ 49 ∷ 32 ∷ 49 ∷ 49 ∷ 32 ∷ 49 ∷ 49 ∷ 32 ∷ 98 ∷ 101 ∷ 56 ∷ 48 ∷ 48 ∷ 48 ∷ 48 ∷ 48 ∷ 32 ∷ 51 ∷ 102 ∷ 56 ∷ 48 ∷ 48 ∷ 48 ∷ 48 ∷ 48 ∷ 10 ∷ 77 ∷ 10 ∷ []))
+    ∷ (ready
+    ++ (68 ∷ 32 ∷ 49 ∷ 48 ∷ 32 ∷ 49 ∷ 48 ∷ 32 ∷ 49 ∷ 48 ∷ 32 ∷ 51 ∷ 101 ∷ 56 ∷ 48 ∷ 48 ∷ 48 ∷ 48 ∷ 48 ∷ 32 ∷ 51
+    ∷ 102 ∷ 56 ∷ 48 ∷ 48 ∷ 48 ∷ 48 ∷ 48 ∷ 10 ∷ 68 ∷ 32 ∷ 49 ∷ 49 ∷ 32 ∷ 49 ∷ 49 ∷ 32 ∷ 49 ∷ 49 ∷ 32 ∷ 98 ∷ 101
+    ∷ 56 ∷ 48 ∷ 48 ∷ 48 ∷ 48 ∷ 48 ∷ 32 ∷ 51 ∷ 102 ∷ 56 ∷ 48 ∷ 48 ∷ 48 ∷ 48 ∷ 48 ∷ 10 ∷ 77 ∷ 10 ∷ []))
     ∷ []
 
 pub samples :
@@ -59,8 +64,19 @@ pub samples :
     ∷ (98 ∷ 97 ∷ 100 ∷ 32 ∷ 50 ∷ 10 ∷ [])
     ∷ (114 ∷ 101 ∷ 102 ∷ 117 ∷ 115 ∷ 101 ∷ 100 ∷ 32 ∷ 52 ∷ 10 ∷ [])
     ∷ (114 ∷ 101 ∷ 102 ∷ 117 ∷ 115 ∷ 101 ∷ 100 ∷ 32 ∷ 53 ∷ 10 ∷ [])
-    ∷ (114 ∷ 111 ∷ 119 ∷ 115 ∷ 32 ∷ 48 ∷ 32 ∷ 101 ∷ 100 ∷ 103 ∷ 101 ∷ 115 ∷ 32 ∷ 48 ∷ 32 ∷ 116 ∷ 114 ∷ 105 ∷ 97 ∷ 110 ∷ 103 ∷ 108 ∷ 101 ∷ 115 ∷ 32 ∷ 48 ∷ 10 ∷ 98 ∷ 97 ∷ 100 ∷ 32 ∷ 51 ∷ 10 ∷ [])
-    ∷ (114 ∷ 111 ∷ 119 ∷ 115 ∷ 32 ∷ 50 ∷ 32 ∷ 101 ∷ 100 ∷ 103 ∷ 101 ∷ 115 ∷ 32 ∷ 49 ∷ 32 ∷ 116 ∷ 114 ∷ 105 ∷ 97 ∷ 110 ∷ 103 ∷ 108 ∷ 101 ∷ 115 ∷ 32 ∷ 48 ∷ 10 ∷ 118 ∷ 32 ∷ 52 ∷ 49 ∷ 50 ∷ 56 ∷ 48 ∷ 48 ∷ 48 ∷ 48 ∷ 32 ∷ 52 ∷ 49 ∷ 50 ∷ 56 ∷ 48 ∷ 48 ∷ 48 ∷ 48 ∷ 32 ∷ 52 ∷ 49 ∷ 50 ∷ 56 ∷ 48 ∷ 48 ∷ 48 ∷ 48 ∷ 10 ∷ [])
+    ∷ (114 ∷ 111 ∷ 119 ∷ 115 ∷ 32 ∷ 48 ∷ 32 ∷ 101 ∷ 100 ∷ 103 ∷ 101 ∷ 115 ∷ 32 ∷ 48 ∷ 32 ∷ 116 ∷ 114 ∷ 105 ∷ 97 ∷ 110
+    ∷ 103 ∷ 108 ∷ 101 ∷ 115 ∷ 32 ∷ 48 ∷ 10 ∷ 98 ∷ 97 ∷ 100 ∷ 32 ∷ 51 ∷ 10 ∷ [])
+    ∷ (114 ∷ 111 ∷ 119 ∷ 115 ∷ 32 ∷ 50 ∷ 32 ∷ 101 ∷ 100 ∷ 103 ∷ 101 ∷ 115 ∷ 32 ∷ 49 ∷ 32 ∷ 116 ∷ 114 ∷ 105 ∷ 97 ∷ 110
+    ∷ 103 ∷ 108 ∷ 101 ∷ 115 ∷ 32 ∷ 48 ∷ 10 ∷ 118 ∷ 32 ∷ 52 ∷ 49 ∷ 50 ∷ 56 ∷ 48 ∷ 48 ∷ 48 ∷ 48 ∷ 32 ∷ 52 ∷ 49 ∷ 50
+    ∷ 56 ∷ 48 ∷ 48 ∷ 48 ∷ 48 ∷ 32 ∷ 52 ∷ 49 ∷ 50 ∷ 56 ∷ 48 ∷ 48 ∷ 48 ∷ 48 ∷ 10 ∷ [])
     ∷ []
-unfolding trailingZeros span climb size odd units round neg sum add sub mul div lt eq le ne ofInt ofFields ofBits toBits nanBits digitValue hexValue hexFrom wordAt digitsFrom numberAt settingsLine readingLine lineOf hexDigits hexField decimalFrom countsLine vertexLine badLine refusedLine sameParity respaced morton padded joined kept insert place risesFrom ascending next find beside rowsOk need tableCheck put relaid fusedVoxel voxelAt hasPlace stored fusedNear fusedIf fuseIf fuse admitIf admitted edgesTo edges stored-edges crossing offsets inside reachedFrom shown neighboursBy distanceAt distanceOf-vertices orZero partOf-vertices vertexOf vertexAt paired cellSpan cellEdges numbersFrom gathered withThird withTwo threes twosOf threesOf meshCheck meshedIf meshAnswer heldIn placedOf givenOf testedAs settingsFrom setupOf cellOf takenOf fusedAs readingOf vertexLines printedFor meshText afterSetup afterReading afterMesh afterLine stepOf transcriptFrom unended linesFrom transcript
+unfolding trailingZeros span climb size odd units round neg sum add sub mul div lt eq le ne ofInt ofFields ofBits toBits
+    nanBits digitValue hexValue hexFrom wordAt digitsFrom numberAt settingsLine readingLine lineOf hexDigits hexField
+    decimalFrom countsLine vertexLine badLine refusedLine sameParity respaced morton padded joined kept insert place
+    risesFrom ascending next find beside rowsOk need tableCheck put relaid fusedVoxel voxelAt hasPlace stored fusedNear
+    fusedIf fuseIf fuse admitIf admitted edgesTo edges stored-edges crossing offsets inside reachedFrom shown neighboursBy
+    distanceAt distanceOf-vertices orZero partOf-vertices vertexOf vertexAt paired cellSpan cellEdges numbersFrom gathered
+    withThird withTwo threes twosOf threesOf meshCheck meshedIf meshAnswer heldIn placedOf givenOf testedAs settingsFrom
+    setupOf cellOf takenOf fusedAs readingOf vertexLines printedFor meshText afterSetup afterReading afterMesh afterLine
+    stepOf transcriptFrom unended linesFrom transcript
 samples = refl

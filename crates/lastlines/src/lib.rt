@@ -251,7 +251,9 @@ fn print_mesh(
     out: &mut [u8],
 ) -> Stepped
     requires { ⌜ (edgesIn meshed ≤ 512) × (length (now xs) ≡ 512) × (length (now ys) ≡ 512) × (length (now zs) ≡ 512) ⌝ }
-    ensures { λ r. ⌜ ((t : Table) → Prints (after started settings t (printedFor meshed rows (now (xs .entry)) (now (ys .entry)) (now (zs .entry))) (goesOn meshed)) r (now (out .entry)) (now (out .exit))) ⌝ }
+    ensures { λ r. ⌜ ((t : Table)
+        → Prints (after started settings t (printedFor meshed rows (now (xs .entry)) (now (ys .entry)) (now (zs .entry)))
+        (goesOn meshed)) r (now (out .entry)) (now (out .exit))) ⌝ }
 {
     match meshed {
         Meshed::Done(edges, triangles) => {
@@ -278,7 +280,9 @@ fn print_surface(
     count: usize,
     out: &mut [u8],
 ) -> Stepped
-    ensures { λ r. ⌜ Prints (afterMesh started settings (table (now (keys .entry)) (now (distances .entry)) (now (weights .entry)) count)) r (now (out .entry)) (now (out .exit)) ⌝ }
+    ensures { λ r. ⌜ Prints (afterMesh started settings
+        (table (now (keys .entry)) (now (distances .entry)) (now (weights .entry)) count)) r (now (out .entry))
+        (now (out .exit)) ⌝ }
 {
     let mut first = [0u64; 512];
     let mut second = [0u64; 512];
@@ -326,7 +330,8 @@ pub fn take_line(
     count: &mut usize,
     out: &mut [u8],
 ) -> Stepped
-    ensures { λ r. ⌜ IsStep (stepOf (now (line .entry)) number started settings (table (now (keys .entry)) (now (distances .entry)) (now (weights .entry)) (now (count .entry))))
+    ensures { λ r. ⌜ IsStep (stepOf (now (line .entry)) number started settings
+        (table (now (keys .entry)) (now (distances .entry)) (now (weights .entry)) (now (count .entry))))
         r (table (now (keys .exit)) (now (distances .exit)) (now (weights .exit)) (now (count .exit))) (now (out .entry)) (now (out .exit)) ⌝ }
 {
     match placed(started, lines::line_of(line)) {

@@ -82,7 +82,10 @@ module _ (s : List ℕ) (long : 37 < length s) where
   pub long-bad : lineOf s ≡ Bad
   unfolding lineOf
   long-bad =
-      cases (λ (b : Bool). cond b (settingsLine s) (cond (eqb (getD s 0 0) 68) (readingLine s) (cond (eqb (getD s 0 0) 77) (endsAt 1 s Mesh) Bad)) ≡ Bad) (eqb (getD s 0 0) 80)
+      cases (λ (b : Bool).
+      cond b (settingsLine s)
+      (cond (eqb (getD s 0 0) 68) (readingLine s) (cond (eqb (getD s 0 0) 77) (endsAt 1 s Mesh) Bad)) ≡ Bad)
+      (eqb (getD s 0 0) 80)
       (λ e. long-settings)
       (λ e.
       cases (λ (b : Bool). cond b (readingLine s) (cond (eqb (getD s 0 0) 77) (endsAt 1 s Mesh) Bad) ≡ Bad) (eqb (getD s 0 0) 68)

@@ -30,7 +30,10 @@ module _ {A : Type 0} (v : A) where
   refused-held why l xs = cleared-whole v l
 
   -- one list, written from the front and then cleared from its count
-  pub written-held : (l xs : List A) (n : ℕ) (l' : List A) → n ≡ length xs → l' ≡ sets l 0 xs → clearedFrom v (countOf (roomFor n (length l))) l' ≡ heldFor v (roomFor n (length l)) (length l) xs
+  pub written-held : (l xs : List A) (n : ℕ) (l' : List A)
+      → n ≡ length xs
+      → l' ≡ sets l 0 xs
+      → clearedFrom v (countOf (roomFor n (length l))) l' ≡ heldFor v (roomFor n (length l)) (length l) xs
   unfolding heldFor padded
   written-held l xs n l' e w =
       let long : length l' ≡ length l = ap length w ∙ length-sets l 0 xs in

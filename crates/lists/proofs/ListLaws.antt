@@ -113,9 +113,13 @@ module _ {A : Type 0} (R : A → A → Type 0) where
       ⊎-elim (λ e. e) (λ i. ⊎-elim (λ e. sym e) (λ j. absurd (asym x y (o .0 y j) (q .0 x i))) (List·Memᴰ·cases-cons (from y (List·Memᴰ·head refl))))
       (List·Memᴰ·cases-cons (to x (List·Memᴰ·head refl))) in
       let ahead : (z : A) → z ∈ xs → z ∈ ys =
-      λ z m. ⊎-elim (λ e. let r : R x x = subst (R x) (e ∙ sym same) (o .0 z m) in absurd (asym x x r r)) (λ t. t) (List·Memᴰ·cases-cons (to z (List·Memᴰ·tail m))) in
+      λ z m.
+      ⊎-elim (λ e. let r : R x x = subst (R x) (e ∙ sym same) (o .0 z m) in absurd (asym x x r r)) (λ t. t)
+      (List·Memᴰ·cases-cons (to z (List·Memᴰ·tail m))) in
       let back : (z : A) → z ∈ ys → z ∈ xs =
-      λ z m. ⊎-elim (λ e. let r : R y y = subst (R y) (e ∙ same) (q .0 z m) in absurd (asym y y r r)) (λ t. t) (List·Memᴰ·cases-cons (from z (List·Memᴰ·tail m))) in
+      λ z m.
+      ⊎-elim (λ e. let r : R y y = subst (R y) (e ∙ same) (q .0 z m) in absurd (asym y y r r)) (λ t. t)
+      (List·Memᴰ·cases-cons (from z (List·Memᴰ·tail m))) in
       rw (one-order asym xs ys (o .1) (q .1) ahead back) (ap {B = List A} (λ a. a ∷ ys) same)
 
 module _ {A B : Type 0} (R : B → B → Type 0) where
@@ -128,7 +132,10 @@ module _ {A B : Type 0} (R : B → B → Type 0) where
   )
 
   -- each part is in order, and what an earlier element gives comes before what a later one gives
-  pub joined-ordered : (f : A → List B) (l : List A) → ((x : A) → x ∈ l → Ordered R (f x)) → Ordered (λ x y. (u v : B) → u ∈ f x → v ∈ f y → R u v) l → Ordered R (joined f l)
+  pub joined-ordered : (f : A → List B) (l : List A)
+      → ((x : A) → x ∈ l → Ordered R (f x))
+      → Ordered (λ x y. (u v : B) → u ∈ f x → v ∈ f y → R u v) l
+      → Ordered R (joined f l)
   unfolding Ordered joined
   joined-ordered f [] each o = tt
   joined-ordered f (x ∷ xs) each o =
@@ -148,7 +155,10 @@ module _ {A : Type 0} where
   pub ahead-ordered : (l : List A) → Ordered (Ahead l) l
   unfolding Ordered Ahead
   ahead-ordered [] = tt
-  ahead-ordered (x ∷ xs) = (λ y m. inl (refl, m), ordered-weaken (Ahead xs) (λ u v. ((u ≡ x) × (v ∈ xs)) ⊎ Ahead xs u v) xs (λ u v p q r. inr r) (ahead-ordered xs))
+  ahead-ordered (x ∷ xs) = (
+    λ y m. inl (refl, m),
+    ordered-weaken (Ahead xs) (λ u v. ((u ≡ x) × (v ∈ xs)) ⊎ Ahead xs u v) xs (λ u v p q r. inr r) (ahead-ordered xs),
+  )
 
   -- where no element stands twice, of two only one comes first
   pub ahead-asym : (l : List A) → Distinct l → (x y : A) → Ahead l x y → Ahead l y x → ⊥
@@ -189,7 +199,11 @@ without {B} (x ∷ xs) {y} i =
     (List·Memᴰ·cases-cons i)
 
 -- Elements that stand for others, no two for the same, are no more than those.
-pub no-more : {A B : Type 0} (R : A → B → Type 0) (l : List A) (m : List B) → Distinct l → ((x : A) → x ∈ l → (y : B) × (y ∈ m) × R x y) → ((x x' : A) (y : B) → R x y → R x' y → x ≡ x') → length l ≤ length m
+pub no-more : {A B : Type 0} (R : A → B → Type 0) (l : List A) (m : List B)
+    → Distinct l
+    → ((x : A) → x ∈ l → (y : B) × (y ∈ m) × R x y)
+    → ((x x' : A) (y : B) → R x y → R x' y → x ≡ x')
+    → length l ≤ length m
 unfolding Ordered
 no-more R [] m d for one = zero-le
 no-more {A} {B} R (x ∷ xs) m d for one =

@@ -31,7 +31,13 @@ module _ {A : Type 0} (v : A) where
   cleared-more n i l h k =
       let long : length (take n l ++ replicate (i - n) v) ≡ i = simp (length-append, length-take, length-replicate) (omega arith) in
       let one-more : suc i - n ≡ (i - n) + 1 = omega arith in
-      rw (drop-cons l i v k, set-at (take n l ++ replicate (i - n) v) (getD l i v) (drop (suc i) l) v i long, one-more, ← replicate-append-replicate (i - n) 1 v, ← append-assoc (take n l) (replicate (i - n) v) (v ∷ []))
+      rw (
+        drop-cons l i v k,
+        set-at (take n l ++ replicate (i - n) v) (getD l i v) (drop (suc i) l) v i long,
+        one-more,
+        ← replicate-append-replicate (i - n) 1 v,
+        ← append-assoc (take n l) (replicate (i - n) v) (v ∷ []),
+      )
       (sym (append-snoc (take n l ++ replicate (i - n) v) v (drop (suc i) l)))
 
   pub cleared-all : (n i : ℕ) (l : List A) → n ≤ i → length l ≤ i → i ≤ max n (length l) → cleared n i l ≡ clearedFrom v n l

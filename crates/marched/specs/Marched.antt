@@ -77,4 +77,6 @@ freeCheck t k threshold = marchedThen t (need (onLattice k) OffLattice (need (is
 -- 2, of the lists to be filled too, 3 and 5
 unfoldable pub listCheck : MarchedTable → Bool → Float → Checked
 unfolding need
-listCheck t fit threshold = need (marchedLengthsOk (length (t .keys)) (length (t .distances)) (t .count)) Lengths (need fit Lengths (need (marchedOk t) BadRow (need (isFinite threshold) BadReading Passed)))
+listCheck t fit threshold =
+    need (marchedLengthsOk (length (t .keys)) (length (t .distances)) (t .count)) Lengths
+    (need fit Lengths (need (marchedOk t) BadRow (need (isFinite threshold) BadReading Passed)))

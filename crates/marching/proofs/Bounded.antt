@@ -41,7 +41,9 @@ unfolding settled ofBits isNan
 settled-within f rs k h = clamped-within _ (f .most) (settling-number f rs k 0 largest (f .near k) refl) h
 
 -- every marched row is a seed, or at most the maximum distance in size
-pub march-within : (f : Field) (m : Rooms) (rs : List MarchedRow) → le zero32 (f .most) ≡ true → After (λ s. All (λ (r : MarchedRow). (r ∈ rs) ⊎ (within (f .most) (r .distance) ≡ true)) (s .stored)) (march f m rs)
+pub march-within : (f : Field) (m : Rooms) (rs : List MarchedRow)
+    → le zero32 (f .most) ≡ true
+    → After (λ s. All (λ (r : MarchedRow). (r ∈ rs) ⊎ (within (f .most) (r .distance) ≡ true)) (s .stored)) (march f m rs)
 march-within f m rs h =
     march-rows f m (λ k. Unit) (λ (r : MarchedRow). (r ∈ rs) ⊎ (within (f .most) (r .distance) ≡ true))
     (λ k u. every (λ k. Unit) (f .near k) (λ x. tt))

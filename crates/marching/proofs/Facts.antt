@@ -44,8 +44,10 @@ unfolding rowsOk All
 rows-fit most [] h = tt
 rows-fit most (r ∷ rs) h =
     let a = and-first (rowOk most (r .key) (r .distance) (r .weight)) (rowsOk most rs) h in
-    let b = and-second (onLattice (r .key)) _ a in
-    ((and-first (onLattice (r .key)) _ a, and-first (within million (r .distance)) _ b), rows-fit most rs (and-second (rowOk most (r .key) (r .distance) (r .weight)) (rowsOk most rs) h))
+    let b = and-second (onLattice (r .key)) _ a in (
+      (and-first (onLattice (r .key)) _ a, and-first (within million (r .distance)) _ b),
+      rows-fit most rs (and-second (rowOk most (r .key) (r .distance) (r .weight)) (rowsOk most rs) h),
+    )
 
 record Accepted (s : Settings) (t : Table) : Type 0 where
   size : positiveTo thousand (s .«voxel_size» .0) ≡ true
@@ -60,8 +62,14 @@ accepted s t e =
     let b = need-passed (lengthsOk (length (t .keys)) (length (t .distances)) (length (t .weights)) (t .count)) Lengths _ (a .1) in
     let c = need-passed (tableOk (s .«max_weight») t) BadRow _ (b .1) .0 in
     let l = lengths-known _ _ _ _ (b .0) in
-    let w = and-second (positiveTo million (s .«max_weight»)) (positiveTo thousand (s .«voxel_size» .0) && farthestOk (s .«max_distance» .0)) (and-second (positiveTo thousand (s .truncation .0)) _ (a .0)) in
-    let z = and-first (between zero32 million (s .«max_distance» .0)) (not (eqb (toBits binary32 (s .«max_distance» .0)) 0x8000_0000)) (and-second (positiveTo thousand (s .«voxel_size» .0)) (farthestOk (s .«max_distance» .0)) w) in
+    let w =
+    and-second (positiveTo million (s .«max_weight»))
+    (positiveTo thousand (s .«voxel_size» .0) && farthestOk (s .«max_distance» .0))
+    (and-second (positiveTo thousand (s .truncation .0)) _ (a .0)) in
+    let z =
+    and-first (between zero32 million (s .«max_distance» .0))
+    (not (eqb (toBits binary32 (s .«max_distance» .0)) 0x8000_0000))
+    (and-second (positiveTo thousand (s .«voxel_size» .0)) (farthestOk (s .«max_distance» .0)) w) in
     record {
       size = and-first (positiveTo thousand (s .«voxel_size» .0)) _ w;
       most = (and-first (le zero32 (s .«max_distance» .0)) _ z, and-second (le zero32 (s .«max_distance» .0)) _ z);
@@ -88,7 +96,9 @@ module _ (size most : Float) (p : positiveTo thousand size ≡ true) where
   sure : (d : Float) → Small 1000000 d → Sure (lattice size most) d
   sure d h k i =
       let u = plain-positive size (and-first (lt zero32 size) (le size thousand) p) in
-      said-small size (lengthAt i) d u (small-below size thousand 1000 u (and-second (lt zero32 size) (le size thousand) p) small-thousand) (length-plain i) (length-small i) h
+      said-small size (lengthAt i) d u
+      (small-below size thousand 1000 u (and-second (lt zero32 size) (le size thousand) p) small-thousand)
+      (length-plain i) (length-small i) h
 
   settled-sure :
       (le zero32 most ≡ true) × (le most million ≡ true)
@@ -96,7 +106,9 @@ module _ (size most : Float) (p : positiveTo thousand size ≡ true) where
       → Sure (lattice size most) (settled (lattice size most) ts k)
   settled-sure q ts k =
       sure (settled (lattice size most) ts k)
-      (small-within (settled (lattice size most) ts k) most 1000000 (sym (within-size most (settled (lattice size most) ts k)) ∙ settled-within (lattice size most) ts k (q .0)) (small-most most (q .0) (q .1)))
+      (small-within (settled (lattice size most) ts k) most 1000000
+      (sym (within-size most (settled (lattice size most) ts k)) ∙ settled-within (lattice size most) ts k (q .0))
+      (small-most most (q .0) (q .1)))
 
 -- ---- the promises
 
@@ -115,9 +127,20 @@ module _ (st : Settings) (t : Table) (m : Rooms) (threshold : Float) (s : State)
       record {
         empty = h .empty;
         ascends = h .sound .ascends;
-        lattice = after-on (λ (s : State). All (λ (r : MarchedRow). onLattice (r .key) ≡ true) (s .stored)) g s (lattice-keeps size most m threshold (rows t) (all-map Fit (λ (r : Row). onLattice (r .key) ≡ true) (rows t) (λ r f. f .0) (a .fit))) e;
-        within = after-on (λ (s : State). All (λ (r : MarchedRow). (r ∈ seeds threshold (rows t)) ⊎ (within most (r .distance) ≡ true)) (s .stored)) g s (march-within (lattice size most) m (seeds threshold (rows t)) (a .most .0)) e;
-        said = after-on (λ (s : State). All (λ (r : MarchedRow). (r ∈ seeds threshold (rows t)) ⊎ From (lattice size most) (s .stored) r) (s .stored)) g s (march-said (lattice size most) m back (settled-sure size most (a .size) (a .most)) (seeds threshold (rows t)) (seeds-sure a)) e;
+        lattice =
+            after-on (λ (s : State). All (λ (r : MarchedRow). onLattice (r .key) ≡ true) (s .stored)) g s
+            (lattice-keeps size most m threshold (rows t)
+            (all-map Fit (λ (r : Row). onLattice (r .key) ≡ true) (rows t) (λ r f. f .0) (a .fit))) e;
+        within =
+            after-on (λ (s : State).
+            All (λ (r : MarchedRow). (r ∈ seeds threshold (rows t)) ⊎ (within most (r .distance) ≡ true))
+            (s .stored)) g s (march-within (lattice size most) m (seeds threshold (rows t)) (a .most .0)) e;
+        said =
+            after-on (λ (s : State).
+            All (λ (r : MarchedRow). (r ∈ seeds threshold (rows t)) ⊎ From (lattice size most) (s .stored) r)
+            (s .stored)) g s
+            (march-said (lattice size most) m back (settled-sure size most (a .size) (a .most))
+            (seeds threshold (rows t)) (seeds-sure a)) e;
         takings = takings-few m (s .takings) s (h .sound) .0;
         fits = h .sound .rowsFit;
       }
@@ -126,4 +149,7 @@ module _ (st : Settings) (t : Table) (m : Rooms) (threshold : Float) (s : State)
       seeds-sure a =
           seeds-all threshold (λ (r : MarchedRow). Sure (lattice size most) (r .distance)) (rows t)
           (all-map Fit (λ (r : Row). Sure (lattice size most) (r .distance)) (rows t)
-          (λ r f. sure size most (a .size) (r .distance) (small-within (r .distance) million 1000000 (sym (within-size million (r .distance)) ∙ f .1) small-million)) (a .fit))
+          (λ r f.
+          sure size most (a .size) (r .distance)
+          (small-within (r .distance) million 1000000 (sym (within-size million (r .distance)) ∙ f .1)
+          small-million)) (a .fit))

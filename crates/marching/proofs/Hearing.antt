@@ -71,7 +71,9 @@ distance-grows n r [] {d} o h = absurd (let z : _≡_ {A = ℕ} 0 1 = cc in omeg
 distance-grows n r (s ∷ rs) {d} o h =
     cases (λ (b : Bool). distanceOf n (cond b (s ∷ insert rowBefore r rs) (r ∷ (s ∷ rs))) ≡ some d) (ltb (s .key) (r .key))
     (λ e.
-    cases (λ (b : Bool). cond b (some (s .distance)) (distanceOf n rs) ≡ some d → cond b (some (s .distance)) (distanceOf n (insert rowBefore r rs)) ≡ some d) (eqb (s .key) n)
+    cases (λ (b : Bool).
+    cond b (some (s .distance)) (distanceOf n rs) ≡ some d
+    → cond b (some (s .distance)) (distanceOf n (insert rowBefore r rs)) ≡ some d) (eqb (s .key) n)
     (λ f g. g) (λ f g. distance-grows n r rs (or-second (eqb (s .key) (r .key)) (isStored (r .key) rs) o) g) h)
     (λ e.
     cases (λ (b : Bool). eqb (r .key) n ≡ b → cond b (some (r .distance)) (distanceOf n (s ∷ rs)) ≡ some d) (eqb (r .key) n)
@@ -120,7 +122,9 @@ settling-said f rs k p (n ∷ ns) l i h a = one (distanceOf n rs) refl (λ j. se
         → (l ∈ ns → Said f rs k (suc p) ns (settling f rs k (suc p) largest ns))
         → Said f rs k p (n ∷ ns) (settling f rs k (suc p) (heard (f .size) (f .reach k p) largest o) ns)
     one none e later =
-        inr (later (⊎-elim (λ (q : l ≡ n). absurd (true≢false (sym h ∙ ap (λ (x : ℕ). isStored x rs) q ∙ no-distance n rs e))) (λ j. j) (List·Memᴰ·cases-cons i)))
+        inr (later (⊎-elim (λ (q : l ≡ n).
+        absurd (true≢false (sym h ∙ ap (λ (x : ℕ). isStored x rs) q ∙ no-distance n rs e))) (λ j. j)
+        (List·Memᴰ·cases-cons i)))
     one (some d) e later =
         let c = candidate (f .size) (f .reach k p) d in
         let w : lt (sizeOf c) (sizeOf largest) ≡ true = at-distance (Sure f) n rs e a k p in
@@ -169,7 +173,8 @@ module _ (f : Field) (m : Rooms) (back : (k l : ℕ) → l ∈ f .near k → k �
       → All (λ (c : Cell). Beside f rs (c .key)) cs
       → All (λ (c : Cell). Beside f (insert rowBefore r rs) (c .key)) cs
   beside-grows r rs cs a =
-      all-map (λ (c : Cell). Beside f rs (c .key)) (λ (c : Cell). Beside f (insert rowBefore r rs) (c .key)) cs (λ c b. (b .0, (b .1 .0, stored-grows (b .0) r rs (b .1 .1)))) a
+      all-map (λ (c : Cell). Beside f rs (c .key)) (λ (c : Cell). Beside f (insert rowBefore r rs) (c .key)) cs
+      (λ c b. (b .0, (b .1 .0, stored-grows (b .0) r rs (b .1 .1)))) a
 
   store-on :
       (r : MarchedRow) (s : State)
@@ -224,7 +229,14 @@ module _ (f : Field) (m : Rooms) (back : (k l : ℕ) → l ∈ f .near k → k �
         let ts = insert rowBefore r (s .stored) in
         after-then Begun Begun (sow (f .near) m r s) _
         (after-weaken (WaitOn ts) Begun (sow (f .near) m r s)
-        (λ t w. record { rows = rw (w .rows) (insert-all rowBefore r (λ (x : MarchedRow). (x ∈ rs₀) × Sure f (x .distance)) (s .stored) (a .0) (h .rows)); cells = rw (w .rows) (w .cells) })
+        (λ t w.
+        record {
+          rows =
+              rw (w .rows)
+              (insert-all rowBefore r (λ (x : MarchedRow). (x ∈ rs₀) × Sure f (x .distance)) (s .stored) (a .0)
+              (h .rows));
+          cells = rw (w .rows) (w .cells);
+        })
         (after-then (WaitOn ts) (WaitOn ts) (store (m .rows) r s) _ (store-on r s (h .cells)) (λ t w. waitAll-on ts _ _ t (near-beside r (s .stored)) w)))
         (λ t u. sowAll-begun rs t (a .1) u)
 
@@ -267,7 +279,8 @@ module _ (f : Field) (m : Rooms) (back : (k l : ℕ) → l ∈ f .near k → k �
         (fine-on ts
         (insert-all rowBefore r (Good ts) (s .stored) (inr (settled-from (s .stored) k b (h .sure) o)) (good-grows r (s .stored) o (h .rows)))
         (insert-all rowBefore r (λ (x : MarchedRow). Sure f (x .distance)) (s .stored) (new (s .stored) k) (h .sure)))
-        (after-then (WaitOn ts) (WaitOn ts) (store (m .rows) r s) (spread f (m .cells) r) (store-on r s (h .cells)) (λ t w. spread-on ts r t (near-beside r (s .stored)) w)))
+        (after-then (WaitOn ts) (WaitOn ts) (store (m .rows) r s) (spread f (m .cells) r) (store-on r s (h .cells))
+        (λ t w. spread-on ts r t (near-beside r (s .stored)) w)))
 
     taking-fine : (cs : List Cell) (s : State) → All (λ (c : Cell). Beside f (s .stored) (c .key)) cs → Fine s → After Fine (taking f m cs s)
     unfolding taking After All

@@ -22,7 +22,9 @@ module _ {A : Type 0} (before : A → A → Bool) (x : A) where
     unfolding insert member
     insert-member k [] = refl
     insert-member k (y ∷ ys) =
-        cases (λ (b : Bool). member k (map key (cond b (y ∷ insert before x ys) (x ∷ (y ∷ ys)))) ≡ eqb (key x) k || (eqb (key y) k || member k (map key ys))) (before y x)
+        cases (λ (b : Bool).
+        member k (map key (cond b (y ∷ insert before x ys) (x ∷ (y ∷ ys))))
+        ≡ eqb (key x) k || (eqb (key y) k || member k (map key ys))) (before y x)
         (λ e. rw (insert-member k ys) (or-swap (eqb (key y) k) (eqb (key x) k) (member k (map key ys)))) (λ e. refl)
 
     pub insert-once : (l : List A) → member (key x) (map key l) ≡ false → Once (map key l) → Once (map key (insert before x l))

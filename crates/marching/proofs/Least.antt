@@ -86,7 +86,13 @@ earlier-asym a b k l h =
     second false y p = absurd (false≢true p)
 
 -- fractions a / p, b / q, c / r
-earlier-trans : (a p b q c r k l m : ℕ) → 0 < p → 0 < q → 0 < r → earlier (b * p) (a * q) l k ≡ false → earlier (c * q) (b * r) m l ≡ false → earlier (c * p) (a * r) m k ≡ false
+earlier-trans : (a p b q c r k l m : ℕ)
+    → 0 < p
+    → 0 < q
+    → 0 < r
+    → earlier (b * p) (a * q) l k ≡ false
+    → earlier (c * q) (b * r) m l ≡ false
+    → earlier (c * p) (a * r) m k ≡ false
 earlier-trans a p b q c r k l m P Q R h g =
     let x = not-earlier (b * p) (a * q) l k h in
     let y = not-earlier (c * q) (b * r) m l g in
@@ -125,7 +131,13 @@ pub cell-asym : (c d : Cell) → plain (c .estimate) ≡ true → plain (d .esti
 cell-asym c d p q h = asym (c .estimate) (d .estimate) (c .key) (d .key) p q h
 
 -- y not before x, z not before y
-trans : (x y z : Float) (k l m : ℕ) → plain x ≡ true → plain y ≡ true → plain z ≡ true → lt y x || (eq y x && ltb l k) ≡ false → lt z y || (eq z y && ltb m l) ≡ false → lt z x || (eq z x && ltb m k) ≡ false
+trans : (x y z : Float) (k l m : ℕ)
+    → plain x ≡ true
+    → plain y ≡ true
+    → plain z ≡ true
+    → lt y x || (eq y x && ltb l k) ≡ false
+    → lt z y || (eq z y && ltb m l) ≡ false
+    → lt z x || (eq z x && ltb m k) ≡ false
 unfolding lt eq
 trans nan y z k l m p q r h g = absurd (false≢true p)
 trans (inf true) y z k l m p q r h g = absurd (false≢true p)
@@ -154,11 +166,21 @@ trans (fin false a e) (fin false b d) (inf false) k l m p q r h g = refl
 trans (fin false a e) (fin false b d) (fin false c f) k l m p q r h g =
     earlier-trans (a * up e) (down e) (b * up d) (down d) (c * up f) (down f) k l m (down-pos e) (down-pos d) (down-pos f) h g
 
-pub cell-trans : (c d e : Cell) → plain (c .estimate) ≡ true → plain (d .estimate) ≡ true → plain (e .estimate) ≡ true → cellBefore d c ≡ false → cellBefore e d ≡ false → cellBefore e c ≡ false
+pub cell-trans : (c d e : Cell)
+    → plain (c .estimate) ≡ true
+    → plain (d .estimate) ≡ true
+    → plain (e .estimate) ≡ true
+    → cellBefore d c ≡ false
+    → cellBefore e d ≡ false
+    → cellBefore e c ≡ false
 cell-trans c d e p q r h g = trans (c .estimate) (d .estimate) (e .estimate) (c .key) (d .key) (e .key) p q r h g
 
 -- a cell put among ordered ones keeps the order, so the first stays the least
-pub waiting-sorted : (c : Cell) (cs : List Cell) → plain (c .estimate) ≡ true → All (λ (d : Cell). plain (d .estimate) ≡ true) cs → Sorted cellBefore cs → Sorted cellBefore (insert cellBefore c cs)
+pub waiting-sorted : (c : Cell) (cs : List Cell)
+    → plain (c .estimate) ≡ true
+    → All (λ (d : Cell). plain (d .estimate) ≡ true) cs
+    → Sorted cellBefore cs
+    → Sorted cellBefore (insert cellBefore c cs)
 waiting-sorted c cs p a s = insert-sorted cellBefore (λ (d : Cell). plain (d .estimate) ≡ true) cell-asym cell-trans c cs p a s
 
 -- ---- estimates have no sign
@@ -224,7 +246,9 @@ seeds-plain : (t : Float) (rs : List Row) → All (λ (r : MarchedRow). plain (s
 unfolding seeds All
 seeds-plain t [] = tt
 seeds-plain t (r ∷ rs) =
-    cases (λ (b : Bool). All (λ (r : MarchedRow). plain (sizeOf (r .distance)) ≡ true) (cond b (marchedRow (r .key) (r .distance) ∷ seeds t rs) (seeds t rs))) (isSeed t r)
+    cases (λ (b : Bool).
+    All (λ (r : MarchedRow). plain (sizeOf (r .distance)) ≡ true)
+    (cond b (marchedRow (r .key) (r .distance) ∷ seeds t rs) (seeds t rs))) (isSeed t r)
     (λ e. (size-plain (r .distance) t (and-first _ _ e), seeds-plain t rs))
     (λ e. seeds-plain t rs)
 
@@ -240,7 +264,12 @@ module _ (f : Field) (m : Rooms) (size : plain (f .size) ≡ true) where
   wait-order e k s p h =
       after-cond InOrder (isStored k (s .stored) || waits k (s .waiting)) _ _ (λ _. h)
       (λ _. after-cond InOrder (ltb (length (s .waiting)) (m .cells)) _ _
-      (λ _. record { plain = insert-all cellBefore (cell e k) (λ (c : Cell). plain (c .estimate) ≡ true) (s .waiting) p (h .plain); sorted = waiting-sorted (cell e k) (s .waiting) p (h .plain) (h .sorted) })
+      (λ _.
+      record {
+        plain =
+            insert-all cellBefore (cell e k) (λ (c : Cell). plain (c .estimate) ≡ true) (s .waiting) p (h .plain);
+        sorted = waiting-sorted (cell e k) (s .waiting) p (h .plain) (h .sorted);
+      })
       (λ _. tt))
 
   waitAll-order : (e : Float) (ks : List ℕ) (s : State) → plain e ≡ true → InOrder s → After InOrder (waitAll (m .cells) e ks s)
@@ -252,7 +281,10 @@ module _ (f : Field) (m : Rooms) (size : plain (f .size) ≡ true) where
   unfolding store After
   store-order r s h = after-cond InOrder (ltb (length (s .stored)) (m .rows)) _ _ (λ _. record { plain = h .plain; sorted = h .sorted }) (λ _. tt)
 
-  sowAll-order : (rs : List MarchedRow) (s : State) → All (λ (r : MarchedRow). plain (sizeOf (r .distance)) ≡ true) rs → InOrder s → After InOrder (sowAll (f .near) m rs s)
+  sowAll-order : (rs : List MarchedRow) (s : State)
+      → All (λ (r : MarchedRow). plain (sizeOf (r .distance)) ≡ true) rs
+      → InOrder s
+      → After InOrder (sowAll (f .near) m rs s)
   unfolding sowAll sow After All
   sowAll-order [] s p h = h
   sowAll-order (r ∷ rs) s p h =
@@ -273,7 +305,11 @@ module _ (f : Field) (m : Rooms) (size : plain (f .size) ≡ true) where
       after-cond InOrder (isStored k (s .stored)) _ _ (λ _. h)
       (λ _. after-then InOrder InOrder (store (m .rows) r s) _ (store-order r s h) (λ t u. spread-order r t u))
 
-  taking-order : (cs : List Cell) (s : State) → All (λ (c : Cell). plain (c .estimate) ≡ true) cs → Sorted cellBefore cs → InOrder s → After InOrder (taking f m cs s)
+  taking-order : (cs : List Cell) (s : State)
+      → All (λ (c : Cell). plain (c .estimate) ≡ true) cs
+      → Sorted cellBefore cs
+      → InOrder s
+      → After InOrder (taking f m cs s)
   unfolding taking After All Sorted
   taking-order [] s p o h = h
   taking-order (c ∷ cs) s p o h = visit-order (c .key) _ (record { plain = p .1; sorted = o .1 })
@@ -281,13 +317,16 @@ module _ (f : Field) (m : Rooms) (size : plain (f .size) ≡ true) where
   takeUpTo-order : (n : ℕ) (s : State) → InOrder s → After InOrder (takeUpTo f m n s)
   unfolding takeUpTo After
   takeUpTo-order zero s h = h
-  takeUpTo-order (suc n) s h = after-then InOrder InOrder (taking f m (s .waiting) s) _ (taking-order (s .waiting) s (h .plain) (h .sorted) h) (takeUpTo-order n)
+  takeUpTo-order (suc n) s h =
+      after-then InOrder InOrder (taking f m (s .waiting) s) _ (taking-order (s .waiting) s (h .plain) (h .sorted) h)
+      (takeUpTo-order n)
 
   -- after the seeds and any number of takings
   pub march-order : (t : Float) (rs : List Row) (n : ℕ) → After InOrder (andThen (sowAll (f .near) m (seeds t rs) nothing) (takeUpTo f m n))
   unfolding All Sorted
   march-order t rs n =
-      after-then InOrder InOrder (sowAll (f .near) m (seeds t rs) nothing) _ (sowAll-order (seeds t rs) nothing (seeds-plain t rs) (record { plain = tt; sorted = tt })) (takeUpTo-order n)
+      after-then InOrder InOrder (sowAll (f .near) m (seeds t rs) nothing) _
+      (sowAll-order (seeds t rs) nothing (seeds-plain t rs) (record { plain = tt; sorted = tt })) (takeUpTo-order n)
 
 -- no waiting cell comes before the first: the first is the least (estimate, key)
 pub first-least : (s : State) (c : Cell) (cs : List Cell) → InOrder s → s .waiting ≡ c ∷ cs → All (λ (d : Cell). cellBefore d c ≡ false) cs

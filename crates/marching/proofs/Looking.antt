@@ -44,5 +44,7 @@ pub distance-find : (k : ℕ) (rs : List MarchedRow) → distanceOf k rs ≡ at 
 unfolding distanceOf find at
 distance-find k [] = refl
 distance-find k (r ∷ rs) =
-    cases (λ (b : Bool). cond b (some (r .distance)) (distanceOf k rs) ≡ at (cond b (At 0) (next (find k (keysOf rs)))) (r .distance ∷ distancesOf rs)) (eqb (r .key) k)
+    cases (λ (b : Bool).
+    cond b (some (r .distance)) (distanceOf k rs)
+    ≡ at (cond b (At 0) (next (find k (keysOf rs)))) (r .distance ∷ distancesOf rs)) (eqb (r .key) k)
     (λ e. refl) (λ e. distance-find k rs ∙ sym (at-next (find k (keysOf rs)) (r .distance) (distancesOf rs)))

@@ -12,7 +12,8 @@ use Rattle.lists.proofs.Inserting.{insert-all}
 use Rattle.marching.proofs.Sound.{After, after-then, after-cond, after-weaken}
 
 -- K holds of the keys, and passes from a cell to its neighbours; P holds of the rows
-module _ (f : Field) (m : Rooms) (K : ℕ → Type 0) (P : MarchedRow → Type 0) (near : (k : ℕ) → K k → All K (f .near k)) (new : (rs : List MarchedRow) (k : ℕ) → K k → P (marchedRow k (settled f rs k))) where
+module _ (f : Field) (m : Rooms) (K : ℕ → Type 0) (P : MarchedRow → Type 0) (near : (k : ℕ) → K k → All K (f .near k))
+    (new : (rs : List MarchedRow) (k : ℕ) → K k → P (marchedRow k (settled f rs k))) where
   record Fine (s : State) : Type 0 where
     rows : All P (s .stored)
     cells : All (λ (c : Cell). K (c .key)) (s .waiting)
@@ -51,7 +52,10 @@ module _ (f : Field) (m : Rooms) (K : ℕ → Type 0) (P : MarchedRow → Type 0
       let r = marchedRow k (settled f (s .stored) k) in
       after-cond Fine (isStored k (s .stored)) _ _ (λ _. g)
       (λ _. after-then Fine Fine (store (m .rows) r s) _ (store-fine r s (new (s .stored) k h) g)
-      (λ t u. after-cond Fine (le (onward f (r .distance)) (f .most)) (waitAll (m .cells) (onward f (r .distance)) (f .near k) t) (on t) (λ _. waitAll-fine _ _ t (near k h) u) (λ _. u)))
+      (λ t u.
+      after-cond Fine (le (onward f (r .distance)) (f .most))
+      (waitAll (m .cells) (onward f (r .distance)) (f .near k) t) (on t) (λ _. waitAll-fine _ _ t (near k h) u)
+      (λ _. u)))
 
   taking-fine : (cs : List Cell) (s : State) → All (λ (c : Cell). K (c .key)) cs → Fine s → After Fine (taking f m cs s)
   unfolding taking After All

@@ -31,7 +31,8 @@ Small a (fin s n g) = n * up g ≤ a * down g
 
 cross : (a b : ℕ) (t : Bool) → ltb a b || (eqb a b && t) ≡ true → a ≤ b
 cross a b t h =
-    ⊎-elim (λ p. let q = ltb-true a b p in omega arith) (λ p. let q = eqb-true a b (and-first (eqb a b) t p) in omega arith) (or-cases (ltb a b) (eqb a b && t) h)
+    ⊎-elim (λ p. let q = ltb-true a b p in omega arith)
+    (λ p. let q = eqb-true a b (and-first (eqb a b) t p) in omega arith) (or-cases (ltb a b) (eqb a b && t) h)
 
 -- what is at most something small is small
 pub small-below : (y z : Float) (a : ℕ) → plain y ≡ true → le y z ≡ true → Small a z → Small a y
@@ -104,7 +105,9 @@ odd-size d s (suc q) k l = refl
 units-size : (f : Format) (s : Bool) (q k : ℕ) → sizeOf (units f s q k) ≡ units f false q k
 unfolding units
 units-size f s q k =
-    cases (λ (b : Bool). sizeOf (cond b (odd (suc (prec f)) s q k (low f)) (inf s)) ≡ cond b (odd (suc (prec f)) false q k (low f)) (inf false)) (ltb (q * 2 ^ k) (2 ^ (low f + suc (emax f))))
+    cases (λ (b : Bool).
+    sizeOf (cond b (odd (suc (prec f)) s q k (low f)) (inf s))
+    ≡ cond b (odd (suc (prec f)) false q k (low f)) (inf false)) (ltb (q * 2 ^ k) (2 ^ (low f + suc (emax f))))
     (λ e. odd-size (suc (prec f)) s q k (low f)) (λ e. refl)
 
 -- the size of what is rounded, rounded
@@ -113,7 +116,13 @@ round-size f s A B = ap sizeOf (round-is f s A B) ∙ units-size f s _ _ ∙ sym
 
 -- ---- operations
 
-pub mul-small : (x y : Float) (a b : ℕ) → plain x ≡ true → plain y ≡ true → a * b ≤ 2 ^ 24 → Small a x → Small b y → (plain (mul binary32 x y) ≡ true) × Small (a * b) (mul binary32 x y)
+pub mul-small : (x y : Float) (a b : ℕ)
+    → plain x ≡ true
+    → plain y ≡ true
+    → a * b ≤ 2 ^ 24
+    → Small a x
+    → Small b y
+    → (plain (mul binary32 x y) ≡ true) × Small (a * b) (mul binary32 x y)
 unfolding mul
 mul-small nan y a b p q l s t = absurd s
 mul-small (inf u) y a b p q l s t = absurd s
@@ -122,8 +131,11 @@ mul-small (fin false m e) nan a b p q l s t = absurd t
 mul-small (fin false m e) (inf u) a b p q l s t = absurd t
 mul-small (fin false m e) (fin true n d) a b p q l s t = absurd (false≢true q)
 mul-small (fin false m e) (fin false n d) a b p q l s t =
-    let h : m * up e * (n * up d) ≤ a * down e * (b * down d) = mul-le-mul s t in
-    (round-plain binary32 (m * up e * (n * up d)) (down e * down d), rounded-small (m * up e * (n * up d)) (down e * down d) (a * b) (mul-pos (down-pos e) (down-pos d)) (products (m * up e * (n * up d)) a b (down e) (down d) h) l)
+    let h : m * up e * (n * up d) ≤ a * down e * (b * down d) = mul-le-mul s t in (
+      round-plain binary32 (m * up e * (n * up d)) (down e * down d),
+      rounded-small (m * up e * (n * up d)) (down e * down d) (a * b) (mul-pos (down-pos e) (down-pos d))
+          (products (m * up e * (n * up d)) a b (down e) (down d) h) l,
+    )
   where
     products : (x a b c d : ℕ) → x ≤ a * c * (b * d) → x ≤ a * b * (c * d)
     products x a b c d h = omega arith
@@ -177,7 +189,13 @@ size-plain (inf t) a s = absurd s
 size-plain (fin t n g) a s = refl
 
 -- what a neighbour at a distance of at most 1,000,000 in size says
-pub said-small : (size l d : Float) → plain size ≡ true → Small 1000 size → plain l ≡ true → Small 2 l → Small 1000000 d → lt (sizeOf (candidate size l d)) (sizeOf largest) ≡ true
+pub said-small : (size l d : Float)
+    → plain size ≡ true
+    → Small 1000 size
+    → plain l ≡ true
+    → Small 2 l
+    → Small 1000000 d
+    → lt (sizeOf (candidate size l d)) (sizeOf largest) ≡ true
 unfolding candidate
 said-small size l nan p s q t r = absurd r
 said-small size l (inf u) p s q t r = absurd r

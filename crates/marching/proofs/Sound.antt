@@ -84,7 +84,9 @@ module _ (m : Rooms) where
       → After (SoundOn m n rs) (waitAll (m .cells) e ks s)
   unfolding waitAll After
   waitAll-sound n rs e [] s h = h
-  waitAll-sound n rs e (k ∷ ks) s h = after-then (SoundOn m n rs) (SoundOn m n rs) (wait (m .cells) e k s) (waitAll (m .cells) e ks) (wait-sound n rs e k s h) (λ t u. waitAll-sound n rs e ks t u)
+  waitAll-sound n rs e (k ∷ ks) s h =
+      after-then (SoundOn m n rs) (SoundOn m n rs) (wait (m .cells) e k s) (waitAll (m .cells) e ks)
+      (wait-sound n rs e k s h) (λ t u. waitAll-sound n rs e ks t u)
 
   -- ---- storing
 
@@ -128,7 +130,10 @@ module _ (m : Rooms) where
   unfolding sow
   sow-sound near r s h n =
       let b = both-more (r .key) (keysOf (s .stored)) (keysOf (insert rowBefore r (s .stored))) (stored-more r (s .stored)) (cellsOf (s .waiting)) (h .once) in
-      after-then (SoundOn m 0 (insert rowBefore r (s .stored))) (SoundOn m 0 (insert rowBefore r (s .stored))) (store (m .rows) r s) _ (store-sound 0 r s n (h .ascends) (h .once) (h .taken) (omega (arith, h .counted)) (h .cellsFit)) (λ t u. waitAll-sound 0 _ _ _ t u)
+      after-then (SoundOn m 0 (insert rowBefore r (s .stored))) (SoundOn m 0 (insert rowBefore r (s .stored)))
+      (store (m .rows) r s) _
+      (store-sound 0 r s n (h .ascends) (h .once) (h .taken) (omega (arith, h .counted)) (h .cellsFit))
+      (λ t u. waitAll-sound 0 _ _ _ t u)
 
   -- seeds of which none is stored and none stands twice
   pub sowAll-sound :
@@ -227,5 +232,6 @@ module _ (m : Rooms) where
   pub march-ends : (f : Field) (rs : List MarchedRow) → ascending (keysOf rs) ≡ true → After Ended (march f m rs)
   unfolding march both member
   march-ends f rs a =
-      after-then (Sound m 0) Ended (sowAll (f .near) m rs nothing) _ (sowAll-sound (f .near) rs nothing nothing-sound (ascending-once (keysOf rs) a) (both-none (keysOf rs)))
+      after-then (Sound m 0) Ended (sowAll (f .near) m rs nothing) _
+      (sowAll-sound (f .near) rs nothing nothing-sound (ascending-once (keysOf rs) a) (both-none (keysOf rs)))
       (λ t u. takeUpTo-ends f (suc (m .rows)) 0 t u (omega arith))

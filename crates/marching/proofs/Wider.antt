@@ -55,7 +55,8 @@ module _ (f : Field) (m w : Rooms) (wide : Wider m w) where
   wait-grows : (e : Float) (k : ℕ) (s : State) → Grows (wait (m .cells) e k s) (wait (w .cells) e k s)
   unfolding wait
   wait-grows e k s =
-      grows-cond (isStored k (s .stored) || waits k (s .waiting)) _ _ _ _ (grows-on s) (grows-room (length (s .waiting)) (m .cells) (w .cells) _ _ (wide .cells))
+      grows-cond (isStored k (s .stored) || waits k (s .waiting)) _ _ _ _ (grows-on s)
+      (grows-room (length (s .waiting)) (m .cells) (w .cells) _ _ (wide .cells))
 
   waitAll-grows : (e : Float) (ks : List ℕ) (s : State) → Grows (waitAll (m .cells) e ks s) (waitAll (w .cells) e ks s)
   unfolding waitAll
@@ -120,9 +121,13 @@ pub march-wider :
 unfolding march
 march-wider f m w wide rs a s e =
     let z = after-on (Ended m) (march f m rs) s (march-ends m f rs a) e in
-    let g = grows-is (march f m rs) (andThen (sowAll (f .near) w rs nothing) (takeUpTo f w (suc (m .rows)))) s (grows-then (sowAll (f .near) m rs nothing) (sowAll (f .near) w rs nothing) _ _ (sowAll-grows f m w wide rs nothing) (takeUpTo-grows f m w wide (suc (m .rows)))) e in
+    let g =
+    grows-is (march f m rs) (andThen (sowAll (f .near) w rs nothing) (takeUpTo f w (suc (m .rows)))) s
+    (grows-then (sowAll (f .near) m rs nothing) (sowAll (f .near) w rs nothing) _ _
+    (sowAll-grows f m w wide rs nothing) (takeUpTo-grows f m w wide (suc (m .rows)))) e in
     let q : suc (m .rows) + (w .rows - m .rows) ≡ suc (w .rows) = omega (arith, wide .rows) in
-    rw (← q) (further f w (w .rows - m .rows) s (z .empty) (suc (m .rows)) (more f w (w .rows - m .rows) s (z .empty) (suc (m .rows))) (sowAll (f .near) w rs nothing) g)
+    rw (← q) (further f w (w .rows - m .rows) s (z .empty) (suc (m .rows))
+    (more f w (w .rows - m .rows) s (z .empty) (suc (m .rows))) (sowAll (f .near) w rs nothing) g)
 
 -- so two marches that succeed give the same, whatever their rooms
 pub march-same :

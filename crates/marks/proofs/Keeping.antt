@@ -103,7 +103,10 @@ module _ (k : ℕ) (ks : List ℕ) (ds : List Float) (f : ℕ) (e : spotOf k ks 
       stood i q =
           let r = free-right k ks f e in
           let a = at-right j (set ks f k) i q in
-          let o : getD ks i 0 ≡ j = sym (getD-set-other ks f i k 0 (λ z. d (sym (a .1) ∙ ap (λ (x : ℕ). getD (set ks f k) x 0) z ∙ getD-set-same ks f k 0 (r .0)))) ∙ a .1 in
+          let o : getD ks i 0 ≡ j =
+          sym (getD-set-other ks f i k 0
+          (λ z. d (sym (a .1) ∙ ap (λ (x : ℕ). getD (set ks f k) x 0) z ∙ getD-set-same ks f k 0 (r .0))))
+          ∙ a .1 in
           rw o at (h i (λ z. a .2 (sym o ∙ z)))
 
       missed : (m i : ℕ) → spotOf j ks ≡ Free m → spotOf j (set ks f k) ≡ At i → ⊥

@@ -99,11 +99,21 @@ module _ (k : ℕ) where
   seek-stays : (h j : ℕ) (ks : List ℕ) (f : ℕ) → f < length ks → getD ks f 0 ≡ 0 → solid (seek h j ks) ≡ true → seek h j (set ks f k) ≡ seek h j ks
   unfolding seek solid
   seek-stays h j [] f l e s = absurd (not-suc-le-zero l)
-  seek-stays zero j (x ∷ xs) zero l e s = absurd (false≢true (sym (ap (λ (b : Bool). solid (cond b (Free 0) (cond (eqb x j) (At 0) (further (seek zero j xs))))) (eq-eqb x 0 e)) ∙ s))
+  seek-stays zero j (x ∷ xs) zero l e s =
+      absurd (false≢true
+      (sym (ap (λ (b : Bool). solid (cond b (Free 0) (cond (eqb x j) (At 0) (further (seek zero j xs)))))
+      (eq-eqb x 0 e))
+      ∙ s))
   seek-stays zero j (x ∷ xs) (suc f) l e s =
-      cases (λ (b : Bool). solid (cond b (Free 0) (cond (eqb x j) (At 0) (further (seek zero j xs)))) ≡ true → cond b (Free 0) (cond (eqb x j) (At 0) (further (seek zero j (set xs f k)))) ≡ cond b (Free 0) (cond (eqb x j) (At 0) (further (seek zero j xs)))) (eqb x 0)
+      cases (λ (b : Bool).
+      solid (cond b (Free 0) (cond (eqb x j) (At 0) (further (seek zero j xs)))) ≡ true
+      → cond b (Free 0) (cond (eqb x j) (At 0) (further (seek zero j (set xs f k))))
+      ≡ cond b (Free 0) (cond (eqb x j) (At 0) (further (seek zero j xs)))) (eqb x 0)
       (λ a t. refl)
-      (λ a. cases (λ (b : Bool). solid (cond b (At 0) (further (seek zero j xs))) ≡ true → cond b (At 0) (further (seek zero j (set xs f k))) ≡ cond b (At 0) (further (seek zero j xs))) (eqb x j)
+      (λ a.
+      cases (λ (b : Bool).
+      solid (cond b (At 0) (further (seek zero j xs))) ≡ true
+      → cond b (At 0) (further (seek zero j (set xs f k))) ≡ cond b (At 0) (further (seek zero j xs))) (eqb x j)
       (λ c t. refl)
       (λ c t. ap further (seek-stays zero j xs f (le-of-suc-le-suc l) e (sym (further-solid (seek zero j xs)) ∙ t))))
       s
@@ -162,7 +172,8 @@ module _ (k : ℕ) where
     unfolding spotOf orElse solid
     spot-filled n e =
         rw (length-set ks f k)
-        (go (seek (home k (length ks)) k ks) (seek 0 k ks) _ _ (seek-stays (home k (length ks)) k ks f l z) (filled-at n (home k (length ks)) ks f) (filled-at n 0 ks f) e)
+        (go (seek (home k (length ks)) k ks) (seek 0 k ks) _ _ (seek-stays (home k (length ks)) k ks f l z)
+        (filled-at n (home k (length ks)) ks f) (filled-at n 0 ks f) e)
       where
         go : (a b a' b' : Spot) → (solid a ≡ true → a' ≡ a) → (a ≡ Free f → a' ≡ At f) → (b ≡ Free f → b' ≡ At f) → orElse a b ≡ Free f → orElse a' b' ≡ At f
         go (At i) b a' b' p q r e = absurd (let o : _≡_ {A = ℕ} 0 1 = cc in omega arith)

@@ -22,7 +22,8 @@ use Rattle.measuring.specs.Readings.{readingOk, measured, nearOrFar, adm
 -- settings in range have a voxel size above 0 to 1,000
 pub size-known : (s : Settings) → settingsOk s ≡ true → positiveTo thousand (s .«voxel_size» .0) ≡ true
 size-known s h =
-    and-first (positiveTo thousand (s .«voxel_size» .0)) _ (and-second (positiveTo million (s .«max_weight»)) _ (and-second (positiveTo thousand (s .truncation .0)) _ h))
+    and-first (positiveTo thousand (s .«voxel_size» .0)) _
+    (and-second (positiveTo million (s .«max_weight»)) _ (and-second (positiveTo thousand (s .truncation .0)) _ h))
 
 admits : (b : Bool) (why : Refusal) (rest : Admitted) (m : Measured) → admitIf b why rest ≡ Near m → (b ≡ true) × (rest ≡ Near m)
 unfolding admitIf

@@ -1,4 +1,5 @@
--- A ray's signed distance is never a NaN: a cell's place is a number, so each difference is one; squares and their sum are not below zero; so the root is a number, and a finite depth less it is one.
+-- A ray's signed distance is never a NaN: a cell's place is a number, so each difference is one; squares and their sum
+-- are not below zero; so the root is a number, and a finite depth less it is one.
 -- Where the sum of squares overflows, the distance is minus infinity, which is Far.
 -- Assumes nothing.
 use mathlib.Core.Path.{_≡_, refl, sym, subst, _∙_, ap}
@@ -165,7 +166,8 @@ module _ (size : Float) (key : ℕ) (x y z depth : Metres) (c : Float) (p : posi
   unfolding ofInt
   apart-number cells sensor h =
       sub-number (metresOf cells size .0) sensor
-      (mul-number (round binary32 false cells 1) size (round-number false cells 1) (positive-finite thousand size (unfold ofBits in refl) p) (and-first (lt zero32 size) _ p))
+      (mul-number (round binary32 false cells 1) size (round-number false cells 1)
+      (positive-finite thousand size (unfold ofBits in refl) p) (and-first (lt zero32 size) _ p))
       (finite-number sensor h)
       (rw h (or-true (isFinite (metresOf cells size .0))))
 
@@ -223,4 +225,9 @@ unfolding admitted admitIf
 overflow-far s key x y z depth c good on ok f =
     let most = s .truncation .0 in
     let near : positiveTo thousand most ≡ true = and-first (positiveTo thousand most) _ good in
-    rw (on, ok, ray-overflow (s .«voxel_size» .0) key x y z depth c (size-known s good) ok f, beyond-infinity most (positive-finite thousand most (unfold ofBits in refl) near))
+    rw (
+      on,
+      ok,
+      ray-overflow (s .«voxel_size» .0) key x y z depth c (size-known s good) ok f,
+      beyond-infinity most (positive-finite thousand most (unfold ofBits in refl) near),
+    )

@@ -102,7 +102,9 @@ module _ (s : Settings) (ks : List ℕ) (ds ws : List Float) (cnt : ℕ) (r : Ro
   refused :
       (c : Checked)
       → (c ≡ Rejected NoPlace → ⊥)
-      → (meshedIf c t r ≡ Refused NoPlace) ↔ ((c ≡ Passed) × Outgrown (length es) (r .first) (r .px) (length (groupsOf t)) (r .groups) (length (trianglesOf t)) (r .t0))
+      → (meshedIf c t r ≡ Refused NoPlace) ↔
+      ((c ≡ Passed)
+      × Outgrown (length es) (r .first) (r .px) (length (groupsOf t)) (r .groups) (length (trianglesOf t)) (r .t0))
   unfolding meshedIf
   refused Passed spare = (λ e. (refl, go (haveRoom t r) refl e), λ p. back (haveRoom t r) refl (p .1))
     where
@@ -124,7 +126,10 @@ module _ (s : Settings) (ks : List ℕ) (ds ws : List Float) (cnt : ℕ) (r : Ro
   refused (Rejected why) spare = (λ e. absurd (spare (cc)), λ p. absurd (not-passed why (p .0)))
 
   -- Refused with 6 exactly when no earlier test refuses and edges, vertices, groups or triangles would outgrow their own list.
-  pub refused-for-room : (meshAnswer s t r ≡ Refused NoPlace) ↔ ((meshCheck s t r ≡ Passed) × ((r .first < length es) ⊎ ((r .px < length es) ⊎ ((r .groups < length (groupsOf t)) ⊎ (r .t0 < length (trianglesOf t))))))
+  pub refused-for-room : (meshAnswer s t r ≡ Refused NoPlace) ↔
+      ((meshCheck s t r ≡ Passed)
+      × ((r .first < length es)
+      ⊎ ((r .px < length es) ⊎ ((r .groups < length (groupsOf t)) ⊎ (r .t0 < length (trianglesOf t))))))
   unfolding meshAnswer
   refused-for-room = refused (meshCheck s t r) tests-spare-room
 
@@ -150,16 +155,29 @@ module _ (s : Settings) (ks : List ℕ) (ds ws : List Float) (cnt : ℕ) (r : Ro
 
     -- From the lists of a mesh, `cell_edges` hands back the cell's group.
     pub mesh-hands-group : (cell : ℕ) → onLattice cell ≡ true →
-        cellEdges (heldIn 0 (meshAnswer s t r) (r .groups) (groupsOf t)) (heldIn 0 (meshAnswer s t r) (r .first) (firsts es)) (heldIn 0 (meshAnswer s t r) (r .second) (seconds es)) i cell ≡ groupOf es cell
+        cellEdges (heldIn 0 (meshAnswer s t r) (r .groups) (groupsOf t))
+        (heldIn 0 (meshAnswer s t r) (r .first) (firsts es)) (heldIn 0 (meshAnswer s t r) (r .second) (seconds es))
+        i cell ≡ groupOf es cell
     unfolding heldIn padded
     mesh-hands-group cell on =
         let pass = known .0 in
         let up = rise s ks ds ws cnt r pass in
         let room = known .1 in
         let fits = leb-true (length es) (r .first) (and-first (leb (length es) (r .first)) _ room) in
-        let enough = leb-true (length (groupsOf t)) (r .groups) (and-first (leb (length (groupsOf t)) (r .groups)) _ (and-second (leb (length es) (r .px)) _ (and-second (leb (length es) (r .first)) _ room))) in
+        let enough =
+        leb-true (length (groupsOf t)) (r .groups)
+        (and-first (leb (length (groupsOf t)) (r .groups)) _
+        (and-second (leb (length es) (r .px)) _ (and-second (leb (length es) (r .first)) _ room))) in
         let long : length (groupsOf t ++ replicate (r .groups - length (groupsOf t)) 0) ≡ r .groups = padded-length 0 (r .groups) (groupsOf t) enough in
-        let taken = and-eq (ap (λ (n : ℕ). leb n 1048576) long ∙ and-first (leb (r .groups) 1048576) _ (rest-ok s ks ds ws cnt r pass)) (pairs s ks ds ws cnt r pass fits) in
+        let taken =
+        and-eq (ap (λ (n : ℕ). leb n 1048576) long
+        ∙ and-first (leb (r .groups) 1048576) _ (rest-ok s ks ds ws cnt r pass))
+        (pairs s ks ds ws cnt r pass fits) in
         ap (λ (a : Meshed). cellEdges (heldIn 0 a (r .groups) (groupsOf t)) (heldIn 0 a (r .first) (firsts es)) (heldIn 0 a (r .second) (seconds es)) i cell) e
-        ∙ ap (λ (n : ℕ). cellEdges (groupsOf t ++ replicate (r .groups - length (groupsOf t)) 0) (firsts es ++ replicate (r .first - length (firsts es)) 0) (seconds es ++ replicate (r .second - length (seconds es)) 0) n cell) (known .2)
-        ∙ call-hands-group neighbours adjacent crossesZero (rows t) es up (demand-3-edges (rows t) up) (replicate (r .first - length (firsts es)) 0) (replicate (r .second - length (seconds es)) 0) (replicate (r .groups - length (groupsOf t)) 0) cell on taken
+        ∙ ap (λ (n : ℕ).
+        cellEdges (groupsOf t ++ replicate (r .groups - length (groupsOf t)) 0)
+        (firsts es ++ replicate (r .first - length (firsts es)) 0)
+        (seconds es ++ replicate (r .second - length (seconds es)) 0) n cell) (known .2)
+        ∙ call-hands-group neighbours adjacent crossesZero (rows t) es up (demand-3-edges (rows t) up)
+        (replicate (r .first - length (firsts es)) 0) (replicate (r .second - length (seconds es)) 0)
+        (replicate (r .groups - length (groupsOf t)) 0) cell on taken

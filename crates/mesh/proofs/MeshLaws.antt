@@ -154,17 +154,27 @@ module _ (s : Settings) (ks : List ℕ) (ds ws : List Float) (cnt : ℕ) (r : Ro
     -- the vertices' lists are equally long
     six : ((r .py ≡ r .px) × (r .pz ≡ r .px)) × ((r .nx ≡ r .px) × (r .ny ≡ r .px) × (r .nz ≡ r .px))
     six =
-        let all = and-first _ (leb (r .px) 1048576) (and-first _ (leb (r .groups) 1048576 && ((eqb (r .t0) (r .t1) && eqb (r .t0) (r .t2)) && leb (r .t0) 1048576)) (and-second (outputsOk (r .first) (r .second)) _ (tests .1))) in
+        let all =
+        and-first _ (leb (r .px) 1048576)
+        (and-first _
+        (leb (r .groups) 1048576 && ((eqb (r .t0) (r .t1) && eqb (r .t0) (r .t2)) && leb (r .t0) 1048576))
+        (and-second (outputsOk (r .first) (r .second)) _ (tests .1))) in
         let p = and-first (eqb (r .px) (r .py) && eqb (r .px) (r .pz)) _ all in
         let q = and-second (eqb (r .px) (r .py) && eqb (r .px) (r .pz)) _ all in
         let q' = and-second (eqb (r .px) (r .nx)) _ q in (
           (sym (eqb-true (r .px) (r .py) (and-first _ (eqb (r .px) (r .pz)) p)), sym (eqb-true (r .px) (r .pz) (and-second (eqb (r .px) (r .py)) _ p))),
-          (sym (eqb-true (r .px) (r .nx) (and-first (eqb (r .px) (r .nx)) _ q)), sym (eqb-true (r .px) (r .ny) (and-first _ (eqb (r .px) (r .nz)) q')), sym (eqb-true (r .px) (r .nz) (and-second (eqb (r .px) (r .ny)) _ q'))),
+          (
+            sym (eqb-true (r .px) (r .nx) (and-first (eqb (r .px) (r .nx)) _ q)),
+            sym (eqb-true (r .px) (r .ny) (and-first _ (eqb (r .px) (r .nz)) q')),
+            sym (eqb-true (r .px) (r .nz) (and-second (eqb (r .px) (r .ny)) _ q')),
+          ),
         )
 
     pub rest-ok : leb (r .groups) 1048576 && ((eqb (r .t0) (r .t1) && eqb (r .t0) (r .t2)) && leb (r .t0) 1048576) ≡ true
     rest-ok =
-        and-second (((eqb (r .px) (r .py) && eqb (r .px) (r .pz)) && (eqb (r .px) (r .nx) && (eqb (r .px) (r .ny) && eqb (r .px) (r .nz)))) && leb (r .px) 1048576) _
+        and-second
+        (((eqb (r .px) (r .py) && eqb (r .px) (r .pz)) &&
+        (eqb (r .px) (r .nx) && (eqb (r .px) (r .ny) && eqb (r .px) (r .nz)))) && leb (r .px) 1048576) _
         (and-second (outputsOk (r .first) (r .second)) _ (tests .1))
 
     edges-answer : edgesAnswer s t (r .first) (r .second) ≡ roomFor (length es) (r .first)
@@ -192,7 +202,8 @@ module _ (s : Settings) (ks : List ℕ) (ds ws : List Float) (cnt : ℕ) (r : Ro
       pub pairs : pairsOk (length as') (length bs) (length es) ≡ true
       pairs =
           rw (first-long, second-long)
-          (and-eq (and-first (eqb (r .first) (r .second)) _ outputs) (and-eq (and-second (eqb (r .first) (r .second)) _ outputs) (le-leb (length es) (r .first) fits)))
+          (and-eq (and-first (eqb (r .first) (r .second)) _ outputs)
+          (and-eq (and-second (eqb (r .first) (r .second)) _ outputs) (le-leb (length es) (r .first) fits)))
 
       abbrev src : Source
       src = source ks cnt as' bs (length es)
@@ -204,17 +215,23 @@ module _ (s : Settings) (ks : List ℕ) (ds ws : List Float) (cnt : ℕ) (r : Ro
       groups-are : groupsAt src (cellsOf src) ≡ groupsOf t
       unfolding padded
       groups-are =
-          groups-built (rows t) rise (replicate (r .first - length (firsts es)) 0) (replicate (r .second - length (seconds es)) 0) pairs (take cnt ks) ∙ ap (groups es) keys-are
+          groups-built (rows t) rise (replicate (r .first - length (firsts es)) 0)
+          (replicate (r .second - length (seconds es)) 0) pairs (take cnt ks)
+          ∙ ap (groups es) keys-are
 
       triangles-are : trianglesAt src (cellsOf src) ≡ trianglesOf t
       unfolding padded
       triangles-are =
-          triangles-built (rows t) rise (replicate (r .first - length (firsts es)) 0) (replicate (r .second - length (seconds es)) 0) pairs (take cnt ks) ∙ ap (triangles es) keys-are
+          triangles-built (rows t) rise (replicate (r .first - length (firsts es)) 0)
+          (replicate (r .second - length (seconds es)) 0) pairs (take cnt ks)
+          ∙ ap (triangles es) keys-are
 
       built-is : builtAnswer src (roomsFor (r .groups) (r .t0) (r .t1) (r .t2)) ≡ roomForBoth (length (groupsOf t)) (r .groups) (length (trianglesOf t)) (r .t0)
       unfolding builtAnswer
       built-is =
-          ap (λ (b : Bool). cond b (roomForBoth (length (groupsAt src (cellsOf src))) (r .groups) (length (trianglesAt src (cellsOf src))) (r .t0)) (listed.Refused Lengths)) sizes
+          ap (λ (b : Bool).
+          cond b (roomForBoth (length (groupsAt src (cellsOf src))) (r .groups)
+          (length (trianglesAt src (cellsOf src))) (r .t0)) (listed.Refused Lengths)) sizes
           ∙ ap (λ (g : List ℕ). roomForBoth (length g) (r .groups) (length (trianglesAt src (cellsOf src))) (r .t0)) groups-are
           ∙ ap (λ (l : List (Three ℕ)). roomForBoth (length (groupsOf t)) (r .groups) (length l) (r .t0)) triangles-are
 
@@ -273,14 +290,23 @@ module _ (s : Settings) (ks : List ℕ) (ds ws : List Float) (cnt : ℕ) (r : Ro
         passed : meshCheck s t r ≡ Passed → withEdges e (r .px) b ≡ cond (haveRoom t r) (Done (length es) (length (trianglesOf t))) (Refused NoPlace)
         passed pass =
             cases
-            (λ (p : Bool). leb (length es) (r .first) ≡ p → withEdges e (r .px) b ≡ cond (p && (leb (length es) (r .px) && (leb (length (groupsOf t)) (r .groups) && leb (length (trianglesOf t)) (r .t0)))) (Done (length es) (length (trianglesOf t))) (Refused NoPlace))
+            (λ (p : Bool).
+            leb (length es) (r .first) ≡ p
+            → withEdges e (r .px) b ≡ cond (p && (leb (length es) (r .px) &&
+            (leb (length (groupsOf t)) (r .groups) && leb (length (trianglesOf t)) (r .t0))))
+            (Done (length es) (length (trianglesOf t))) (Refused NoPlace))
             (leb (length es) (r .first))
             (λ h q.
             let fits = leb-true (length es) (r .first) h in
             ap (λ (l : Listed). withEdges l (r .px) b) (e-count pass fits)
             ∙ ap (λ (l : Listed). withVertices (length es) (r .px) l) (b-is pass fits)
-            ∙ both (length es) (length (trianglesOf t)) (leb (length es) (r .px)) (leb (length (groupsOf t)) (r .groups) && leb (length (trianglesOf t)) (r .t0)))
-            (λ h q. ap (λ (l : Listed). withEdges l (r .px) b) (edges ∙ edges-answer pass ∙ ap (λ (p : Bool). cond p (listed.Count (length es)) (listed.Refused NoPlace)) h))
+            ∙ both (length es) (length (trianglesOf t)) (leb (length es) (r .px))
+            (leb (length (groupsOf t)) (r .groups) && leb (length (trianglesOf t)) (r .t0)))
+            (λ h q.
+            ap (λ (l : Listed). withEdges l (r .px) b)
+            (edges
+            ∙ edges-answer pass
+            ∙ ap (λ (p : Bool). cond p (listed.Count (length es)) (listed.Refused NoPlace)) h))
             refl
 
         go : (c : Checked) → meshCheck s t r ≡ c → answerFor c e (r .px) b ≡ meshedIf c t r
@@ -351,7 +377,9 @@ module _ (s : Settings) (ks : List ℕ) (ds ws : List Float) (cnt : ℕ) (r : Ro
     vertices-known-as i j q =
         let p = passes i j q in
         let f = fitting i j q in (
-          ap₂ (λ (x y : List ℕ). besideOf (distanceBy ks ds cnt) (s .«voxel_size» .0) x y) (ap₂ take (n-count p f) (f-held p f)) (ap₂ take (n-count p f) (s-held p f)) ∙ vertices-are p f,
+          ap₂ (λ (x y : List ℕ). besideOf (distanceBy ks ds cnt) (s .«voxel_size» .0) x y)
+              (ap₂ take (n-count p f) (f-held p f)) (ap₂ take (n-count p f) (s-held p f))
+              ∙ vertices-are p f,
           length-map es _,
         )
 
@@ -370,7 +398,8 @@ module _ (s : Settings) (ks : List ℕ) (ds ws : List Float) (cnt : ℕ) (r : Ro
         → l″ ≡ clearedFrom zero32 (keptOf a n) l'
         → l″ ≡ heldIn zero32 (meshAnswer s t r) (r .px) (xsOf (verticesOf s t))
     px-settled l l' l″ same wrote e' =
-        column (λ (x : Vertex). x .x .0) found-vertices (verticesOf s t) l l' l″ (r .px) same (λ i j q. let k = vertices-known-as i j q in (k .0, k .1, refl)) wrote e'
+        column (λ (x : Vertex). x .x .0) found-vertices (verticesOf s t) l l' l″ (r .px) same
+        (λ i j q. let k = vertices-known-as i j q in (k .0, k .1, refl)) wrote e'
 
     pub py-settled :
         (l l' l″ : List Float)
@@ -379,7 +408,8 @@ module _ (s : Settings) (ks : List ℕ) (ds ws : List Float) (cnt : ℕ) (r : Ro
         → l″ ≡ clearedFrom zero32 (keptOf a n) l'
         → l″ ≡ heldIn zero32 (meshAnswer s t r) (r .py) (ysOf (verticesOf s t))
     py-settled l l' l″ same wrote e' =
-        column (λ (x : Vertex). x .y .0) found-vertices (verticesOf s t) l l' l″ (r .py) same (λ i j q. let k = vertices-known-as i j q in (k .0, k .1, six (passes i j q) .0 .0)) wrote e'
+        column (λ (x : Vertex). x .y .0) found-vertices (verticesOf s t) l l' l″ (r .py) same
+        (λ i j q. let k = vertices-known-as i j q in (k .0, k .1, six (passes i j q) .0 .0)) wrote e'
 
     pub pz-settled :
         (l l' l″ : List Float)
@@ -388,7 +418,8 @@ module _ (s : Settings) (ks : List ℕ) (ds ws : List Float) (cnt : ℕ) (r : Ro
         → l″ ≡ clearedFrom zero32 (keptOf a n) l'
         → l″ ≡ heldIn zero32 (meshAnswer s t r) (r .pz) (zsOf (verticesOf s t))
     pz-settled l l' l″ same wrote e' =
-        column (λ (x : Vertex). x .z .0) found-vertices (verticesOf s t) l l' l″ (r .pz) same (λ i j q. let k = vertices-known-as i j q in (k .0, k .1, six (passes i j q) .0 .1)) wrote e'
+        column (λ (x : Vertex). x .z .0) found-vertices (verticesOf s t) l l' l″ (r .pz) same
+        (λ i j q. let k = vertices-known-as i j q in (k .0, k .1, six (passes i j q) .0 .1)) wrote e'
 
     pub nx-settled :
         (l l' l″ : List Float)
@@ -397,7 +428,8 @@ module _ (s : Settings) (ks : List ℕ) (ds ws : List Float) (cnt : ℕ) (r : Ro
         → l″ ≡ clearedFrom zero32 (keptOf a n) l'
         → l″ ≡ heldIn zero32 (meshAnswer s t r) (r .nx) (partsX (normals s t))
     nx-settled l l' l″ same wrote e' =
-        column (λ (x : Normal). x .x) found-normals (normals s t) l l' l″ (r .nx) same (λ i j q. let k = normals-known-as i j q in (k .0, k .1, six (passes i j q) .1 .0)) wrote e'
+        column (λ (x : Normal). x .x) found-normals (normals s t) l l' l″ (r .nx) same
+        (λ i j q. let k = normals-known-as i j q in (k .0, k .1, six (passes i j q) .1 .0)) wrote e'
 
     pub ny-settled :
         (l l' l″ : List Float)
@@ -406,7 +438,8 @@ module _ (s : Settings) (ks : List ℕ) (ds ws : List Float) (cnt : ℕ) (r : Ro
         → l″ ≡ clearedFrom zero32 (keptOf a n) l'
         → l″ ≡ heldIn zero32 (meshAnswer s t r) (r .ny) (partsY (normals s t))
     ny-settled l l' l″ same wrote e' =
-        column (λ (x : Normal). x .y) found-normals (normals s t) l l' l″ (r .ny) same (λ i j q. let k = normals-known-as i j q in (k .0, k .1, six (passes i j q) .1 .1)) wrote e'
+        column (λ (x : Normal). x .y) found-normals (normals s t) l l' l″ (r .ny) same
+        (λ i j q. let k = normals-known-as i j q in (k .0, k .1, six (passes i j q) .1 .1)) wrote e'
 
     pub nz-settled :
         (l l' l″ : List Float)
@@ -415,14 +448,18 @@ module _ (s : Settings) (ks : List ℕ) (ds ws : List Float) (cnt : ℕ) (r : Ro
         → l″ ≡ clearedFrom zero32 (keptOf a n) l'
         → l″ ≡ heldIn zero32 (meshAnswer s t r) (r .nz) (partsZ (normals s t))
     nz-settled l l' l″ same wrote e' =
-        column (λ (x : Normal). x .z) found-normals (normals s t) l l' l″ (r .nz) same (λ i j q. let k = normals-known-as i j q in (k .0, k .1, six (passes i j q) .1 .2)) wrote e'
+        column (λ (x : Normal). x .z) found-normals (normals s t) l l' l″ (r .nz) same
+        (λ i j q. let k = normals-known-as i j q in (k .0, k .1, six (passes i j q) .1 .2)) wrote e'
 
     -- the groups and the triangles as they were built
     abbrev built-from : Source
     built-from = source ks cnt f' s' n
 
     held-as : (room : ℕ) (found : Source → List ℕ) (right : List ℕ) → ((p : meshCheck s t r ≡ Passed) (f : length es ≤ r .first) → found (src p f) ≡ right) →
-        (i j : ℕ) → a ≡ Done i j → heldFor 0 (builtAnswer built-from (roomsFor (r .groups) (r .t0) (r .t1) (r .t2))) room (found built-from) ≡ padded 0 room right
+        (i j : ℕ)
+        → a ≡ Done i j
+        → heldFor 0 (builtAnswer built-from (roomsFor (r .groups) (r .t0) (r .t1) (r .t2))) room (found built-from)
+        ≡ padded 0 room right
     unfolding heldFor
     held-as room found right is i j q =
         let p = passes i j q in
@@ -455,7 +492,9 @@ module _ (s : Settings) (ks : List ℕ) (ds ws : List Float) (cnt : ℕ) (r : Ro
         → l ≡ held0 built-from lent
         → l' ≡ clearedFrom 0 (keptOf a (length l)) l
         → l' ≡ heldIn 0 (meshAnswer s t r) (r .t0) (column0 (trianglesOf t))
-    t0-settled l l' long was e' = built-settled (r .t0) (λ (x : Source). column0 (trianglesAt x (cellsOf x))) (column0 (trianglesOf t)) (λ p f. ap column0 (triangles-are p f)) l l' long was e'
+    t0-settled l l' long was e' =
+        built-settled (r .t0) (λ (x : Source). column0 (trianglesAt x (cellsOf x))) (column0 (trianglesOf t))
+        (λ p f. ap column0 (triangles-are p f)) l l' long was e'
 
     pub t1-settled :
         (l l' : List ℕ)
@@ -463,7 +502,9 @@ module _ (s : Settings) (ks : List ℕ) (ds ws : List Float) (cnt : ℕ) (r : Ro
         → l ≡ held1 built-from lent
         → l' ≡ clearedFrom 0 (keptOf a (length l)) l
         → l' ≡ heldIn 0 (meshAnswer s t r) (r .t1) (column1 (trianglesOf t))
-    t1-settled l l' long was e' = built-settled (r .t1) (λ (x : Source). column1 (trianglesAt x (cellsOf x))) (column1 (trianglesOf t)) (λ p f. ap column1 (triangles-are p f)) l l' long was e'
+    t1-settled l l' long was e' =
+        built-settled (r .t1) (λ (x : Source). column1 (trianglesAt x (cellsOf x))) (column1 (trianglesOf t))
+        (λ p f. ap column1 (triangles-are p f)) l l' long was e'
 
     pub t2-settled :
         (l l' : List ℕ)
@@ -471,4 +512,6 @@ module _ (s : Settings) (ks : List ℕ) (ds ws : List Float) (cnt : ℕ) (r : Ro
         → l ≡ held2 built-from lent
         → l' ≡ clearedFrom 0 (keptOf a (length l)) l
         → l' ≡ heldIn 0 (meshAnswer s t r) (r .t2) (column2 (trianglesOf t))
-    t2-settled l l' long was e' = built-settled (r .t2) (λ (x : Source). column2 (trianglesAt x (cellsOf x))) (column2 (trianglesOf t)) (λ p f. ap column2 (triangles-are p f)) l l' long was e'
+    t2-settled l l' long was e' =
+        built-settled (r .t2) (λ (x : Source). column2 (trianglesAt x (cellsOf x))) (column2 (trianglesOf t))
+        (λ p f. ap column2 (triangles-are p f)) l l' long was e'

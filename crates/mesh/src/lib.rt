@@ -183,8 +183,12 @@ pub fn extract_mesh_from_tsdf(
     t2: &mut [u32],
 ) -> Meshed
     ensures { λ r. ⌜ IsMesh settings (table (now (keys .entry)) (now (distances .entry)) (now (weights .entry)) count)
-        (roomsOf (length (now (first .entry))) (length (now (second .entry))) (length (now (px .entry))) (length (now (py .entry))) (length (now (pz .entry))) (length (now (nx .entry))) (length (now (ny .entry))) (length (now (nz .entry))) (length (now (groups .entry))) (length (now (t0 .entry))) (length (now (t1 .entry))) (length (now (t2 .entry))))
-        r (now (first .exit)) (now (second .exit)) (now (px .exit)) (now (py .exit)) (now (pz .exit)) (now (nx .exit)) (now (ny .exit)) (now (nz .exit)) (now (groups .exit)) (now (t0 .exit)) (now (t1 .exit)) (now (t2 .exit)) ⌝ }
+        (roomsOf (length (now (first .entry))) (length (now (second .entry))) (length (now (px .entry)))
+        (length (now (py .entry))) (length (now (pz .entry))) (length (now (nx .entry))) (length (now (ny .entry)))
+        (length (now (nz .entry))) (length (now (groups .entry))) (length (now (t0 .entry)))
+        (length (now (t1 .entry))) (length (now (t2 .entry))))
+        r (now (first .exit)) (now (second .exit)) (now (px .exit)) (now (py .exit)) (now (pz .exit)) (now (nx .exit))
+        (now (ny .exit)) (now (nz .exit)) (now (groups .exit)) (now (t0 .exit)) (now (t1 .exit)) (now (t2 .exit)) ⌝ }
 {
     let rooms = Rooms {
         first: first.len(),

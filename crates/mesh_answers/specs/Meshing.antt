@@ -28,7 +28,8 @@ trianglesMeshed (meshed.Done edges triangles) = triangles
 trianglesMeshed (meshed.Refused why) = nothing
 
 -- what a mesh hands back: its number, its counts, and what the twelve lists hold
-pub record MeshBack (s : Settings) (t : Table) (r : Rooms) (number edges triangles : ℕ) (as' bs : List ℕ) (xs ys zs us vs ws : List Float) (gs is js ks : List ℕ) : Type 0 where
+pub record MeshBack (s : Settings) (t : Table) (r : Rooms) (number edges triangles : ℕ) (as' bs : List ℕ)
+    (xs ys zs us vs ws : List Float) (gs is js ks : List ℕ) : Type 0 where
   pub answer : number ≡ meshedNumber (meshAnswer s t r)
   pub edge-count : edges ≡ edgesMeshed (meshAnswer s t r)
   pub triangle-count : triangles ≡ trianglesMeshed (meshAnswer s t r)

@@ -56,7 +56,9 @@ reached-inside : (k : ℕ) (o : Offset) → Inside k o → reached k o ≡ cell.
 unfolding Inside led reachedFrom
 reached-inside k o i = rw (i .0, i .1, i .2)
 
-shown-cond : (p q r : Bool) (key l : ℕ) → List·Memᴰ l (shown (cond (p && (q && r)) (cell.At key) cell.Outside)) → (p ≡ true) × (q ≡ true) × (r ≡ true) × (l ≡ key)
+shown-cond : (p q r : Bool) (key l : ℕ)
+    → List·Memᴰ l (shown (cond (p && (q && r)) (cell.At key) cell.Outside))
+    → (p ≡ true) × (q ≡ true) × (r ≡ true) × (l ≡ key)
 unfolding shown
 shown-cond true true true key l m = (refl, refl, refl, List·Memᴰ·eq-of-singleton m)
 shown-cond true true false key l m = absurd (List·Memᴰ·not-nil m)
@@ -159,7 +161,16 @@ neighbour-adjacent k l m =
     each k l offsets (adjacent k l ≡ true)
     (λ o i q.
     let p = parts k l o q in
-    rw (head-led k l o q, x-led k l o q, y-led k l o q, z-led k l o q, move-apart (xOf k) (o .0) (p .0), move-apart (yOf k) (o .1) (p .1), move-apart (zOf k) (o .2) (p .2), eq-eqb (headOf k) (headOf k) refl)
+    rw (
+      head-led k l o q,
+      x-led k l o q,
+      y-led k l o q,
+      z-led k l o q,
+      move-apart (xOf k) (o .0) (p .0),
+      move-apart (yOf k) (o .1) (p .1),
+      move-apart (zOf k) (o .2) (p .2),
+      eq-eqb (headOf k) (headOf k) refl,
+    )
     (all-at fair offsets offsets-fair o i))
     m
 
@@ -244,7 +255,11 @@ adjacent-neighbour k l e =
     let sz = small .2 in
     let f : fair (from k l) ≡ true = rw (← from-apart (xOf k) (xOf l) sx, ← from-apart (yOf k) (yOf l) sy, ← from-apart (zOf k) (zOf l) sz) step in
     let m = has-mem (from k l) offsets (is-offset _ _ _ (from-small (xOf k) (xOf l) sx) (from-small (yOf k) (yOf l) sy) (from-small (zOf k) (zOf l) sz) f) in
-    let i : Inside k (from k l) = (from-inside (xOf k) (xOf l) sx (coord-small l), from-inside (yOf k) (yOf l) sy (coord-small (l / 2)), from-inside (zOf k) (zOf l) sz (coord-small (l / 4))) in
+    let i : Inside k (from k l) = (
+      from-inside (xOf k) (xOf l) sx (coord-small l),
+      from-inside (yOf k) (yOf l) sy (coord-small (l / 2)),
+      from-inside (zOf k) (zOf l) sz (coord-small (l / 4)),
+    ) in
     let key : led k (from k l) ≡ l = rw (from-to (xOf k) (xOf l) sx, from-to (yOf k) (yOf l) sy, from-to (zOf k) (zOf l) sz, heads) (key-of-parts l) in
     by k l (from k l) offsets m (reached-inside k (from k l) i ∙ ap cell.At key)
 
@@ -267,7 +282,11 @@ offsets-differ : differ offsets ≡ true
 unfolding differ has alike offsets
 offsets-differ = refl
 
-with-cell : (k : ℕ) (o : Offset) (os : List Offset) (a : Cell) → a ≡ reached k o → (List·Memᴰ o os → ⊥) → Distinct (neighboursBy k os) → Distinct (shown a ++ neighboursBy k os)
+with-cell : (k : ℕ) (o : Offset) (os : List Offset) (a : Cell)
+    → a ≡ reached k o
+    → (List·Memᴰ o os → ⊥)
+    → Distinct (neighboursBy k os)
+    → Distinct (shown a ++ neighboursBy k os)
 unfolding shown Ordered
 with-cell k o os (cell.At l) e un d =
     let m : List·Memᴰ l (shown (reached k o)) = rw (← e) (List·Memᴰ·head refl) in

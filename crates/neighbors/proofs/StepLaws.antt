@@ -1,4 +1,5 @@
--- A step along an axis is one sum under a mask: where ones stand between the bits of an axis, a carry passes them. So what is reached is known without decoding.
+-- A step along an axis is one sum under a mask: where ones stand between the bits of an axis, a carry passes them. So
+-- what is reached is known without decoding.
 -- Assumes nothing.
 use mathlib.Core.Path.{_≡_, refl, sym, _∙_}
 use mathlib.Core.Bool.{Bool, true, false, cond, _&&_}

@@ -42,7 +42,9 @@ module _ (s : Settings) (ks : List ℕ) (ds ws : List Float) (n : ℕ) (passed :
       sym (tables-laid ks ks ds ws ds ws n (rows t) (fit .1) (fit .2) (fit .1) (fit .2) (rw l (sym (take-append-drop n (beside ks ds ws)))))
       ∙ ap (table ks ds ws) l
 
-  module _ (oks : List ℕ) (ods ows : List Float) (own : ℕ) (p : length oks ≡ 4096) (q : length ods ≡ 4096) (r : length ows ≡ 4096) (few : own ≤ 4096) (up : ascending (take own oks) ≡ true) (loaded : Loaded t oks ods ows own) where
+  module _ (oks : List ℕ) (ods ows : List Float) (own : ℕ) (p : length oks ≡ 4096) (q : length ods ≡ 4096)
+      (r : length ows ≡ 4096) (few : own ≤ 4096) (up : ascending (take own oks) ≡ true)
+      (loaded : Loaded t oks ods ows own) where
     over-same : over s t oks ods ows own ≡ t
     over-same = ap (relaid t) (puts-loaded (s .«max_weight») ks ds ws n known (sound s t passed .order) oks ods ows own loaded) ∙ relaid-same
 
@@ -54,11 +56,16 @@ module _ (s : Settings) (ks : List ℕ) (ds ws : List Float) (n : ℕ) (passed :
           lengths = own-fits (length oks) (length ods) (length ows) own p q r few;
           order = up;
           waits = waits-loaded (s .«max_weight») ks ds ws n known (sound s t passed .order) (sound s t passed .ranges) oks ods ows own loaded;
-          many = ap length (puts-loaded (s .«max_weight») ks ds ws n known (sound s t passed .order) oks ods ows own loaded) ∙ rows-length ks ds ws n known ∙ sym (add-zero n);
+          many =
+              ap length
+              (puts-loaded (s .«max_weight») ks ds ws n known (sound s t passed .order) oks ods ows own loaded)
+              ∙ rows-length ks ds ws n known
+              ∙ sym (add-zero n);
           fits = rw (add-zero n) (fit .0);
         }
 
-    module _ (room : ℕ) (rs : List Row) (from : ℕ) (ran-to : Ran) (ods' ows' : List Float) (ran : RanTo s oks ods ows own room rs from ran-to ods' ows') (left : n + room ≤ length ks) where
+    module _ (room : ℕ) (rs : List Row) (from : ℕ) (ran-to : Ran) (ods' ows' : List Float)
+        (ran : RanTo s oks ods ows own room rs from ran-to ods' ows') (left : n + room ≤ length ks) where
       -- what settling needs
       pub counted : (n + ran-to .added ≡ length (puts (s .«max_weight») (rowsOf oks ods' ows' own) (rows t))) × (n + ran-to .added ≤ length ks)
       counted = let q = ran t ready left .1 in (sym (q .many), q .fits)
@@ -68,5 +75,9 @@ module _ (s : Settings) (ks : List ℕ) (ds ws : List Float) (n : ℕ) (passed :
           → table ks' ds' ws' (n + ran-to .added) ≡ over s t oks ods' ows' own
           → RunTo s t rs from from (ran-to .run) (table ks' ds' ws' (n + ran-to .added))
       settled ks' ds' ws' e =
-          let q = ran t ready left in
-          (subst (λ (u : Table). RunLeft s u rs from from (ran-to .run) (table ks' ds' ws' (n + ran-to .added))) over-same (subst (λ (u : Table). RunLeft s (over s t oks ods ows own) rs from from (ran-to .run) u) (sym e) (q .0)), ap (tableCheck s) e ∙ q .1 .again)
+          let q = ran t ready left in (
+            subst (λ (u : Table). RunLeft s u rs from from (ran-to .run) (table ks' ds' ws' (n + ran-to .added)))
+                over-same
+                (subst (λ (u : Table). RunLeft s (over s t oks ods ows own) rs from from (ran-to .run) u) (sym e) (q .0)),
+            ap (tableCheck s) e ∙ q .1 .again,
+          )

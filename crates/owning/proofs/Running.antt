@@ -40,21 +40,32 @@ Running s ks ds₀ ws₀ own room rs from i added ds ws =
     (t : Table) → Ready s t ks ds₀ ws₀ own 0 → t .count + room ≤ length (t .keys)
     → (batchFrom s from (over s t ks ds₀ ws₀ own) (drop from rs) ≡ batchFrom s i (over s t ks ds ws own) (drop i rs)) × Ready s t ks ds ws own added
 
-module _ (s : Settings) (ks : List ℕ) (ds₀ ws₀ : List Float) (own room : ℕ) (rs : List Row) (from i added : ℕ) (ds ws : List Float) (run : Running s ks ds₀ ws₀ own room rs from i added ds ws) where
+module _ (s : Settings) (ks : List ℕ) (ds₀ ws₀ : List Float) (own room : ℕ) (rs : List Row) (from i added : ℕ)
+    (ds ws : List Float) (run : Running s ks ds₀ ws₀ own room rs from i added ds ws) where
   module _ (r : Row) (e : drop i rs ≡ r ∷ drop (suc i) rs) (spare : Bool) (left : spare ≡ true → added < room) (ds' ws' : List Float) where
     pub keeps : Stepped s ks ds ws own spare r Step.Kept ds' ws' → Running s ks ds₀ ws₀ own room rs from (i + 1) added ds' ws'
     unfolding StepLeft
     keeps step t h l =
         let g = run t h l in
-        let q = step t added (g .1) (λ b. omega (arith, left b)) in
-        (g .0 ∙ ap (batchFrom s i (over s t ks ds ws own)) e ∙ q .0 i (drop (suc i) rs) ∙ ap (λ (j : ℕ). batchFrom s j (over s t ks ds' ws' own) (drop j rs)) (sym (add-one i)), q .1)
+        let q = step t added (g .1) (λ b. omega (arith, left b)) in (
+          g .0
+              ∙ ap (batchFrom s i (over s t ks ds ws own)) e
+              ∙ q .0 i (drop (suc i) rs)
+              ∙ ap (λ (j : ℕ). batchFrom s j (over s t ks ds' ws' own) (drop j rs)) (sym (add-one i)),
+          q .1,
+        )
 
     pub adds : Stepped s ks ds ws own spare r Step.Added ds' ws' → Running s ks ds₀ ws₀ own room rs from (i + 1) (added + 1) ds' ws'
     unfolding StepLeft
     adds step t h l =
         let g = run t h l in
-        let q = step t added (g .1) (λ b. omega (arith, left b)) in
-        (g .0 ∙ ap (batchFrom s i (over s t ks ds ws own)) e ∙ q .0 i (drop (suc i) rs) ∙ ap (λ (j : ℕ). batchFrom s j (over s t ks ds' ws' own) (drop j rs)) (sym (add-one i)), rw add-one (q .1))
+        let q = step t added (g .1) (λ b. omega (arith, left b)) in (
+          g .0
+              ∙ ap (batchFrom s i (over s t ks ds ws own)) e
+              ∙ q .0 i (drop (suc i) rs)
+              ∙ ap (λ (j : ℕ). batchFrom s j (over s t ks ds' ws' own) (drop j rs)) (sym (add-one i)),
+          rw add-one (q .1),
+        )
 
     pub refuses :
         (why : Refusal)

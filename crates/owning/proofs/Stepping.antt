@@ -100,7 +100,8 @@ own-told ks own k f p h e = subst (λ (g : Found). OwnPlace ks own k g) e h
 
 -- ---- the own row at p, whose key is k
 
-module _ (s : Settings) (t : Table) (ks : List ℕ) (ds ws : List Float) (own added : ℕ) (ready : Ready s t ks ds ws own added) (p k : ℕ) (inside : p < own) (at : getD ks p 0 ≡ k) where
+module _ (s : Settings) (t : Table) (ks : List ℕ) (ds ws : List Float) (own added : ℕ)
+    (ready : Ready s t ks ds ws own added) (p k : ℕ) (inside : p < own) (at : getD ks p 0 ≡ k) where
   abbrev most : Float
   most = s .«max_weight»
 
@@ -140,7 +141,14 @@ module _ (s : Settings) (t : Table) (ks : List ℕ) (ds ws : List Float) (own ad
   unfolding relaid voxelAt
   voxel-at x h =
       let l : h .place < length both = rw length-map at (found (x .key) (keysOf both) (h .place) (h .at) .0) in
-      rw (List·getD-append (distancesOf both) (drop (length (distancesOf both)) (t .distances)) nan (h .place) (rw length-map l), List·getD-append (weightsOf both) (drop (length (weightsOf both)) (t .weights)) nan (h .place) (rw length-map l), h .distance, h .weight)
+      rw (
+        List·getD-append (distancesOf both) (drop (length (distancesOf both)) (t .distances)) nan (h .place)
+            (rw length-map l),
+        List·getD-append (weightsOf both) (drop (length (weightsOf both)) (t .weights)) nan (h .place)
+            (rw length-map l),
+        h .distance,
+        h .weight,
+      )
 
   -- fusing, where the key's voxel is known and has a place
   near-own :
@@ -149,7 +157,10 @@ module _ (s : Settings) (t : Table) (ks : List ℕ) (ds ws : List Float) (own ad
       → hasPlace f now-table ≡ true
       → voxelAt f now-table ≡ old
       → standing most (fusedVoxel most old m .weight) ≡ true
-      → fusedNear most now-table k m ≡ cond (within million (fusedVoxel most old m .distance)) (outcome Fused.Stored (over s t ks (set ds p (fusedVoxel most old m .distance)) (set ws p (fusedVoxel most old m .weight)) own)) (outcome (Fused.Refused TooLarge) now-table)
+      → fusedNear most now-table k m ≡ cond (within million (fusedVoxel most old m .distance))
+      (outcome Fused.Stored
+      (over s t ks (set ds p (fusedVoxel most old m .distance)) (set ws p (fusedVoxel most old m .weight)) own))
+      (outcome (Fused.Refused TooLarge) now-table)
   unfolding fusedNear stored
   near-own f old m e h q w =
       let v = fusedVoxel most old m in
@@ -207,7 +218,10 @@ module _ (s : Settings) (t : Table) (ks : List ℕ) (ds ws : List Float) (own ad
 
   module _ (m : Measured) (on : between zero32 one32 (m .confidence) ≡ true) where
     above : lt zero32 most ≡ true
-    above = and-first (lt zero32 most) _ (and-first (positiveTo million most) _ (and-second (positiveTo thousand (s .truncation .0)) _ (sound s t (ready .passed) .settings)))
+    above =
+        and-first (lt zero32 most) _
+        (and-first (positiveTo million most) _
+        (and-second (positiveTo thousand (s .truncation .0)) _ (sound s t (ready .passed) .settings)))
 
     abbrev v : Voxel
     v = voxelAfter most ds ws p m
@@ -219,11 +233,16 @@ module _ (s : Settings) (t : Table) (ks : List ℕ) (ds ws : List Float) (own ad
 
     weighs : standing most (v .weight) ≡ true
     unfolding fusedVoxel
-    weighs = weight-kept most (oldVoxel (standing most (getD ws p nan)) (getD ds p nan) (getD ws p nan) .weight) (m .confidence) above (old-in (standing most (getD ws p nan)) refl) on
+    weighs =
+        weight-kept most (oldVoxel (standing most (getD ws p nan)) (getD ds p nan) (getD ws p nan) .weight)
+        (m .confidence) above (old-in (standing most (getD ws p nan)) refl) on
 
     -- fusing, said of the own rows
     abbrev Said : Type 0
-    Said = fusedNear most now-table k m ≡ cond (within million (v .distance)) (outcome Fused.Stored (over s t ks (set ds p (v .distance)) (set ws p (v .weight)) own)) (outcome (Fused.Refused TooLarge) now-table)
+    Said =
+        fusedNear most now-table k m ≡ cond (within million (v .distance))
+        (outcome Fused.Stored (over s t ks (set ds p (v .distance)) (set ws p (v .weight)) own))
+        (outcome (Fused.Refused TooLarge) now-table)
 
     said-stands : standing most (getD ws p nan) ≡ true → Said
     unfolding hasPlace oldVoxel
@@ -312,11 +331,21 @@ module _ (s : Settings) (t : Table) (ks : List ℕ) (ds ws : List Float) (own ad
       near-left spare room Step.Kept ds' ws' h =
           let said = said-stands (h .0) in
           let c = h .1 in
-          rw (c .1, c .2) (goes-on said (c .0), ready-again added (passes said (c .0)) (stands-many (h .0) (v .distance) (v .weight) ∙ ready .many) (ready .fits))
+          rw (c .1, c .2) (
+            goes-on said (c .0),
+            ready-again added (passes said (c .0)) (stands-many (h .0) (v .distance) (v .weight) ∙ ready .many)
+                (ready .fits),
+          )
       near-left spare room Step.Added ds' ws' h =
           let said = said-waits (h .0) (room (h .1)) in
           let c = h .2 in
-          rw (c .1, c .2) (goes-on said (c .0), ready-again (suc added) (passes said (c .0)) (longer (row k (v .distance) (v .weight)) both (waiting (h .0)) ∙ ap suc (ready .many) ∙ sym (add-suc (t .count) added)) (omega (arith, room (h .1))))
+          rw (c .1, c .2) (
+            goes-on said (c .0),
+            ready-again (suc added) (passes said (c .0))
+                (longer (row k (v .distance) (v .weight)) both (waiting (h .0))
+                ∙ ap suc (ready .many)
+                ∙ sym (add-suc (t .count) added)) (omega (arith, room (h .1))),
+          )
       near-left spare room Step.Unknown ds' ws' h = h
       near-left spare room (Step.Refused why) ds' ws' h = (rw (h .2) (λ i rs. ends-there (told (h .4)) (h .3) i rs), h .0, h .1)
         where

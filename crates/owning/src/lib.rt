@@ -87,7 +87,8 @@ fn fuse_place(
     m: Measured,
 ) -> Step
     requires { ⌜ (place < length (now «own_distances»)) × (length (now «own_weights») ≡ length (now «own_distances»)) ⌝ }
-    ensures { λ r. ⌜ Placed most (now («own_distances» .entry)) (now («own_weights» .entry)) place spare m r (now («own_distances» .exit)) (now («own_weights» .exit)) ⌝ }
+    ensures { λ r. ⌜ Placed most (now («own_distances» .entry)) (now («own_weights» .entry)) place spare m r
+        (now («own_distances» .exit)) (now («own_weights» .exit)) ⌝ }
 {
     let distance = own_distances[place];
     let weight = own_weights[place];
@@ -122,7 +123,9 @@ fn fuse_own(
 ) -> Step
     requires { ⌜ settingsOk settings ≡ true ⌝ }
     requires { ⌜ lengthsOk (length (now «own_keys»)) (length (now «own_distances»)) (length (now «own_weights»)) own ≡ true ⌝ }
-    ensures { λ r. ⌜ Stepped settings (now («own_keys» .entry)) (now («own_distances» .entry)) (now («own_weights» .entry)) own spare (row key distance confidence) r (now («own_distances» .exit)) (now («own_weights» .exit)) ⌝ }
+    ensures { λ r. ⌜ Stepped settings (now («own_keys» .entry)) (now («own_distances» .entry))
+        (now («own_weights» .entry)) own spare (row key distance confidence) r (now («own_distances» .exit))
+        (now («own_weights» .exit)) ⌝ }
 {
     let reading = Reading::Direct {
         distance: Metres(distance),
@@ -164,7 +167,10 @@ fn fuse_run(
     requires { ⌜ lengthsOk (length (now «own_keys»)) (length (now «own_distances»)) (length (now «own_weights»)) own ≡ true ⌝ }
     requires { ⌜ (from ≤ to) × (to ≤ from + 4096) × (to ≤ length (now «batch_keys»)) ⌝ }
     requires { ⌜ (length (now «batch_distances») ≡ length (now «batch_keys»)) × (length (now «batch_confidences») ≡ length (now «batch_keys»)) ⌝ }
-    ensures { λ r. ⌜ RanTo settings (now («own_keys» .entry)) (now («own_distances» .entry)) (now («own_weights» .entry)) own room (beside (now («batch_keys» .entry)) (now («batch_distances» .entry)) (now («batch_confidences» .entry))) from r (now («own_distances» .exit)) (now («own_weights» .exit)) ⌝ }
+    ensures { λ r. ⌜ RanTo settings (now («own_keys» .entry)) (now («own_distances» .entry))
+        (now («own_weights» .entry)) own room
+        (beside (now («batch_keys» .entry)) (now («batch_distances» .entry)) (now («batch_confidences» .entry))) from r
+        (now («own_distances» .exit)) (now («own_weights» .exit)) ⌝ }
 {
     let mut added = 0;
     let mut i = from;
@@ -258,7 +264,10 @@ pub fn batch_run(
     requires { ⌜ tableCheck settings (table (now keys) (now distances) (now weights) (now count)) ≡ Checked.Passed ⌝ }
     requires { ⌜ from ≤ length (now «batch_keys») ⌝ }
     requires { ⌜ (length (now «batch_distances») ≡ length (now «batch_keys»)) × (length (now «batch_confidences») ≡ length (now «batch_keys»)) ⌝ }
-    ensures { λ r. ⌜ RunTo settings (table (now (keys .entry)) (now (distances .entry)) (now (weights .entry)) (now (count .entry))) (beside (now («batch_keys» .entry)) (now («batch_distances» .entry)) (now («batch_confidences» .entry))) from from r (table (now (keys .exit)) (now (distances .exit)) (now (weights .exit)) (now (count .exit))) ⌝ }
+    ensures { λ r. ⌜ RunTo settings
+        (table (now (keys .entry)) (now (distances .entry)) (now (weights .entry)) (now (count .entry)))
+        (beside (now («batch_keys» .entry)) (now («batch_distances» .entry)) (now («batch_confidences» .entry))) from from
+        r (table (now (keys .exit)) (now (distances .exit)) (now (weights .exit)) (now (count .exit))) ⌝ }
 {
     let to = end_of(batch_keys.len(), from);
     let mut own_keys = [0u64; 4096];

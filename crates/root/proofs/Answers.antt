@@ -1,4 +1,5 @@
--- What `root` answers at the edges: a zero and the infinity are their own roots, a NaN and what is below zero are refused, and a finite value above zero gets the nearest value to its root. Assumes nothing.
+-- What `root` answers at the edges: a zero and the infinity are their own roots, a NaN and what is below zero are
+-- refused, and a finite value above zero gets the nearest value to its root. Assumes nothing.
 use mathlib.Core.Path.{_≡_, refl, sym, _∙_}
 use mathlib.Core.Bool.{Bool, true, false, true≢false}
 use lib.Dec.{T}

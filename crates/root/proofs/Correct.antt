@@ -1,5 +1,6 @@
 -- `rootOf` is IEEE 754's square root: for a finite x above zero the result is a binary32 value, and strictly nearer to the true root than any other.
--- The root is no rational number, so that is said of squares: the middle of r and y lies beyond the root, seen from r. No tie can happen, since the order is strict.
+-- The root is no rational number, so that is said of squares: the middle of r and y lies beyond the root, seen from r.
+-- No tie can happen, since the order is strict.
 -- Assumes nothing.
 use mathlib.Core.Path.{_≡_, refl, sym, ap, _∙_, subst}
 use mathlib.Core.Logic.{inl, inr}
@@ -86,10 +87,20 @@ last-step n j k p h l g = elim (le-or-lt k j) [
 ]
 
 -- ---- so the middle of q * 2 ^ k and n * 2 ^ j lies beyond the root of m * 4 ^ k
-beyond-up : (m k q n j : ℕ) → 2 ^ 46 ≤ m → Near m q → n < 2 ^ 24 → q * 2 ^ k < n * 2 ^ j → 4 * (m * (2 ^ k * 2 ^ k)) < (q * 2 ^ k + n * 2 ^ j) * (q * 2 ^ k + n * 2 ^ j)
+beyond-up : (m k q n j : ℕ)
+    → 2 ^ 46 ≤ m
+    → Near m q
+    → n < 2 ^ 24
+    → q * 2 ^ k < n * 2 ^ j
+    → 4 * (m * (2 ^ k * 2 ^ k)) < (q * 2 ^ k + n * 2 ^ j) * (q * 2 ^ k + n * 2 ^ j)
 beyond-up m k q n j lo w h g = over-middle m (2 ^ k) q (n * 2 ^ j) (pow-pos k) w (next-step n j k q h (near-ge m q lo w) g)
 
-beyond-down : (m k q n j : ℕ) → 2 ^ 46 ≤ m → Near m q → n < 2 ^ 24 → n * 2 ^ j < q * 2 ^ k → (q * 2 ^ k + n * 2 ^ j) * (q * 2 ^ k + n * 2 ^ j) < 4 * (m * (2 ^ k * 2 ^ k))
+beyond-down : (m k q n j : ℕ)
+    → 2 ^ 46 ≤ m
+    → Near m q
+    → n < 2 ^ 24
+    → n * 2 ^ j < q * 2 ^ k
+    → (q * 2 ^ k + n * 2 ^ j) * (q * 2 ^ k + n * 2 ^ j) < 4 * (m * (2 ^ k * 2 ^ k))
 beyond-down m k zero n j lo w h g = omega arith
 beyond-down m k (suc p) n j lo w h g = elim (le-or-lt (suc p * suc p) m) [
   | inl s ↦ under-root m (2 ^ k) (suc p) (n * 2 ^ j) (pow-pos k) w s g
@@ -153,8 +164,10 @@ nearer-all x (fin true a b) y X m k q vx e lo w v f t = absurd (true≢false (v 
 nearer-all x (fin false a b) (fin true n d) X m k q vx e lo w v f t = record {
   above = λ (g : T (lt (fin false a b) (fin true n d))). absurd g;
   below = λ (g : T (lt (fin true n d) (fin false a b))).
-      farther-down x (fin false a b) X m k q vx e lo w 0 0 (down b * down d) (a * up b * down d - n * up d * down b) (mul-pos (down-pos b) (down-pos d)) (lit< tt)
-      (less-sum (2 ^ 149) (q * 2 ^ k) (a * up b) (down b) (n * up d * down b) (down d) (v .1)) (mul-pos {m = q} (lt-of-lt-of-le (lit< tt) (near-ge m q lo w)) (pow-pos k));
+      farther-down x (fin false a b) X m k q vx e lo w 0 0 (down b * down d) (a * up b * down d - n * up d * down b)
+      (mul-pos (down-pos b) (down-pos d)) (lit< tt)
+      (less-sum (2 ^ 149) (q * 2 ^ k) (a * up b) (down b) (n * up d * down b) (down d) (v .1))
+      (mul-pos {m = q} (lt-of-lt-of-le (lit< tt) (near-ge m q lo w)) (pow-pos k));
 }
 nearer-all x (fin false a b) (fin false n d) X m k q vx e lo w v f t =
     let u = units-of false n d f in
@@ -163,11 +176,15 @@ nearer-all x (fin false a b) (fin false n d) X m k q vx e lo w v f t =
     sum-units (2 ^ 149) (q * 2 ^ k) (n * 2 ^ j) (a * up b) (down b) (n * up d) (down d) (v .1) (u .1 .1) in
     record {
       above = λ (g : T (lt (fin false a b) (fin false n d))).
-          farther-up x (fin false a b) X m k q vx e lo w n j (down b * down d) (a * up b * down d + n * up d * down b) (mul-pos (down-pos b) (down-pos d)) (u .0) s
-          (less-units (2 ^ 149) (q * 2 ^ k) (n * 2 ^ j) (a * up b) (down b) (n * up d) (down d) (pow-pos 149) (v .1) (u .1 .1) (ltb→lt (a * up b * down d) (n * up d * down b) g));
+          farther-up x (fin false a b) X m k q vx e lo w n j (down b * down d) (a * up b * down d + n * up d * down b)
+          (mul-pos (down-pos b) (down-pos d)) (u .0) s
+          (less-units (2 ^ 149) (q * 2 ^ k) (n * 2 ^ j) (a * up b) (down b) (n * up d) (down d) (pow-pos 149) (v .1)
+          (u .1 .1) (ltb→lt (a * up b * down d) (n * up d * down b) g));
       below = λ (g : T (lt (fin false n d) (fin false a b))).
-          farther-down x (fin false a b) X m k q vx e lo w n j (down b * down d) (a * up b * down d + n * up d * down b) (mul-pos (down-pos b) (down-pos d)) (u .0) (le-of-eq s)
-          (less-units (2 ^ 149) (n * 2 ^ j) (q * 2 ^ k) (n * up d) (down d) (a * up b) (down b) (pow-pos 149) (u .1 .1) (v .1) (ltb→lt (n * up d * down b) (a * up b * down d) g));
+          farther-down x (fin false a b) X m k q vx e lo w n j (down b * down d) (a * up b * down d + n * up d * down b)
+          (mul-pos (down-pos b) (down-pos d)) (u .0) (le-of-eq s)
+          (less-units (2 ^ 149) (n * 2 ^ j) (q * 2 ^ k) (n * up d) (down d) (a * up b) (down b) (pow-pos 149) (u .1 .1)
+          (v .1) (ltb→lt (n * up d * down b) (a * up b * down d) g));
     }
 
 -- ---- every x above zero has its m, k and q
@@ -233,11 +250,14 @@ by-units x X m k f v p s =
     let q = n .0 in
     let w = n .1 in
     let h : HasValue (rootOf x) false (q * 2 ^ k) (2 ^ 149) =
-    subst (λ (r : Float). HasValue r false (q * 2 ^ k) (2 ^ 149)) (sym (root-of-units x X v p)) (rounded-value (X * 2 ^ 149) m k q (s .same) (s .low) (s .high) w (s .least) (s .most)) in
+    subst (λ (r : Float). HasValue r false (q * 2 ^ k) (2 ^ 149)) (sym (root-of-units x X v p))
+    (rounded-value (X * 2 ^ 149) m k q (s .same) (s .low) (s .high) w (s .least) (s .most)) in
     record {
       holds = root-fits x f;
       number = positive-of-value (rootOf x) (q * 2 ^ k) (2 ^ 149) h (mul-pos {m = q} (lt-of-lt-of-le (lit< tt) (near-ge m q (s .low) w)) (pow-pos k));
-      nearer = λ (y : Float) (g : T (fits binary32 y)) (t : T (isFinite y)). nearer-all x (rootOf x) y X m k q (value→cross x X (2 ^ 149) v) (s .same) (s .low) w h g t;
+      nearer =
+          λ (y : Float) (g : T (fits binary32 y)) (t : T (isFinite y)).
+          nearer-all x (rootOf x) y X m k q (value→cross x X (2 ^ 149) v) (s .same) (s .low) w h g t;
     }
 
 pub correct : (x : Float) → T (fits binary32 x) → T (positive x) → IsNearest x (rootOf x)
@@ -262,14 +282,18 @@ only x (fin false a b) (fin false n d) p q = go (lt (fin false a b) (fin false n
     go : (u v : Bool) → lt (fin false a b) (fin false n d) ≡ u → lt (fin false n d) (fin false a b) ≡ v → fin false a b ≡ fin false n d
     go true v g h =
         let t : T (lt (fin false a b) (fin false n d)) = subst T (sym g) tt in
-        absurd (clash (num x) (den x) (a * up b) (down b) (n * up d) (down d) (p .nearer (fin false n d) (q .holds) tt .above t) (q .nearer (fin false a b) (p .holds) tt .below t))
+        absurd (clash (num x) (den x) (a * up b) (down b) (n * up d) (down d)
+        (p .nearer (fin false n d) (q .holds) tt .above t) (q .nearer (fin false a b) (p .holds) tt .below t))
     go false true g h =
         let t : T (lt (fin false n d) (fin false a b)) = subst T (sym h) tt in
-        absurd (clash (num x) (den x) (n * up d) (down d) (a * up b) (down b) (q .nearer (fin false a b) (p .holds) tt .above t) (p .nearer (fin false n d) (q .holds) tt .below t))
+        absurd (clash (num x) (den x) (n * up d) (down d) (a * up b) (down b)
+        (q .nearer (fin false a b) (p .holds) tt .above t) (p .nearer (fin false n d) (q .holds) tt .below t))
     go false false g h =
         let i = finite-number false a b (p .holds) in
         let j = finite-number false n d (q .holds) in
-        rank-same (fin false a b) (fin false n d) i j (unfold negative in refl) (le-antisymm (lt-false (fin false n d) (fin false a b) j i h) (lt-false (fin false a b) (fin false n d) i j g))
+        rank-same (fin false a b) (fin false n d) i j (unfold negative in refl)
+        (le-antisymm (lt-false (fin false n d) (fin false a b) j i h)
+        (lt-false (fin false a b) (fin false n d) i j g))
 only x nan y p q = absurd (p .number)
 only x (inf s) y p q = absurd (p .number)
 only x (fin true a b) y p q = absurd (p .number)

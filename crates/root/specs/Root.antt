@@ -20,12 +20,14 @@ unfolding size rootBelow
 isqrt n = rootBelow (size n) n
 
 -- The root of n / 2 ^ 298, for an n of 2 ^ 149 at least, to the nearest value, ties to even. s / 2 ^ 149 is the root cut to a multiple of 1 / 2 ^ 149.
--- The values around a root of that size, and the middles between them, are such multiples too. So a root above s / 2 ^ 149 rounds as (2 * s + 1) / 2 ^ 150 does.
+-- The values around a root of that size, and the middles between them, are such multiples too. So a root above s / 2 ^
+-- 149 rounds as (2 * s + 1) / 2 ^ 150 does.
 unfoldable pub rounded : ℕ → Float
 unfolding isqrt round
 rounded n = let s = isqrt n in round binary32 false (2 * s + cond (ltb (s * s) n) 1 0) (2 ^ 150)
 
--- The square root of a value that is not below zero. A positive value is 1 / 2 ^ 149 at least, so times 2 ^ 298 it is a whole number, and large enough for `rounded`.
+-- The square root of a value that is not below zero. A positive value is 1 / 2 ^ 149 at least, so times 2 ^ 298 it is a
+-- whole number, and large enough for `rounded`.
 unfoldable pub rootOf : Float → Float
 unfolding rounded
 rootOf nan = nan

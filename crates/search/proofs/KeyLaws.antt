@@ -46,12 +46,23 @@ module _ (ks : List ℕ) (n i : ℕ) (g : n ≤ length ks) where
   pub next-rises : i + 1 < n → getD ks i 0 < getD ks (i + 1) 0 → ascending (drop i (take n ks)) ≡ ascending (drop (i + 1) (take n ks))
   next-rises h t =
       let m : suc i < n = rw add-one at h in
-      rw (add-one i, rises (take n ks) i (rw (length-take-le n ks g) m), getD-take n ks i 0 (omega arith), getD-take n ks (suc i) 0 m, lt-ltb _ _ (rw add-one at t))
+      rw (
+        add-one i,
+        rises (take n ks) i (rw (length-take-le n ks g) m),
+        getD-take n ks i 0 (omega arith),
+        getD-take n ks (suc i) 0 m,
+        lt-ltb _ _ (rw add-one at t),
+      )
 
   pub next-falls : i + 1 < n → getD ks (i + 1) 0 ≤ getD ks i 0 → ascending (drop i (take n ks)) ≡ false
   next-falls h t =
       let m : suc i < n = rw add-one at h in
-      rw (rises (take n ks) i (rw (length-take-le n ks g) m), getD-take n ks i 0 (omega arith), getD-take n ks (suc i) 0 m, le-ltb (getD ks i 0) (getD ks (suc i) 0) (rw add-one at t))
+      rw (
+        rises (take n ks) i (rw (length-take-le n ks g) m),
+        getD-take n ks i 0 (omega arith),
+        getD-take n ks (suc i) 0 m,
+        le-ltb (getD ks i 0) (getD ks (suc i) 0) (rw add-one at t),
+      )
 
   pub all-risen : n ≤ i + 1 → ascending (drop i (take n ks)) ≡ true
   all-risen h = risen (take n ks) i (rw (length-take-le n ks g) (rw add-one at h))

@@ -58,7 +58,9 @@ zero-one = refl
 module _ (d1 d2 : Float) (p : isFinite d1 ≡ true) where
   pub part-between : between zero32 one32 (partOf d1 d2) ≡ true
   unfolding partOf
-  part-between = clamped (cond (lt tiny (sizeOf (sub binary32 d2 d1))) (div binary32 (neg d1) (sub binary32 d2 d1)) half) zero32 one32 (unclamped-number d1 (sub binary32 d2 d1) p) zero-one
+  part-between =
+      clamped (cond (lt tiny (sizeOf (sub binary32 d2 d1))) (div binary32 (neg d1) (sub binary32 d2 d1)) half) zero32
+      one32 (unclamped-number d1 (sub binary32 d2 d1) p) zero-one
 
   pub part-number : isNan (partOf d1 d2) ≡ false
   part-number = le-second zero32 (partOf d1 d2) (and-first (le zero32 (partOf d1 d2)) (le (partOf d1 d2) one32) part-between)

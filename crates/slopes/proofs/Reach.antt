@@ -72,7 +72,9 @@ odd-neg d (suc q) k l = refl
 units-neg : (f : Format) (q k : ℕ) → neg (units f false q k) ≡ units f true q k
 unfolding units neg
 units-neg f q k =
-    cases (λ (b : Bool). neg (cond b (odd (suc (prec f)) false q k (low f)) (inf false)) ≡ cond b (odd (suc (prec f)) true q k (low f)) (inf true)) (ltb (q * 2 ^ k) (2 ^ (low f + suc (emax f))))
+    cases (λ (b : Bool).
+    neg (cond b (odd (suc (prec f)) false q k (low f)) (inf false))
+    ≡ cond b (odd (suc (prec f)) true q k (low f)) (inf true)) (ltb (q * 2 ^ k) (2 ^ (low f + suc (emax f))))
     (λ e. odd-neg (suc (prec f)) q k (low f))
     (λ e. refl)
 
@@ -107,7 +109,8 @@ mul-above a b (fin false m e) nan h p q = absurd q
 mul-above a b (fin false m e) (inf t) h p q = absurd q
 mul-above a b (fin false m e) (fin true n d) h p q = absurd q
 mul-above a b (fin false m e) (fin false n d) h p q =
-    round-above (m * up e * (n * up d)) (down e * down d) (a * b) h (mul-pos (down-pos e) (down-pos d)) (product (m * up e) (n * up d) a b (down e) (down d) p q)
+    round-above (m * up e * (n * up d)) (down e * down d) (a * b) h (mul-pos (down-pos e) (down-pos d))
+    (product (m * up e) (n * up d) a b (down e) (down d) p q)
 
 mul-below : (a b : ℕ) (x y : Float) → Held (a * b) → Above a x → Below b y → Below (a * b) (mul binary32 x y)
 unfolding mul
@@ -118,7 +121,8 @@ mul-below a b (fin false m e) nan h p q = absurd q
 mul-below a b (fin false m e) (inf t) h p q = absurd q
 mul-below a b (fin false m e) (fin false n d) h p q = absurd q
 mul-below a b (fin false m e) (fin true n d) h p q =
-    round-below (m * up e * (n * up d)) (down e * down d) (a * b) h (mul-pos (down-pos e) (down-pos d)) (product (m * up e) (n * up d) a b (down e) (down d) p q)
+    round-below (m * up e * (n * up d)) (down e * down d) (a * b) h (mul-pos (down-pos e) (down-pos d))
+    (product (m * up e) (n * up d) a b (down e) (down d) p q)
 
 -- a sum of two signs is the larger part less the smaller
 module _ (a b c : ℕ) where
@@ -250,7 +254,9 @@ module _ (m : ℕ) (e : ℤ) (n : ℕ) (d : ℤ) (p : m * up e ≤ 65535000 * do
   step-on : 34000000 * down e < m * up e → m * up e * down d ≤ n * up d * down e → Small 31535000 step
   step-on h g =
       subst (Small 31535000) (sym (step-is ∙ sum-up (n * up d * down e) (m * up e * down d) (down d * down e) g))
-      (round-small false (n * up d * down e - m * up e * down d) (down d * down e) 31535000 (record { q = 7883750; j = 2; is = refl; digits = lit< tt; places = lit≤ tt }) (mul-pos (down-pos d) (down-pos e))
+      (round-small false (n * up d * down e - m * up e * down d) (down d * down e) 31535000
+      (record { q = 7883750; j = 2; is = refl; digits = lit< tt; places = lit≤ tt })
+      (mul-pos (down-pos d) (down-pos e))
       (shorter (m * up e) (down e) (n * up d) (down d) (le-of-lt h) q))
 
   module _ (t : Float) (f : Fraction t) where
@@ -300,16 +306,20 @@ small-within (fin s m e) h = within-size hundredMillion (fin s m e) ∙ is-true 
   where
     at-most : (m : ℕ) (e : ℤ) → m * up e ≤ 100000000 * down e → T (le (fin false m e) hundredMillion)
     at-most m e h =
-        le-of-values (fin false m e) hundredMillion (m * up e) (down e) 100000000 1 (down-pos e) (lit< tt) (refl, refl) (unfold ofBits in (refl, refl)) (omega arith)
+        le-of-values (fin false m e) hundredMillion (m * up e) (down e) 100000000 1 (down-pos e) (lit< tt) (refl, refl)
+        (unfold ofBits in (refl, refl)) (omega arith)
 
 module _ (size : Float) (s : positiveTo thousand size ≡ true) (k1 : ℕ) (d1 : Float) (k2 : ℕ) (d2 : Float) (f : isFinite d1 ≡ true) where
   axis : (a b : ℕ) → a < 65536 → b < 65536 → within hundredMillion (placeOf (partOf d1 d2) (metresOf a size) (metresOf b size) .0) ≡ true
   axis a b p q =
       small-within _
-      (reach (metresOf a size .0) (metresOf b size .0) (partOf d1 d2) (cell-above a size (omega arith) s) (cell-above b size (omega arith) s) (fraction (partOf d1 d2) (part-between d1 d2 f)))
+      (reach (metresOf a size .0) (metresOf b size .0) (partOf d1 d2) (cell-above a size (omega arith) s)
+      (cell-above b size (omega arith) s) (fraction (partOf d1 d2) (part-between d1 d2 f)))
 
   -- at an accepted voxel size, and between finite distances, a vertex is finite and within 100,000,000
-  pub vertex-within : (within hundredMillion (vertexOf size k1 d1 k2 d2 .x .0) ≡ true) × (within hundredMillion (vertexOf size k1 d1 k2 d2 .y .0) ≡ true) × (within hundredMillion (vertexOf size k1 d1 k2 d2 .z .0) ≡ true)
+  pub vertex-within : (within hundredMillion (vertexOf size k1 d1 k2 d2 .x .0) ≡ true)
+      × (within hundredMillion (vertexOf size k1 d1 k2 d2 .y .0) ≡ true)
+      × (within hundredMillion (vertexOf size k1 d1 k2 d2 .z .0) ≡ true)
   unfolding vertexOf
   vertex-within = (
     axis (xOf k1) (xOf k2) (coord-small k1) (coord-small k2),

@@ -90,7 +90,13 @@ module _ (size : Float) (key : ℕ) (d : Float) (sum : Slopes) (k : ℕ) (s : St
       → x .0 ≡ stepOf size (c1 .x) (c2 .x)
       → y .0 ≡ stepOf size (c1 .y) (c2 .y)
       → z .0 ≡ stepOf size (c1 .z) (c2 .z)
-      → record { x = add binary32 (sum .x) (mul binary32 (sub binary32 dn d) (x .0)); y = add binary32 (sum .y) (mul binary32 (sub binary32 dn d) (y .0)); z = add binary32 (sum .z) (mul binary32 (sub binary32 dn d) (z .0)); count = sum .count + 1 } ≡ slopesWith size key d sum k s
+      → record {
+        x = add binary32 (sum .x) (mul binary32 (sub binary32 dn d) (x .0));
+        y = add binary32 (sum .y) (mul binary32 (sub binary32 dn d) (y .0));
+        z = add binary32 (sum .z) (mul binary32 (sub binary32 dn d) (z .0));
+        count = sum .count + 1;
+      }
+      ≡ slopesWith size key d sum k s
   unfolding slopesWith
   slopes-stored dn c1 c2 x y z es e1 e2 ex ey ez = rw (es, ex, ey, ez, e1, e2)
 
@@ -137,7 +143,9 @@ module _ (sum : Slopes) where
 
   pub mean-some :
       (sum .count ≡ 0 → ⊥)
-      → directionOf (div binary32 (sum .x) (ofInt binary32 (pos (sum .count)))) (div binary32 (sum .y) (ofInt binary32 (pos (sum .count)))) (div binary32 (sum .z) (ofInt binary32 (pos (sum .count)))) ≡ meanOf sum
+      → directionOf (div binary32 (sum .x) (ofInt binary32 (pos (sum .count))))
+      (div binary32 (sum .y) (ofInt binary32 (pos (sum .count))))
+      (div binary32 (sum .z) (ofInt binary32 (pos (sum .count)))) ≡ meanOf sum
   unfolding meanOf
   mean-some h = rw (ne-eqb (sum .count) 0 h)
 

@@ -64,7 +64,8 @@ module _ (px py pz : List Float) (n : ℕ) (vs : Lent px py pz n) (t0 t1 t2 : Li
   area-more h e v0 v1 v2 a sum sum' e0 e1 e2 ea es =
       let k = named h e in
       let vertex-is = entry-is vertex nan px py pz n vs in
-      area-step (verticesIn px py pz n) sum sum' a (drop i (trianglesIn t0 t1 t2 m)) (drop (i + 1) (trianglesIn t0 t1 t2 m)) (triangle (getD t0 i 0) (getD t1 i 0) (getD t2 i 0)) v0 v1 v2
+      area-step (verticesIn px py pz n) sum sum' a (drop i (trianglesIn t0 t1 t2 m))
+      (drop (i + 1) (trianglesIn t0 t1 t2 m)) (triangle (getD t0 i 0) (getD t1 i 0) (getD t2 i 0)) v0 v1 v2
       (next triangle 0 t0 t1 t2 m ts i h)
       (vertex-is (getD t0 i 0) (vertex zero32 zero32 zero32) (k .0) ∙ sym e0)
       (vertex-is (getD t1 i 0) (vertex zero32 zero32 zero32) (k .1) ∙ sym e1)

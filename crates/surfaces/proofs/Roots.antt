@@ -65,7 +65,8 @@ small-of (fin s m e) h = let g = le-of (m * up e * 1) (100000000 * down e) (true
 arrow-small : (x y : Float) → within farthest x ≡ true → within farthest y ≡ true → Small (2 ^ 28) (sub binary32 x y)
 arrow-small x y p q =
     small-wider (100000000 + 100000000) (2 ^ 28) (sub binary32 x y)
-    (sub-small 100000000 100000000 x y (record { q = 1562500; j = 7; is = refl; digits = lit< tt; places = lit≤ tt }) (small-of x (sym (within-size farthest x) ∙ p)) (small-of y (sym (within-size farthest y) ∙ q)))
+    (sub-small 100000000 100000000 x y (record { q = 1562500; j = 7; is = refl; digits = lit< tt; places = lit≤ tt })
+    (small-of x (sym (within-size farthest x) ∙ p)) (small-of y (sym (within-size farthest y) ∙ q)))
     (lit≤ tt)
 
 cross-finite :
@@ -78,7 +79,8 @@ cross-finite :
 cross-finite a b c d p q r s =
     let h : Held (2 ^ 28 * 2 ^ 28) = record { q = 1; j = 56; is = refl; digits = lit< tt; places = lit≤ tt } in
     small-finite (2 ^ 28 * 2 ^ 28 + 2 ^ 28 * 2 ^ 28) (sub binary32 (mul binary32 a b) (mul binary32 c d))
-    (sub-small (2 ^ 28 * 2 ^ 28) (2 ^ 28 * 2 ^ 28) (mul binary32 a b) (mul binary32 c d) (record { q = 1; j = 57; is = refl; digits = lit< tt; places = lit≤ tt })
+    (sub-small (2 ^ 28 * 2 ^ 28) (2 ^ 28 * 2 ^ 28) (mul binary32 a b) (mul binary32 c d)
+    (record { q = 1; j = 57; is = refl; digits = lit< tt; places = lit≤ tt })
     (mul-small (2 ^ 28) (2 ^ 28) a b h p q) (mul-small (2 ^ 28) (2 ^ 28) c d h r s))
 
 -- ---- an area

@@ -102,7 +102,8 @@ fn area_of(
     requires { ⌜ Lent (now px) (now py) (now pz) vertices ⌝ }
     requires { ⌜ Lent (now t0) (now t1) (now t2) triangles ⌝ }
     requires { ⌜ every (triangleOk vertices) (trianglesIn (now t0) (now t1) (now t2) triangles) ≡ true ⌝ }
-    ensures { λ r. ⌜ r ≡ areaFrom (verticesIn (now (px .entry)) (now (py .entry)) (now (pz .entry)) vertices) zero32 (trianglesIn (now (t0 .entry)) (now (t1 .entry)) (now (t2 .entry)) triangles) ⌝ }
+    ensures { λ r. ⌜ r ≡ areaFrom (verticesIn (now (px .entry)) (now (py .entry)) (now (pz .entry)) vertices) zero32
+        (trianglesIn (now (t0 .entry)) (now (t1 .entry)) (now (t2 .entry)) triangles) ⌝ }
 {
     let mut area = 0.0;
     let mut i = 0;
@@ -127,7 +128,8 @@ pub fn surface_area(
     t2: &[u32],
     triangles: usize,
 ) -> Area
-    ensures { λ r. ⌜ r ≡ areaAnswer (now (px .entry)) (now (py .entry)) (now (pz .entry)) vertices (now (t0 .entry)) (now (t1 .entry)) (now (t2 .entry)) triangles ⌝ }
+    ensures { λ r. ⌜ r ≡ areaAnswer (now (px .entry)) (now (py .entry)) (now (pz .entry)) vertices (now (t0 .entry))
+        (now (t1 .entry)) (now (t2 .entry)) triangles ⌝ }
 {
     if !(set_ok(px.len(), py.len(), pz.len(), vertices)
         & set_ok(t0.len(), t1.len(), t2.len(), triangles)) {

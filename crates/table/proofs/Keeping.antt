@@ -110,7 +110,17 @@ relaid-check s t rs e h g a =
     let l1 : length (relaid t rs .keys) ≡ length (t .keys) = laid-length (keysOf rs) (t .keys) (rw length-map h) in
     let l2 : length (relaid t rs .distances) ≡ length (t .distances) = laid-length (distancesOf rs) (t .distances) (rw (length-map, f .1) h) in
     let l3 : length (relaid t rs .weights) ≡ length (t .weights) = laid-length (weightsOf rs) (t .weights) (rw (length-map, f .2) h) in
-    rw (k .settings, l1, l2, l3, lengths-say (length (t .keys)) (length (t .distances)) (length (t .weights)) (length rs) h (f .1) (f .2) (f .3), relaid-rows t rs, relaid-keys t rs, g, a)
+    rw (
+      k .settings,
+      l1,
+      l2,
+      l3,
+      lengths-say (length (t .keys)) (length (t .distances)) (length (t .weights)) (length rs) h (f .1) (f .2) (f .3),
+      relaid-rows t rs,
+      relaid-keys t rs,
+      g,
+      a,
+    )
 
 -- ---- the row that fusing puts
 
@@ -119,7 +129,8 @@ pub at-ok : (most : Float) (rs : List Row) (i : ℕ) → rowsOk most rs ≡ true
 unfolding rowsOk
 at-ok most [] i h g = absurd (not-suc-le-zero g)
 at-ok most (r ∷ rs) zero h g =
-    and-second (within million (r .distance)) _ (and-second (onLattice (r .key)) _ (and-first (rowOk most (r .key) (r .distance) (r .weight)) (rowsOk most rs) h))
+    and-second (within million (r .distance)) _
+    (and-second (onLattice (r .key)) _ (and-first (rowOk most (r .key) (r .distance) (r .weight)) (rowsOk most rs) h))
 at-ok most (r ∷ rs) (suc i) h g =
     at-ok most rs i (and-second (rowOk most (r .key) (r .distance) (r .weight)) (rowsOk most rs) h) (le-of-suc-le-suc g)
 

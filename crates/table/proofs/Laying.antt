@@ -63,7 +63,10 @@ unfolding put placeOf
 put-open r [] a = refl
 put-open r (s ∷ rs) a =
     let d = absent-differs (r .key) (s .key) (keysOf rs) a in
-    cases (λ (b : Bool). cond b (s ∷ put r rs) (cond (eqb (s .key) (r .key)) (r ∷ rs) (r ∷ (s ∷ rs))) ≡ take (cond b (suc (placeOf (r .key) (keysOf rs))) 0) (s ∷ rs) ++ r ∷ drop (cond b (suc (placeOf (r .key) (keysOf rs))) 0) (s ∷ rs)) (ltb (s .key) (r .key))
+    cases (λ (b : Bool).
+    cond b (s ∷ put r rs) (cond (eqb (s .key) (r .key)) (r ∷ rs) (r ∷ (s ∷ rs)))
+    ≡ take (cond b (suc (placeOf (r .key) (keysOf rs))) 0) (s ∷ rs) ++ r
+    ∷ drop (cond b (suc (placeOf (r .key) (keysOf rs))) 0) (s ∷ rs)) (ltb (s .key) (r .key))
     (λ e. ap {B = List Row} (λ t. s ∷ t) (put-open r rs (d .1)))
     (λ e. rw (ne-eqb (s .key) (r .key) (d .0)))
 

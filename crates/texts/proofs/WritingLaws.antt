@@ -64,7 +64,8 @@ unfolding toBits
 nan-bits x h = rw (differs-from-itself x (subst T (sym h) tt))
 
 -- twenty digits from the last on: a digit more, or the first
-module _ (number : ℕ) (ds : List ℕ) (start rest : ℕ) (inside : start < length ds) (held : decimalFrom 20 number [] ≡ decimalFrom (suc start) rest (drop (suc start) ds)) where
+module _ (number : ℕ) (ds : List ℕ) (start rest : ℕ) (inside : start < length ds)
+    (held : decimalFrom 20 number [] ≡ decimalFrom (suc start) rest (drop (suc start) ds)) where
   digit-put : (d : ℕ) → drop start (set ds start d) ≡ d ∷ drop (suc start) ds
   digit-put d =
       let long : start < length (set ds start d) = rw length-set inside in
@@ -91,7 +92,13 @@ one-less start rest k = omega (arith, pow-suc 10 start)
 
 -- a turn of the loop that puts digits
 pub digit-again :
-    (number : ℕ) (ds : List ℕ) (start rest : ℕ) → 10 ≤ rest → (start < 20) × (rest < 10 ^ suc start) × (length ds ≡ 20) × (decimalFrom 20 number [] ≡ decimalFrom (suc start) rest (drop (suc start) ds)) →
+    (number : ℕ) (ds : List ℕ) (start rest : ℕ)
+    → 10 ≤ rest
+    → (start < 20)
+    × (rest < 10 ^ suc start)
+    × (length ds ≡ 20)
+    × (decimalFrom 20 number [] ≡ decimalFrom (suc start) rest (drop (suc start) ds))
+    →
     (start - 1 < 20) × (rest / 10 < 10 ^ suc (start - 1)) × (length (set ds start (48 + rest % 10)) ≡ 20)
     × (decimalFrom 20 number [] ≡ decimalFrom (suc (start - 1)) (rest / 10) (drop (suc (start - 1)) (set ds start (48 + rest % 10))))
 digit-again number ds zero rest h i = absurd (two-absurd rest h (i .1))
@@ -101,10 +108,17 @@ digit-again number ds (suc s) rest h i =
 
 -- the digits put in, written from a place on
 pub digits-wrote :
-    (number : ℕ) (ds : List ℕ) (start rest : ℕ) {l m : List ℕ} {at p : ℕ} → rest < 10 → (start < 20) × (rest < 10 ^ suc start) × (length ds ≡ 20) × (decimalFrom 20 number [] ≡ decimalFrom (suc start) rest (drop (suc start) ds)) →
+    (number : ℕ) (ds : List ℕ) (start rest : ℕ) {l m : List ℕ} {at p : ℕ}
+    → rest < 10
+    → (start < 20)
+    × (rest < 10 ^ suc start)
+    × (length ds ≡ 20)
+    × (decimalFrom 20 number [] ≡ decimalFrom (suc start) rest (drop (suc start) ds))
+    →
     Wrote l at (take (20 - start) (drop start (set ds start (48 + rest)))) m p → Wrote l at (decimalFrom 20 number []) m p × (p ≤ at + 20)
 digits-wrote number ds start rest {l} {m} {at} {p} h i w =
     let d : drop start (set ds start (48 + rest)) ≡ decimalFrom 20 number [] = digit-first number ds start rest (rw (i .2) (i .0)) (i .3) h in
     let n : length (drop start (set ds start (48 + rest))) ≡ 20 - start = simp (length-drop, length-set) (rw (i .2)) in
-    let e : take (20 - start) (drop start (set ds start (48 + rest))) ≡ decimalFrom 20 number [] = take-all (20 - start) (drop start (set ds start (48 + rest))) (omega arith) ∙ d in
+    let e : take (20 - start) (drop start (set ds start (48 + rest))) ≡ decimalFrom 20 number [] =
+    take-all (20 - start) (drop start (set ds start (48 + rest))) (omega arith) ∙ d in
     (rw e at w, omega (arith, w .ends, ap length e, ap length d))

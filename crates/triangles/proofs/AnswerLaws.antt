@@ -28,7 +28,9 @@ use Rattle.triangles.specs.Steps.{Ready, filledWith, answerFor, keptOf}
 
 -- what a list holds once it is cleared past what the answer keeps
 settled : (v : Listed) (xs l l' l″ : List ℕ) (n : ℕ) → l″ ≡ clearedFrom 0 n l' → length l' ≡ length l →
-    ((m : ℕ) → v ≡ Count m → (n ≡ length xs) × (length xs ≤ length l) × (l' ≡ sets l 0 xs)) → ((why : Refusal) → v ≡ Refused why → n ≡ 0) → l″ ≡ heldFor 0 v (length l) xs
+    ((m : ℕ) → v ≡ Count m → (n ≡ length xs) × (length xs ≤ length l) × (l' ≡ sets l 0 xs))
+    → ((why : Refusal) → v ≡ Refused why → n ≡ 0)
+    → l″ ≡ heldFor 0 v (length l) xs
 unfolding heldFor padded
 settled (Count m) xs l l' l″ n e same how none =
     let h = how m refl in
@@ -42,10 +44,16 @@ refused-count : (why : Refusal) (m : ℕ) → Refused why ≡ Count m → ⊥
 refused-count why m e = let z : _≡_ {A = ℕ} 0 1 = cc in omega arith
 
 -- it counts only where the lengths were taken and both had room
-counted : (ok : Bool) (f : Filled) (room place m : ℕ) → answerFor ok f room place ≡ Count m → (ok ≡ true) × (f .groups ≤ room) × (f .triangles ≤ place) × (m ≡ f .triangles)
+counted : (ok : Bool) (f : Filled) (room place m : ℕ)
+    → answerFor ok f room place ≡ Count m
+    → (ok ≡ true) × (f .groups ≤ room) × (f .triangles ≤ place) × (m ≡ f .triangles)
 counted true f room place m e = go (leb (f .groups) room) (leb (f .triangles) place) refl refl e
   where
-    go : (p q : Bool) → leb (f .groups) room ≡ p → leb (f .triangles) place ≡ q → cond (p && q) (Count (f .triangles)) (Refused NoPlace) ≡ Count m → (true ≡ true) × (f .groups ≤ room) × (f .triangles ≤ place) × (m ≡ f .triangles)
+    go : (p q : Bool)
+        → leb (f .groups) room ≡ p
+        → leb (f .triangles) place ≡ q
+        → cond (p && q) (Count (f .triangles)) (Refused NoPlace) ≡ Count m
+        → (true ≡ true) × (f .groups ≤ room) × (f .triangles ≤ place) × (m ≡ f .triangles)
     go true true a b d = (refl, leb-true _ _ a, leb-true _ _ b, cc)
     go true false a b d = absurd (refused-count NoPlace m d)
     go false true a b d = absurd (refused-count NoPlace m d)
@@ -64,7 +72,10 @@ taken-known keys rows a b m g x y z all =
       sym (eqb-true x z (and-second (eqb x y) _ equal)),
     )
 
-pub ready-known : (ks : List ℕ) (rows a b m g : ℕ) (x y z : List ℕ) (ok : Bool) (n : ℕ) → ok ≡ lengthsOk (length ks) rows a b m g (length x) (length y) (length z) → n ≡ cond ok rows 0 → Ready ks n x y z
+pub ready-known : (ks : List ℕ) (rows a b m g : ℕ) (x y z : List ℕ) (ok : Bool) (n : ℕ)
+    → ok ≡ lengthsOk (length ks) rows a b m g (length x) (length y) (length z)
+    → n ≡ cond ok rows 0
+    → Ready ks n x y z
 ready-known ks rows a b m g x y z false n e t = record { fits = omega arith; few = omega arith; second = λ h. omega arith; third = λ h. omega arith }
 ready-known ks rows a b m g x y z true n e t =
     let k = taken-known (length ks) rows a b m g (length x) (length y) (length z) (sym e) in
@@ -96,9 +107,17 @@ module _ (ks : List ℕ) (rows : ℕ) (as' bs : List ℕ) (m : ℕ) (g x y z : L
 
   pub built-answer : v ≡ builtAnswer s (rooms (length g) (length x) (length y) (length z))
   unfolding builtAnswer sizesOk
-  built-answer = answered ∙ rw (g-long, x-long) (go ok refl) ∙ ap (λ (b : Bool). cond b (roomForBoth (length (groupsAt s (take rows ks))) (length g) (length (trianglesAt s (take rows ks))) (length x)) (Refused Lengths)) tested
+  built-answer =
+      answered
+      ∙ rw (g-long, x-long) (go ok refl)
+      ∙ ap (λ (b : Bool).
+      cond b (roomForBoth (length (groupsAt s (take rows ks))) (length g) (length (trianglesAt s (take rows ks)))
+      (length x)) (Refused Lengths)) tested
     where
-      go : (b : Bool) → ok ≡ b → answerFor b f (length g) (length x) ≡ cond b (roomForBoth (length (groupsAt s (take rows ks))) (length g) (length (trianglesAt s (take rows ks))) (length x)) (Refused Lengths)
+      go : (b : Bool)
+          → ok ≡ b
+          → answerFor b f (length g) (length x) ≡ cond b (roomForBoth (length (groupsAt s (take rows ks))) (length g)
+          (length (trianglesAt s (take rows ks))) (length x)) (Refused Lengths)
       go true e = ap (λ (h : Filled). roomForBoth (h .groups) (length g) (h .triangles) (length x)) (all-counts e)
       go false e = refl
 
@@ -107,7 +126,11 @@ module _ (ks : List ℕ) (rows : ℕ) (as' bs : List ℕ) (m : ℕ) (g x y z : L
       let k = taken-known (length ks) rows (length as') (length bs) m (length g) (length x) (length y) (length z) (sym tested ∙ e) in
       (k .2, k .3)
 
-  pub groups-settled : (k : ℕ) → k ≡ keptOf v (f .groups) → (l : List ℕ) → l ≡ clearedFrom 0 k g' → l ≡ groupsHeld s (rooms (length g) (length x) (length y) (length z))
+  pub groups-settled : (k : ℕ)
+      → k ≡ keptOf v (f .groups)
+      → (l : List ℕ)
+      → l ≡ clearedFrom 0 k g'
+      → l ≡ groupsHeld s (rooms (length g) (length x) (length y) (length z))
   groups-settled k kept l e =
       settled v (groupsAt s (take rows ks)) g g' l k e g-long
       (λ c q.
@@ -121,10 +144,15 @@ module _ (ks : List ℕ) (rows : ℕ) (as' bs : List ℕ) (m : ℕ) (g x y z : L
       ∙ ap (λ (w : Listed). heldFor 0 w (length g) (groupsAt s (take rows ks))) built-answer
 
   module _ (k : ℕ) (kept : k ≡ countOf v) where
-    column : (p : Three ℕ → ℕ) (l l' l″ : List ℕ) → (ok ≡ true → length l ≡ length x) → l' ≡ sets l 0 (map p (trianglesAt (source ks n as' bs m) (take n ks))) → l″ ≡ clearedFrom 0 k l' →
+    column : (p : Three ℕ → ℕ) (l l' l″ : List ℕ)
+        → (ok ≡ true → length l ≡ length x)
+        → l' ≡ sets l 0 (map p (trianglesAt (source ks n as' bs m) (take n ks)))
+        → l″ ≡ clearedFrom 0 k l'
+        →
         l″ ≡ heldFor 0 v (length l) (map p (trianglesAt s (take rows ks)))
     column p l l' l″ same wrote e =
-        settled v (map p (trianglesAt s (take rows ks))) l l' l″ k e (ap length wrote ∙ length-sets l 0 (map p (trianglesAt (source ks n as' bs m) (take n ks))))
+        settled v (map p (trianglesAt s (take rows ks))) l l' l″ k e
+        (ap length wrote ∙ length-sets l 0 (map p (trianglesAt (source ks n as' bs m) (take n ks))))
         (λ c q.
         let h = counted ok f (length g') (length x') c (sym answered ∙ q) in
         let d = ap (λ (w : Filled). w .triangles) (all-counts (h .0)) in
@@ -137,12 +165,15 @@ module _ (ks : List ℕ) (rows : ℕ) (as' bs : List ℕ) (m : ℕ) (g x y z : L
 
     pub ones-settled : (l : List ℕ) → l ≡ clearedFrom 0 k x' → l ≡ held0 s (rooms (length g) (length x) (length y) (length z))
     ones-settled l e =
-        column (λ (t : Three ℕ). t .a) x x' l (λ q. refl) ones e ∙ ap (λ (w : Listed). heldFor 0 w (length x) (column0 (trianglesAt s (take rows ks)))) built-answer
+        column (λ (t : Three ℕ). t .a) x x' l (λ q. refl) ones e
+        ∙ ap (λ (w : Listed). heldFor 0 w (length x) (column0 (trianglesAt s (take rows ks)))) built-answer
 
     pub twos-settled : (l : List ℕ) → l ≡ clearedFrom 0 k y' → l ≡ held1 s (rooms (length g) (length x) (length y) (length z))
     twos-settled l e =
-        column (λ (t : Three ℕ). t .b) y y' l (λ q. equal q .0) twos e ∙ ap (λ (w : Listed). heldFor 0 w (length y) (column1 (trianglesAt s (take rows ks)))) built-answer
+        column (λ (t : Three ℕ). t .b) y y' l (λ q. equal q .0) twos e
+        ∙ ap (λ (w : Listed). heldFor 0 w (length y) (column1 (trianglesAt s (take rows ks)))) built-answer
 
     pub threes-settled : (l : List ℕ) → l ≡ clearedFrom 0 k z' → l ≡ held2 s (rooms (length g) (length x) (length y) (length z))
     threes-settled l e =
-        column (λ (t : Three ℕ). t .c) z z' l (λ q. equal q .1) threes e ∙ ap (λ (w : Listed). heldFor 0 w (length z) (column2 (trianglesAt s (take rows ks)))) built-answer
+        column (λ (t : Three ℕ). t .c) z z' l (λ q. equal q .1) threes e
+        ∙ ap (λ (w : Listed). heldFor 0 w (length z) (column2 (trianglesAt s (take rows ks)))) built-answer

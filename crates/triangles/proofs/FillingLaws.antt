@@ -29,7 +29,14 @@ pub record Filling (s : Source) (cells : List ℕ) (g₀ x₀ y₀ z₀ : List �
 module _ (s : Source) (cells : List ℕ) (g₀ x₀ y₀ z₀ : List ℕ) where
   pub filling-begun : Filling s cells g₀ x₀ y₀ z₀ 0 0 0 g₀ x₀ y₀ z₀
   filling-begun =
-      record { count = omega arith; total = omega arith; groups = written-begun _ _ _; ones = written-begun _ _ _; twos = written-begun _ _ _; threes = written-begun _ _ _ }
+      record {
+        count = omega arith;
+        total = omega arith;
+        groups = written-begun _ _ _;
+        ones = written-begun _ _ _;
+        twos = written-begun _ _ _;
+        threes = written-begun _ _ _;
+      }
 
   module _ (row a b : ℕ) (g x y z : List ℕ) (w : Filling s cells g₀ x₀ y₀ z₀ row a b g x y z) where
     -- one cell more
@@ -49,10 +56,13 @@ module _ (s : Source) (cells : List ℕ) (g₀ x₀ y₀ z₀ : List ℕ) where
       column f = ap (map f) more-triangles ∙ map-append f (threes numbers) (trianglesAt s (drop (row + 1) cells))
 
       put : (f : Three ℕ → ℕ) (l₀ l l' : List ℕ) (b' : ℕ) → b' ≡ b + threesOf (length numbers) → l' ≡ sets l b (map f (threes numbers)) →
-          Written (map f (trianglesAt s cells)) 0 l₀ (map f (trianglesAt s (drop row cells))) b l → Written (map f (trianglesAt s cells)) 0 l₀ (map f (trianglesAt s (drop (row + 1) cells))) b' l'
+          Written (map f (trianglesAt s cells)) 0 l₀ (map f (trianglesAt s (drop row cells))) b l
+          → Written (map f (trianglesAt s cells)) 0 l₀ (map f (trianglesAt s (drop (row + 1) cells))) b' l'
       put f l₀ l l' b' p q v =
           let n : b' ≡ b + length (map f (threes numbers)) = omega (arith, length-map (threes numbers) f, length-threes numbers) in
-          rw (n, q) (written-more (map f (trianglesAt s cells)) 0 l₀ (map f (trianglesAt s (drop row cells))) b l (map f (threes numbers)) (map f (trianglesAt s (drop (row + 1) cells))) (column f) v)
+          rw (n, q)
+          (written-more (map f (trianglesAt s cells)) 0 l₀ (map f (trianglesAt s (drop row cells))) b l
+          (map f (threes numbers)) (map f (trianglesAt s (drop (row + 1) cells))) (column f) v)
 
       pub filling-turn : (a' b' : ℕ) (g' x' y' z' : List ℕ) → a' ≡ a + length numbers → b' ≡ b + threesOf (length numbers) → g' ≡ sets g a numbers →
           x' ≡ sets x b (column0 (threes numbers)) → y' ≡ sets y b (column1 (threes numbers)) → z' ≡ sets z b (column2 (threes numbers)) →
@@ -60,8 +70,19 @@ module _ (s : Source) (cells : List ℕ) (g₀ x₀ y₀ z₀ : List ℕ) where
       filling-turn a' b' g' x' y' z' pa pb pg px py pz =
           record {
             count = omega (arith, w .count, ap length more-groups, length-append numbers (groupsAt s (drop (row + 1) cells)), pa);
-            total = omega (arith, w .total, ap length more-triangles, length-append (threes numbers) (trianglesAt s (drop (row + 1) cells)), length-threes numbers, pb);
-            groups = rw (pa, pg) (written-more (groupsAt s cells) 0 g₀ (groupsAt s (drop row cells)) a g numbers (groupsAt s (drop (row + 1) cells)) more-groups (w .groups));
+            total =
+                omega (
+                  arith,
+                  w .total,
+                  ap length more-triangles,
+                  length-append (threes numbers) (trianglesAt s (drop (row + 1) cells)),
+                  length-threes numbers,
+                  pb,
+                );
+            groups =
+                rw (pa, pg)
+                (written-more (groupsAt s cells) 0 g₀ (groupsAt s (drop row cells)) a g numbers
+                (groupsAt s (drop (row + 1) cells)) more-groups (w .groups));
             ones = put (λ (t : Three ℕ). t .a) x₀ x x' b' pb px (w .ones);
             twos = put (λ (t : Three ℕ). t .b) y₀ y y' b' pb py (w .twos);
             threes = put (λ (t : Three ℕ). t .c) z₀ z z' b' pb pz (w .threes);
@@ -69,7 +90,11 @@ module _ (s : Source) (cells : List ℕ) (g₀ x₀ y₀ z₀ : List ℕ) where
 
     -- none is left
     pub filling-done : length cells ≤ row →
-        (record { groups = a; triangles = b } ≡ filledWith s cells) × ((g ≡ sets g₀ 0 (groupsAt s cells)) × ((x ≡ sets x₀ 0 (column0 (trianglesAt s cells))) × ((y ≡ sets y₀ 0 (column1 (trianglesAt s cells))) × (z ≡ sets z₀ 0 (column2 (trianglesAt s cells))))))
+        (record { groups = a; triangles = b } ≡ filledWith s cells)
+        × ((g ≡ sets g₀ 0 (groupsAt s cells))
+        × ((x ≡ sets x₀ 0 (column0 (trianglesAt s cells)))
+        × ((y ≡ sets y₀ 0 (column1 (trianglesAt s cells)))
+        × (z ≡ sets z₀ 0 (column2 (trianglesAt s cells))))))
     unfolding joined
     filling-done h =
         let none = drop-of-length-le cells {i = row} h in

@@ -29,7 +29,10 @@ module _ (g : List ℕ) where
 
   pub to-inner : (i j : ℕ) → j < length g → middle i j ≡ inner i j (j + 1)
   unfolding withTwo
-  to-inner i j h = rw (drop-cons g j 0 h, add-one j) (append-assoc (withThird (getD g i 0) (getD g j 0) (drop (suc j) g)) (withTwo (getD g i 0) (drop (suc j) g)) (outer (i + 1)))
+  to-inner i j h =
+      rw (drop-cons g j 0 h, add-one j)
+      (append-assoc (withThird (getD g i 0) (getD g j 0) (drop (suc j) g)) (withTwo (getD g i 0) (drop (suc j) g))
+      (outer (i + 1)))
 
   pub inner-next : (i j k : ℕ) → k < length g → inner i j k ≡ three (getD g i 0) (getD g j 0) (getD g k 0) ∷ inner i j (k + 1)
   unfolding withThird
@@ -65,7 +68,12 @@ module _ (whole : List (Three ℕ)) (at : ℕ) (x y z : List ℕ) where
 
   module _ (rest : List (Three ℕ)) (end : ℕ) (x' y' z' : List ℕ) where
     -- the same that is left, written otherwise, and then put in part
-    pub onward : (mid : List (Three ℕ)) → rest ≡ mid → Putting whole at x y z rest end x' y' z' → (rest' : List (Three ℕ)) (end' : ℕ) (x″ y″ z″ : List ℕ) → Putting mid end x' y' z' rest' end' x″ y″ z″ → Putting whole at x y z rest' end' x″ y″ z″
+    pub onward : (mid : List (Three ℕ))
+        → rest ≡ mid
+        → Putting whole at x y z rest end x' y' z'
+        → (rest' : List (Three ℕ)) (end' : ℕ) (x″ y″ z″ : List ℕ)
+        → Putting mid end x' y' z' rest' end' x″ y″ z″
+        → Putting whole at x y z rest' end' x″ y″ z″
     onward mid e w rest' end' x″ y″ z″ v =
         record {
           ones = written-on (column0 whole) at x (column0 rest) end x' (column0 mid) (ap column0 e) (w .ones) (column0 rest') end' x″ (v .ones);
@@ -74,7 +82,9 @@ module _ (whole : List (Three ℕ)) (at : ℕ) (x y z : List ℕ) where
         }
 
     -- one is put
-    pub put-one : (a b c : ℕ) → Putting whole at x y z (three a b c ∷ rest) end x' y' z' → Putting whole at x y z rest (end + 1) (set x' end a) (set y' end b) (set z' end c)
+    pub put-one : (a b c : ℕ)
+        → Putting whole at x y z (three a b c ∷ rest) end x' y' z'
+        → Putting whole at x y z rest (end + 1) (set x' end a) (set y' end b) (set z' end c)
     put-one a b c w =
         record {
           ones = written-one (column0 whole) at x (column0 rest) end x' a (w .ones);
@@ -87,7 +97,10 @@ module _ (whole : List (Three ℕ)) (at : ℕ) (x y z : List ℕ) where
       pub ended : rest ≡ [] → Put whole at x y z x' y' z'
       ended e = (
         written-ended (column0 whole) at x (column0 rest) end x' (ap column0 e) (w .ones),
-        (written-ended (column1 whole) at y (column1 rest) end y' (ap column1 e) (w .twos), written-ended (column2 whole) at z (column2 rest) end z' (ap column2 e) (w .threes)),
+        (
+          written-ended (column1 whole) at y (column1 rest) end y' (ap column1 e) (w .twos),
+          written-ended (column2 whole) at z (column2 rest) end z' (ap column2 e) (w .threes),
+        ),
       )
 
       -- the lists are full
@@ -97,27 +110,54 @@ module _ (whole : List (Three ℕ)) (at : ℕ) (x y z : List ℕ) where
           let b = w .twos .long in
           let c = w .threes .long in (
             written-full (column0 whole) at x (column0 rest) end x' h (w .ones),
-            (written-full (column1 whole) at y (column1 rest) end y' (omega arith) (w .twos), written-full (column2 whole) at z (column2 rest) end z' (omega arith) (w .threes)),
+            (
+              written-full (column1 whole) at y (column1 rest) end y' (omega arith) (w .twos),
+              written-full (column2 whole) at z (column2 rest) end z' (omega arith) (w .threes),
+            ),
           )
 
 -- ---- turns of the loops
 
 module _ (g : List ℕ) (whole : List (Three ℕ)) (at : ℕ) (x y z : List ℕ) (i : ℕ) (end : ℕ) (x' y' z' : List ℕ) where
-  pub turn-inner : (j k : ℕ) → k < length g → Putting whole at x y z (inner g i j k) end x' y' z' → Putting whole at x y z (inner g i j (k + 1)) (end + 1) (set x' end (getD g i 0)) (set y' end (getD g j 0)) (set z' end (getD g k 0))
+  pub turn-inner : (j k : ℕ)
+      → k < length g
+      → Putting whole at x y z (inner g i j k) end x' y' z'
+      → Putting whole at x y z (inner g i j (k + 1)) (end + 1) (set x' end (getD g i 0)) (set y' end (getD g j 0))
+      (set z' end (getD g k 0))
   turn-inner j k h w = put-one whole at x y z (inner g i j (k + 1)) end x' y' z' (getD g i 0) (getD g j 0) (getD g k 0) (rw (inner-next g i j k h) at w)
 
   -- into an inner loop, and out of it again
   module _ (end' : ℕ) (x″ y″ z″ : List ℕ) where
-    pub in-middle : (j : ℕ) → j < length g → Putting whole at x y z (middle g i j) end x' y' z' → (k : ℕ) → Putting (inner g i j (j + 1)) end x' y' z' (inner g i j k) end' x″ y″ z″ → Putting whole at x y z (inner g i j k) end' x″ y″ z″
+    pub in-middle : (j : ℕ)
+        → j < length g
+        → Putting whole at x y z (middle g i j) end x' y' z'
+        → (k : ℕ)
+        → Putting (inner g i j (j + 1)) end x' y' z' (inner g i j k) end' x″ y″ z″
+        → Putting whole at x y z (inner g i j k) end' x″ y″ z″
     in-middle j h w k v = onward whole at x y z (middle g i j) end x' y' z' (inner g i j (j + 1)) (to-inner g i j h) w (inner g i j k) end' x″ y″ z″ v
 
-    pub turn-middle : (j : ℕ) → j < length g → Putting whole at x y z (middle g i j) end x' y' z' → (k : ℕ) → length g ≤ k → Putting (inner g i j (j + 1)) end x' y' z' (inner g i j k) end' x″ y″ z″ → Putting whole at x y z (middle g i (j + 1)) end' x″ y″ z″
+    pub turn-middle : (j : ℕ)
+        → j < length g
+        → Putting whole at x y z (middle g i j) end x' y' z'
+        → (k : ℕ)
+        → length g ≤ k
+        → Putting (inner g i j (j + 1)) end x' y' z' (inner g i j k) end' x″ y″ z″
+        → Putting whole at x y z (middle g i (j + 1)) end' x″ y″ z″
     turn-middle j h w k l v = rw (inner-left g i j k l) at (in-middle j h w k v)
 
-    pub in-outer : i < length g → Putting whole at x y z (outer g i) end x' y' z' → (rest : List (Three ℕ)) → Putting (middle g i (i + 1)) end x' y' z' rest end' x″ y″ z″ → Putting whole at x y z rest end' x″ y″ z″
+    pub in-outer : i < length g
+        → Putting whole at x y z (outer g i) end x' y' z'
+        → (rest : List (Three ℕ))
+        → Putting (middle g i (i + 1)) end x' y' z' rest end' x″ y″ z″
+        → Putting whole at x y z rest end' x″ y″ z″
     in-outer h w rest v = onward whole at x y z (outer g i) end x' y' z' (middle g i (i + 1)) (to-middle g i h) w rest end' x″ y″ z″ v
 
-    pub turn-outer : i < length g → Putting whole at x y z (outer g i) end x' y' z' → (j : ℕ) → length g ≤ j → Putting (middle g i (i + 1)) end x' y' z' (middle g i j) end' x″ y″ z″ → Putting whole at x y z (outer g (i + 1)) end' x″ y″ z″
+    pub turn-outer : i < length g
+        → Putting whole at x y z (outer g i) end x' y' z'
+        → (j : ℕ)
+        → length g ≤ j
+        → Putting (middle g i (i + 1)) end x' y' z' (middle g i j) end' x″ y″ z″
+        → Putting whole at x y z (outer g (i + 1)) end' x″ y″ z″
     turn-outer h w j l v = rw (middle-left g i j l) at (in-outer h w (middle g i j) v)
 
 -- ---- after the loops: all are put, or the lists are full

@@ -34,7 +34,12 @@ module _ (whole : List ℕ) (at : ℕ) (l : List ℕ) where
         record { same = w .same ∙ ap (sets l' end) e ∙ sets-append l' end xs rest'; long = length-sets l' end xs ∙ w .long }
 
     -- what was left, written otherwise, and then written in part
-    pub written-on : (mid : List ℕ) → rest ≡ mid → Written whole at l rest end l' → (rest' : List ℕ) (end' : ℕ) (l″ : List ℕ) → Written mid end l' rest' end' l″ → Written whole at l rest' end' l″
+    pub written-on : (mid : List ℕ)
+        → rest ≡ mid
+        → Written whole at l rest end l'
+        → (rest' : List ℕ) (end' : ℕ) (l″ : List ℕ)
+        → Written mid end l' rest' end' l″
+        → Written whole at l rest' end' l″
     written-on mid e w rest' end' l″ v = record { same = w .same ∙ ap (sets l' end) e ∙ v .same; long = v .long ∙ w .long }
 
     -- nothing is left, or there is no place for it
@@ -45,7 +50,10 @@ module _ (whole : List ℕ) (at : ℕ) (l : List ℕ) where
     written-full h w = sym (w .same ∙ past-end l' rest end h)
 
 -- one number more of a list that is walked
-pub numbers-turn : (g : List ℕ) (at : ℕ) (l : List ℕ) (i end : ℕ) (l' : List ℕ) → i < length g → Written g at l (drop i g) end l' → Written g at l (drop (i + 1) g) (end + 1) (set l' end (getD g i 0))
+pub numbers-turn : (g : List ℕ) (at : ℕ) (l : List ℕ) (i end : ℕ) (l' : List ℕ)
+    → i < length g
+    → Written g at l (drop i g) end l'
+    → Written g at l (drop (i + 1) g) (end + 1) (set l' end (getD g i 0))
 numbers-turn g at l i end l' h w =
     let next : drop i g ≡ getD g i 0 ∷ drop (i + 1) g = rw add-one (drop-cons g i 0 h) in
     written-one g at l (drop (i + 1) g) end l' (getD g i 0) (subst (λ (r : List ℕ). Written g at l r end l') next w)

@@ -88,10 +88,18 @@ fn fill(
 ) -> Filled
     requires { ⌜ Ready (now keys) n (now t0) (now t1) (now t2) ⌝ }
     ensures { λ r. ⌜ r ≡ filledWith (source (now (keys .entry)) n (now (first .entry)) (now (second .entry)) edges) (take n (now (keys .entry))) ⌝ }
-    ensures { λ _. ⌜ now (groups .exit) ≡ sets (now (groups .entry)) 0 (groupsAt (source (now (keys .entry)) n (now (first .entry)) (now (second .entry)) edges) (take n (now (keys .entry)))) ⌝ }
-    ensures { λ _. ⌜ now (t0 .exit) ≡ sets (now (t0 .entry)) 0 (column0 (trianglesAt (source (now (keys .entry)) n (now (first .entry)) (now (second .entry)) edges) (take n (now (keys .entry))))) ⌝ }
-    ensures { λ _. ⌜ now (t1 .exit) ≡ sets (now (t1 .entry)) 0 (column1 (trianglesAt (source (now (keys .entry)) n (now (first .entry)) (now (second .entry)) edges) (take n (now (keys .entry))))) ⌝ }
-    ensures { λ _. ⌜ now (t2 .exit) ≡ sets (now (t2 .entry)) 0 (column2 (trianglesAt (source (now (keys .entry)) n (now (first .entry)) (now (second .entry)) edges) (take n (now (keys .entry))))) ⌝ }
+    ensures { λ _. ⌜ now (groups .exit) ≡ sets (now (groups .entry)) 0
+        (groupsAt (source (now (keys .entry)) n (now (first .entry)) (now (second .entry)) edges)
+        (take n (now (keys .entry)))) ⌝ }
+    ensures { λ _. ⌜ now (t0 .exit) ≡ sets (now (t0 .entry)) 0
+        (column0 (trianglesAt (source (now (keys .entry)) n (now (first .entry)) (now (second .entry)) edges)
+        (take n (now (keys .entry))))) ⌝ }
+    ensures { λ _. ⌜ now (t1 .exit) ≡ sets (now (t1 .entry)) 0
+        (column1 (trianglesAt (source (now (keys .entry)) n (now (first .entry)) (now (second .entry)) edges)
+        (take n (now (keys .entry))))) ⌝ }
+    ensures { λ _. ⌜ now (t2 .exit) ≡ sets (now (t2 .entry)) 0
+        (column2 (trianglesAt (source (now (keys .entry)) n (now (first .entry)) (now (second .entry)) edges)
+        (take n (now (keys .entry))))) ⌝ }
 {
     let mut numbers_end = 0;
     let mut triangles_end = 0;
@@ -174,11 +182,25 @@ pub fn build_triangles(
     t1: &mut [u32],
     t2: &mut [u32],
 ) -> Listed
-    ensures { λ r. ⌜ r ≡ builtAnswer (source (now (keys .entry)) rows (now (first .entry)) (now (second .entry)) edges) (rooms (length (now (groups .entry))) (length (now (t0 .entry))) (length (now (t1 .entry))) (length (now (t2 .entry)))) ⌝ }
-    ensures { λ _. ⌜ now (groups .exit) ≡ groupsHeld (source (now (keys .entry)) rows (now (first .entry)) (now (second .entry)) edges) (rooms (length (now (groups .entry))) (length (now (t0 .entry))) (length (now (t1 .entry))) (length (now (t2 .entry)))) ⌝ }
-    ensures { λ _. ⌜ now (t0 .exit) ≡ held0 (source (now (keys .entry)) rows (now (first .entry)) (now (second .entry)) edges) (rooms (length (now (groups .entry))) (length (now (t0 .entry))) (length (now (t1 .entry))) (length (now (t2 .entry)))) ⌝ }
-    ensures { λ _. ⌜ now (t1 .exit) ≡ held1 (source (now (keys .entry)) rows (now (first .entry)) (now (second .entry)) edges) (rooms (length (now (groups .entry))) (length (now (t0 .entry))) (length (now (t1 .entry))) (length (now (t2 .entry)))) ⌝ }
-    ensures { λ _. ⌜ now (t2 .exit) ≡ held2 (source (now (keys .entry)) rows (now (first .entry)) (now (second .entry)) edges) (rooms (length (now (groups .entry))) (length (now (t0 .entry))) (length (now (t1 .entry))) (length (now (t2 .entry)))) ⌝ }
+    ensures { λ r. ⌜ r ≡ builtAnswer (source (now (keys .entry)) rows (now (first .entry)) (now (second .entry)) edges)
+        (rooms (length (now (groups .entry))) (length (now (t0 .entry))) (length (now (t1 .entry)))
+        (length (now (t2 .entry)))) ⌝ }
+    ensures { λ _. ⌜ now (groups .exit) ≡ groupsHeld
+        (source (now (keys .entry)) rows (now (first .entry)) (now (second .entry)) edges)
+        (rooms (length (now (groups .entry))) (length (now (t0 .entry))) (length (now (t1 .entry)))
+        (length (now (t2 .entry)))) ⌝ }
+    ensures { λ _. ⌜ now (t0 .exit) ≡ held0 (source (now (keys .entry)) rows (now (first .entry)) (now (second .entry))
+        edges)
+        (rooms (length (now (groups .entry))) (length (now (t0 .entry))) (length (now (t1 .entry)))
+        (length (now (t2 .entry)))) ⌝ }
+    ensures { λ _. ⌜ now (t1 .exit) ≡ held1 (source (now (keys .entry)) rows (now (first .entry)) (now (second .entry))
+        edges)
+        (rooms (length (now (groups .entry))) (length (now (t0 .entry))) (length (now (t1 .entry)))
+        (length (now (t2 .entry)))) ⌝ }
+    ensures { λ _. ⌜ now (t2 .exit) ≡ held2 (source (now (keys .entry)) rows (now (first .entry)) (now (second .entry))
+        edges)
+        (rooms (length (now (groups .entry))) (length (now (t0 .entry))) (length (now (t1 .entry)))
+        (length (now (t2 .entry)))) ⌝ }
 {
     let ok = lengths_ok(
         keys.len(),

@@ -51,7 +51,9 @@ module _ (xs l : List ℕ) (n : ℕ) (l' : List ℕ) (e : n ≡ length xs) (w : 
   keys-held = rw by-room (written-held 0 l xs n l' e w)
 
 -- the whole call: its verdict v, and its answer r
-module _ (s : Settings) (t : Table) (threshold : Float) (room : ℕ) (v : Checked) (verdict : v ≡ listCheck s t threshold room) (r : Listed) (answer : r ≡ listedIf v (surfaceKeys threshold (rows t)) room) where
+module _ (s : Settings) (t : Table) (threshold : Float) (room : ℕ) (v : Checked)
+    (verdict : v ≡ listCheck s t threshold room) (r : Listed)
+    (answer : r ≡ listedIf v (surfaceKeys threshold (rows t)) room) where
   pub answered : r ≡ surfaceListed s t threshold room
   unfolding surfaceListed
   answered = answer ∙ ap (λ (c : Checked). listedIf c (surfaceKeys threshold (rows t)) room) verdict

@@ -51,13 +51,17 @@ surfaceBit (surface.Refused why) = surfaceNumber (surface.Refused why)
 -- all numbers of the statistics, floats as bits
 unfoldable pub numbers : Statistics → List ℕ
 numbers (statistics.Of s) =
-    s .«voxel_count» ∷ s .«surface_voxel_count» ∷ toBits binary32 (s .«min_distance» .0) ∷ toBits binary32 (s .«max_distance» .0) ∷ toBits binary32 (s .«average_weight») ∷ []
+    s .«voxel_count» ∷ s .«surface_voxel_count» ∷ toBits binary32 (s .«min_distance» .0)
+    ∷ toBits binary32 (s .«max_distance» .0) ∷ toBits binary32 (s .«average_weight») ∷ []
 numbers (statistics.Refused why) = []
 
 abbrev pub asked : List (List ℕ)
 asked =
-    (distanceBits (distanceOf (lookedUp settings three 8)) ∷ distanceBits (distanceOf (lookedUp settings three 16)) ∷ distanceBits (distanceOf (lookedUp settings three 9)) ∷ [])
-    ∷ (surfaceBit (surfaceOf (f32 0x3F00_0000) (lookedUp settings three 7)) ∷ surfaceBit (surfaceOf (f32 0x3F00_0000) (lookedUp settings three 8)) ∷ surfaceBit (surfaceOf (f32 0x7F80_0000) (lookedUp settings three 16)) ∷ [])
+    (distanceBits (distanceOf (lookedUp settings three 8)) ∷ distanceBits (distanceOf (lookedUp settings three 16))
+    ∷ distanceBits (distanceOf (lookedUp settings three 9)) ∷ [])
+    ∷ (surfaceBit (surfaceOf (f32 0x3F00_0000) (lookedUp settings three 7))
+    ∷ surfaceBit (surfaceOf (f32 0x3F00_0000) (lookedUp settings three 8))
+    ∷ surfaceBit (surfaceOf (f32 0x7F80_0000) (lookedUp settings three 16)) ∷ [])
     ∷ surfaceKeys (f32 0x3F80_0000) (rows three)
     ∷ numbers (statisticsOf settings three)
     ∷ numbers (statisticsOf settings (table [] [] [] 0))
@@ -70,5 +74,7 @@ pub samples-hold : asked ≡
     ∷ (3 ∷ 2 ∷ 0xBF00_0000 ∷ 0x3E80_0000 ∷ 0x3F80_0000 ∷ [])
     ∷ (0 ∷ 0 ∷ 0 ∷ 0 ∷ 0 ∷ [])
     ∷ []
-unfolding trailingZeros span climb size odd units round neg sum add div lt eq le ofFields ofBits toBits ofInt sameParity respaced kept risesFrom ascending next find beside rowsOk need tableCheck rowAt rowIf rowOf lookedIf lookedUp surfaceIf surfaceOf surfaceKeys tallied talliedAll statsOf statisticsIf statisticsOf distanceBits surfaceBit numbers
+unfolding trailingZeros span climb size odd units round neg sum add div lt eq le ofFields ofBits toBits ofInt sameParity
+    respaced kept risesFrom ascending next find beside rowsOk need tableCheck rowAt rowIf rowOf lookedIf lookedUp
+    surfaceIf surfaceOf surfaceKeys tallied talliedAll statsOf statisticsIf statisticsOf distanceBits surfaceBit numbers
 samples-hold = refl

@@ -75,7 +75,8 @@ fn list_surface(
 ) -> usize
     requires { ⌜ Accepted (now keys) (now distances) (now weights) count ⌝ }
     ensures { λ r. ⌜ r ≡ length (surfaceKeys threshold (rowsOf (now (keys .entry)) (now (distances .entry)) (now (weights .entry)) count)) ⌝ }
-    ensures { λ _. ⌜ now (out .exit) ≡ sets (now (out .entry)) 0 (surfaceKeys threshold (rowsOf (now (keys .entry)) (now (distances .entry)) (now (weights .entry)) count)) ⌝ }
+    ensures { λ _. ⌜ now (out .exit) ≡ sets (now (out .entry)) 0
+        (surfaceKeys threshold (rowsOf (now (keys .entry)) (now (distances .entry)) (now (weights .entry)) count)) ⌝ }
 {
     let mut n = 0;
     let mut i = 0;
@@ -132,8 +133,12 @@ fn list_checked(
     out: &mut [u64],
 ) -> Listed
     requires { ⌜ (verdict ≡ Checked.Passed → Accepted (now keys) (now distances) (now weights) count) ⌝ }
-    ensures { λ r. ⌜ r ≡ listedIf verdict (surfaceKeys threshold (rowsOf (now (keys .entry)) (now (distances .entry)) (now (weights .entry)) count)) (length (now (out .entry))) ⌝ }
-    ensures { λ r. ⌜ clearedFrom 0 (countOf r) (now (out .exit)) ≡ heldFor 0 r (length (now (out .entry))) (surfaceKeys threshold (rowsOf (now (keys .entry)) (now (distances .entry)) (now (weights .entry)) count)) ⌝ }
+    ensures { λ r. ⌜ r ≡ listedIf verdict
+        (surfaceKeys threshold (rowsOf (now (keys .entry)) (now (distances .entry)) (now (weights .entry)) count))
+        (length (now (out .entry))) ⌝ }
+    ensures { λ r. ⌜ clearedFrom 0 (countOf r) (now (out .exit))
+        ≡ heldFor 0 r (length (now (out .entry)))
+        (surfaceKeys threshold (rowsOf (now (keys .entry)) (now (distances .entry)) (now (weights .entry)) count)) ⌝ }
 {
     if let Checked::Refused(why) = verdict {
         return Listed::Refused(why);
@@ -152,8 +157,12 @@ pub fn get_surface_voxels(
     threshold: Metres,
     out: &mut [u64],
 ) -> Listed
-    ensures { λ r. ⌜ r ≡ surfaceListed settings (table (now (keys .entry)) (now (distances .entry)) (now (weights .entry)) count) (threshold .0) (length (now (out .entry))) ⌝ }
-    ensures { λ _. ⌜ now (out .exit) ≡ surfaceHeld settings (table (now (keys .entry)) (now (distances .entry)) (now (weights .entry)) count) (threshold .0) (length (now (out .entry))) ⌝ }
+    ensures { λ r. ⌜ r ≡ surfaceListed settings
+        (table (now (keys .entry)) (now (distances .entry)) (now (weights .entry)) count) (threshold .0)
+        (length (now (out .entry))) ⌝ }
+    ensures { λ _. ⌜ now (out .exit) ≡ surfaceHeld settings
+        (table (now (keys .entry)) (now (distances .entry)) (now (weights .entry)) count) (threshold .0)
+        (length (now (out .entry))) ⌝ }
 {
     let below = threshold.0;
     let verdict = check_list(settings, keys, distances, weights, count, below, out.len());

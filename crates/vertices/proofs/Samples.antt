@@ -1,4 +1,5 @@
--- Document 01's sample of a vertex marked P, computed on the definitions: (10, 10, 10) at 0.25 and (11, 11, 11) at -0.25 have one edge, with the vertex (10.5, 10.5, 10.5).
+-- Document 01's sample of a vertex marked P, computed on the definitions: (10, 10, 10) at 0.25 and (11, 11, 11) at
+-- -0.25 have one edge, with the vertex (10.5, 10.5, 10.5).
 -- Assumes nothing.
 use mathlib.Core.Path.{_≡_, refl}
 use mathlib.Core.List.{List, [], _∷_, map}
@@ -26,6 +27,8 @@ pub vertices : List Vertex
 unfolding verticesOf edges
 vertices = let es = zeroCrossingEdges rows in verticesOf (distanceIn rows) one32 (firsts es) (seconds es)
 
-pub samples : map (λ xs. map (toBits binary32) xs) (xsOf vertices ∷ ysOf vertices ∷ zsOf vertices ∷ []) ≡ (0x4128_0000 ∷ []) ∷ (0x4128_0000 ∷ []) ∷ (0x4128_0000 ∷ []) ∷ []
-unfolding vertices rows edges verticesOf vertexAt vertexOf partOf orZero distanceOf stored crossing offsets inside reachedFrom shown neighboursBy respaced morton add sub mul div neg lt ne ofInt ofBits toBits
+pub samples : map (λ xs. map (toBits binary32) xs) (xsOf vertices ∷ ysOf vertices ∷ zsOf vertices ∷ [])
+    ≡ (0x4128_0000 ∷ []) ∷ (0x4128_0000 ∷ []) ∷ (0x4128_0000 ∷ []) ∷ []
+unfolding vertices rows edges verticesOf vertexAt vertexOf partOf orZero distanceOf stored crossing offsets inside
+    reachedFrom shown neighboursBy respaced morton add sub mul div neg lt ne ofInt ofBits toBits
 samples = refl

@@ -73,9 +73,11 @@ module _ (look : Lookup) (size : Float) where
 
 -- on an accepted table, as document 01 says it over the rows
 module _ (ks : List ℕ) (ds ws : List Float) (n : ℕ) (acc : Accepted ks ds ws n) (size : Float) (es : List Edge) where
-  pub own-vertices : verticesOf (distanceBy ks ds n) size (firsts es) (seconds es) ≡ map (λ (e : Edge). vertexAt (distanceIn (rowsOf ks ds ws n)) size (e .first) (e .second)) es
+  pub own-vertices : verticesOf (distanceBy ks ds n) size (firsts es) (seconds es)
+      ≡ map (λ (e : Edge). vertexAt (distanceIn (rowsOf ks ds ws n)) size (e .first) (e .second)) es
   own-vertices =
-      ap (λ (look : Lookup). verticesOf look size (firsts es) (seconds es)) (distance-by ks ds ws n acc) ∙ vertices-of-edges (distanceIn (rowsOf ks ds ws n)) size es
+      ap (λ (look : Lookup). verticesOf look size (firsts es) (seconds es)) (distance-by ks ds ws n acc)
+      ∙ vertices-of-edges (distanceIn (rowsOf ks ds ws n)) size es
 
   pub own-normals : normalsOf (distanceBy ks ds n) size (firsts es) ≡ normalsOf (distanceIn (rowsOf ks ds ws n)) size (firsts es)
   own-normals = ap (λ (look : Lookup). normalsOf look size (firsts es)) (distance-by ks ds ws n acc)

@@ -40,9 +40,15 @@ fn list_places(
     py: &mut [f32],
     pz: &mut [f32],
 )
-    ensures { λ _. ⌜ now (px .exit) ≡ sets (now (px .entry)) 0 (xsOf (verticesOf (distanceBy (now (keys .entry)) (now (distances .entry)) count) («voxel_size» .0) (take edges (now (first .entry))) (take edges (now (second .entry))))) ⌝ }
-    ensures { λ _. ⌜ now (py .exit) ≡ sets (now (py .entry)) 0 (ysOf (verticesOf (distanceBy (now (keys .entry)) (now (distances .entry)) count) («voxel_size» .0) (take edges (now (first .entry))) (take edges (now (second .entry))))) ⌝ }
-    ensures { λ _. ⌜ now (pz .exit) ≡ sets (now (pz .entry)) 0 (zsOf (verticesOf (distanceBy (now (keys .entry)) (now (distances .entry)) count) («voxel_size» .0) (take edges (now (first .entry))) (take edges (now (second .entry))))) ⌝ }
+    ensures { λ _. ⌜ now (px .exit) ≡ sets (now (px .entry)) 0
+        (xsOf (verticesOf (distanceBy (now (keys .entry)) (now (distances .entry)) count) («voxel_size» .0)
+        (take edges (now (first .entry))) (take edges (now (second .entry))))) ⌝ }
+    ensures { λ _. ⌜ now (py .exit) ≡ sets (now (py .entry)) 0
+        (ysOf (verticesOf (distanceBy (now (keys .entry)) (now (distances .entry)) count) («voxel_size» .0)
+        (take edges (now (first .entry))) (take edges (now (second .entry))))) ⌝ }
+    ensures { λ _. ⌜ now (pz .exit) ≡ sets (now (pz .entry)) 0
+        (zsOf (verticesOf (distanceBy (now (keys .entry)) (now (distances .entry)) count) («voxel_size» .0)
+        (take edges (now (first .entry))) (take edges (now (second .entry))))) ⌝ }
 {
     let n = least(edges, least(first.len(), second.len()));
     let mut i = 0;
@@ -87,9 +93,15 @@ fn list_normals(
     ny: &mut [f32],
     nz: &mut [f32],
 )
-    ensures { λ _. ⌜ now (nx .exit) ≡ sets (now (nx .entry)) 0 (partsX (normalsOf (distanceBy (now (keys .entry)) (now (distances .entry)) count) («voxel_size» .0) (take edges (now (first .entry))))) ⌝ }
-    ensures { λ _. ⌜ now (ny .exit) ≡ sets (now (ny .entry)) 0 (partsY (normalsOf (distanceBy (now (keys .entry)) (now (distances .entry)) count) («voxel_size» .0) (take edges (now (first .entry))))) ⌝ }
-    ensures { λ _. ⌜ now (nz .exit) ≡ sets (now (nz .entry)) 0 (partsZ (normalsOf (distanceBy (now (keys .entry)) (now (distances .entry)) count) («voxel_size» .0) (take edges (now (first .entry))))) ⌝ }
+    ensures { λ _. ⌜ now (nx .exit) ≡ sets (now (nx .entry)) 0
+        (partsX (normalsOf (distanceBy (now (keys .entry)) (now (distances .entry)) count) («voxel_size» .0)
+        (take edges (now (first .entry))))) ⌝ }
+    ensures { λ _. ⌜ now (ny .exit) ≡ sets (now (ny .entry)) 0
+        (partsY (normalsOf (distanceBy (now (keys .entry)) (now (distances .entry)) count) («voxel_size» .0)
+        (take edges (now (first .entry))))) ⌝ }
+    ensures { λ _. ⌜ now (nz .exit) ≡ sets (now (nz .entry)) 0
+        (partsZ (normalsOf (distanceBy (now (keys .entry)) (now (distances .entry)) count) («voxel_size» .0)
+        (take edges (now (first .entry))))) ⌝ }
 {
     let n = least(edges, first.len());
     let mut last = 0;
@@ -122,12 +134,24 @@ pub fn list_vertices(
     ny: &mut [f32],
     nz: &mut [f32],
 )
-    ensures { λ _. ⌜ now (px .exit) ≡ sets (now (px .entry)) 0 (xsOf (verticesOf (distanceBy (now (keys .entry)) (now (distances .entry)) count) («voxel_size» .0) (take edges (now (first .entry))) (take edges (now (second .entry))))) ⌝ }
-    ensures { λ _. ⌜ now (py .exit) ≡ sets (now (py .entry)) 0 (ysOf (verticesOf (distanceBy (now (keys .entry)) (now (distances .entry)) count) («voxel_size» .0) (take edges (now (first .entry))) (take edges (now (second .entry))))) ⌝ }
-    ensures { λ _. ⌜ now (pz .exit) ≡ sets (now (pz .entry)) 0 (zsOf (verticesOf (distanceBy (now (keys .entry)) (now (distances .entry)) count) («voxel_size» .0) (take edges (now (first .entry))) (take edges (now (second .entry))))) ⌝ }
-    ensures { λ _. ⌜ now (nx .exit) ≡ sets (now (nx .entry)) 0 (partsX (normalsOf (distanceBy (now (keys .entry)) (now (distances .entry)) count) («voxel_size» .0) (take edges (now (first .entry))))) ⌝ }
-    ensures { λ _. ⌜ now (ny .exit) ≡ sets (now (ny .entry)) 0 (partsY (normalsOf (distanceBy (now (keys .entry)) (now (distances .entry)) count) («voxel_size» .0) (take edges (now (first .entry))))) ⌝ }
-    ensures { λ _. ⌜ now (nz .exit) ≡ sets (now (nz .entry)) 0 (partsZ (normalsOf (distanceBy (now (keys .entry)) (now (distances .entry)) count) («voxel_size» .0) (take edges (now (first .entry))))) ⌝ }
+    ensures { λ _. ⌜ now (px .exit) ≡ sets (now (px .entry)) 0
+        (xsOf (verticesOf (distanceBy (now (keys .entry)) (now (distances .entry)) count) («voxel_size» .0)
+        (take edges (now (first .entry))) (take edges (now (second .entry))))) ⌝ }
+    ensures { λ _. ⌜ now (py .exit) ≡ sets (now (py .entry)) 0
+        (ysOf (verticesOf (distanceBy (now (keys .entry)) (now (distances .entry)) count) («voxel_size» .0)
+        (take edges (now (first .entry))) (take edges (now (second .entry))))) ⌝ }
+    ensures { λ _. ⌜ now (pz .exit) ≡ sets (now (pz .entry)) 0
+        (zsOf (verticesOf (distanceBy (now (keys .entry)) (now (distances .entry)) count) («voxel_size» .0)
+        (take edges (now (first .entry))) (take edges (now (second .entry))))) ⌝ }
+    ensures { λ _. ⌜ now (nx .exit) ≡ sets (now (nx .entry)) 0
+        (partsX (normalsOf (distanceBy (now (keys .entry)) (now (distances .entry)) count) («voxel_size» .0)
+        (take edges (now (first .entry))))) ⌝ }
+    ensures { λ _. ⌜ now (ny .exit) ≡ sets (now (ny .entry)) 0
+        (partsY (normalsOf (distanceBy (now (keys .entry)) (now (distances .entry)) count) («voxel_size» .0)
+        (take edges (now (first .entry))))) ⌝ }
+    ensures { λ _. ⌜ now (nz .exit) ≡ sets (now (nz .entry)) 0
+        (partsZ (normalsOf (distanceBy (now (keys .entry)) (now (distances .entry)) count) («voxel_size» .0)
+        (take edges (now (first .entry))))) ⌝ }
 {
     list_places(
         keys,

@@ -63,8 +63,14 @@ returns c =
     let at-start = at-fuse-sound .before .before .before .before .before .before .before .before .before .before .before .before .before .before in
     let a = at-start .args in
     let p = at-start .pre in
-    let h : a .from < length (a .batch-keys .now) = p .1 .0 in
-    (stops (a .settings) (table (a .keys .now) (a .distances .now) (a .weights .now) (a .count .now)) (a .batch-keys .now) (a .batch-distances .now) (a .batch-confidences .now) (a .from) (p .1 .1 .0) (p .1 .1 .1) h _ _ (at-fuse-sound .fuse-sound .ensures) _ (c .before .answer .given .1), passes-again (a .settings) (table (a .keys .now) (a .distances .now) (a .weights .now) (a .count .now)) (a .batch-keys .now) (a .batch-distances .now) (a .batch-confidences .now) (a .from) (p .1 .1 .0) (p .1 .1 .1) h _ _ (at-fuse-sound .fuse-sound .ensures) (p .0))
+    let h : a .from < length (a .batch-keys .now) = p .1 .0 in (
+      stops (a .settings) (table (a .keys .now) (a .distances .now) (a .weights .now) (a .count .now))
+          (a .batch-keys .now) (a .batch-distances .now) (a .batch-confidences .now) (a .from) (p .1 .1 .0) (p .1 .1 .1) h
+          _ _ (at-fuse-sound .fuse-sound .ensures) _ (c .before .answer .given .1),
+      passes-again (a .settings) (table (a .keys .now) (a .distances .now) (a .weights .now) (a .count .now))
+          (a .batch-keys .now) (a .batch-distances .now) (a .batch-confidences .now) (a .from) (p .1 .1 .0) (p .1 .1 .1) h
+          _ _ (at-fuse-sound .fuse-sound .ensures) (p .0),
+    )
 
 same-length-4 : tie.Need-same-length-4
 same-length-4 c = search needs
@@ -82,8 +88,19 @@ returns-2 c =
     let at-start = at-fuse-sound .before .before .before .before .before .before .before .before .before .before .before .before .before .before in
     let a = at-start .args in
     let p = at-start .pre in
-    let h : a .from < length (a .batch-keys .now) = p .1 .0 in
-    ((goes-on-far (a .settings) (table (a .keys .now) (a .distances .now) (a .weights .now) (a .count .now)) (a .batch-keys .now) (a .batch-distances .now) (a .batch-confidences .now) (a .from) (p .1 .1 .0) (p .1 .1 .1) h _ _ (at-fuse-sound .fuse-sound .ensures) (c .enum-told .given .1), omega arith, rw (beside-length (a .batch-keys .now) (a .batch-distances .now) (a .batch-confidences .now) (p .1 .1 .0) (p .1 .1 .1)) (omega arith)), passes-again (a .settings) (table (a .keys .now) (a .distances .now) (a .weights .now) (a .count .now)) (a .batch-keys .now) (a .batch-distances .now) (a .batch-confidences .now) (a .from) (p .1 .1 .0) (p .1 .1 .1) h _ _ (at-fuse-sound .fuse-sound .ensures) (p .0))
+    let h : a .from < length (a .batch-keys .now) = p .1 .0 in (
+      (
+        goes-on-far (a .settings) (table (a .keys .now) (a .distances .now) (a .weights .now) (a .count .now))
+            (a .batch-keys .now) (a .batch-distances .now) (a .batch-confidences .now) (a .from) (p .1 .1 .0) (p .1 .1 .1)
+            h _ _ (at-fuse-sound .fuse-sound .ensures) (c .enum-told .given .1),
+        omega arith,
+        rw (beside-length (a .batch-keys .now) (a .batch-distances .now) (a .batch-confidences .now) (p .1 .1 .0)
+            (p .1 .1 .1)) (omega arith),
+      ),
+      passes-again (a .settings) (table (a .keys .now) (a .distances .now) (a .weights .now) (a .count .now))
+          (a .batch-keys .now) (a .batch-distances .now) (a .batch-confidences .now) (a .from) (p .1 .1 .0) (p .1 .1 .1) h
+          _ _ (at-fuse-sound .fuse-sound .ensures) (p .0),
+    )
 
 same-length-7 : tie.Need-same-length-7
 same-length-7 c = search needs
@@ -101,8 +118,19 @@ returns-3 c =
     let at-start = at-fuse-sound .before .before .before .before .before .before .before .before .before .before .before .before .before .before in
     let a = at-start .args in
     let p = at-start .pre in
-    let h : a .from < length (a .batch-keys .now) = p .1 .0 in
-    ((goes-on (a .settings) (table (a .keys .now) (a .distances .now) (a .weights .now) (a .count .now)) (a .batch-keys .now) (a .batch-distances .now) (a .batch-confidences .now) (a .from) (p .1 .1 .0) (p .1 .1 .1) h _ _ (at-fuse-sound .fuse-sound .ensures) (c .enum-told2 .given .1), omega arith, rw (beside-length (a .batch-keys .now) (a .batch-distances .now) (a .batch-confidences .now) (p .1 .1 .0) (p .1 .1 .1)) (omega arith)), passes-again (a .settings) (table (a .keys .now) (a .distances .now) (a .weights .now) (a .count .now)) (a .batch-keys .now) (a .batch-distances .now) (a .batch-confidences .now) (a .from) (p .1 .1 .0) (p .1 .1 .1) h _ _ (at-fuse-sound .fuse-sound .ensures) (p .0))
+    let h : a .from < length (a .batch-keys .now) = p .1 .0 in (
+      (
+        goes-on (a .settings) (table (a .keys .now) (a .distances .now) (a .weights .now) (a .count .now))
+            (a .batch-keys .now) (a .batch-distances .now) (a .batch-confidences .now) (a .from) (p .1 .1 .0) (p .1 .1 .1)
+            h _ _ (at-fuse-sound .fuse-sound .ensures) (c .enum-told2 .given .1),
+        omega arith,
+        rw (beside-length (a .batch-keys .now) (a .batch-distances .now) (a .batch-confidences .now) (p .1 .1 .0)
+            (p .1 .1 .1)) (omega arith),
+      ),
+      passes-again (a .settings) (table (a .keys .now) (a .distances .now) (a .weights .now) (a .count .now))
+          (a .batch-keys .now) (a .batch-distances .now) (a .batch-confidences .now) (a .from) (p .1 .1 .0) (p .1 .1 .1) h
+          _ _ (at-fuse-sound .fuse-sound .ensures) (p .0),
+    )
 
 pub batch-one-spec : {M : Type 1} → statement M
 batch-one-spec =

@@ -15,7 +15,17 @@ use Rattle.batches.proofs.batch_sound.Statement.{statement}
 use Rattle.batches.proofs.batch_sound.Tie as tie
 
 abbrev Inv-loop : tie.InvT-loop
-Inv-loop settings keys₀ distances₀ weights₀ count₀ batch-keys batch-distances batch-confidences i₀ keys distances weights count i = (i ≤ length batch-keys) × (tableCheck settings (table keys distances weights count) ≡ Passed) × (batchFrom settings 0 (table keys₀ distances₀ weights₀ count₀) (beside batch-keys batch-distances batch-confidences) ≡ batchFrom settings i (table keys distances weights count) (drop i (beside batch-keys batch-distances batch-confidences))) × (length keys ≡ length keys₀) × (length distances ≡ length distances₀) × (length weights ≡ length weights₀)
+Inv-loop settings keys₀ distances₀ weights₀ count₀ batch-keys batch-distances batch-confidences i₀ keys distances
+    weights count i =
+    (i ≤ length batch-keys)
+    × (tableCheck settings (table keys distances weights count) ≡ Passed)
+    × (batchFrom settings 0 (table keys₀ distances₀ weights₀ count₀)
+    (beside batch-keys batch-distances batch-confidences)
+    ≡ batchFrom settings i (table keys distances weights count)
+    (drop i (beside batch-keys batch-distances batch-confidences)))
+    × (length keys ≡ length keys₀)
+    × (length distances ≡ length distances₀)
+    × (length weights ≡ length weights₀)
 
 abbrev μ-loop : tie.MeasureT-loop
 μ-loop settings keys₀ distances₀ weights₀ count₀ batch-keys batch-distances batch-confidences i₀ keys distances weights count i = length batch-keys - i
@@ -77,8 +87,14 @@ loop-again c =
     let at-start = at-loop .before .before .before .before .before .before .before in
     let a = at-start .args in
     let n = beside-length (a .batch-keys .now) (a .batch-distances .now) (a .batch-confidences .now) (at-start .pre .1 .0) (at-start .pre .1 .1) in
-    let r = run-goes _ _ _ _ _ _ _ (at-batch-step .batch-step .ensures) _ (c .before .run2 .given .1) in
-    (omega (arith, n, r .2), at-batch-step .batch-step .ensures .1, at-loop .loop .inv .2 ∙ r .0, at-batch-step .batch-step .kept .1 .0 ∙ at-loop .loop .inv .3, at-batch-step .batch-step .kept .1 .1 .0 ∙ at-loop .loop .inv .4, at-batch-step .batch-step .kept .1 .1 .1 .0 ∙ at-loop .loop .inv .5)
+    let r = run-goes _ _ _ _ _ _ _ (at-batch-step .batch-step .ensures) _ (c .before .run2 .given .1) in (
+      omega (arith, n, r .2),
+      at-batch-step .batch-step .ensures .1,
+      at-loop .loop .inv .2 ∙ r .0,
+      at-batch-step .batch-step .kept .1 .0 ∙ at-loop .loop .inv .3,
+      at-batch-step .batch-step .kept .1 .1 .0 ∙ at-loop .loop .inv .4,
+      at-batch-step .batch-step .kept .1 .1 .1 .0 ∙ at-loop .loop .inv .5,
+    )
 
 same-length-4 : tie.Need-same-length-4 Inv-loop μ-loop
 same-length-4 c =
@@ -96,7 +112,9 @@ returns-2 : tie.Need-returns-2 Inv-loop μ-loop
 returns-2 c =
     let at-start = c .before .before .before .before .before .before .before .before in
     let a = at-start .args in
-    sym (c .before .loop .inv .2 ∙ ended (a .settings) _ (a .batch-keys .now) (a .batch-distances .now) (a .batch-confidences .now) (c .before .loop .i) (c .loop-test .left))
+    sym (c .before .loop .inv .2
+    ∙ ended (a .settings) _ (a .batch-keys .now) (a .batch-distances .now) (a .batch-confidences .now)
+    (c .before .loop .i) (c .loop-test .left))
 
 pub batch-sound-spec : {M : Type 1} → statement M
 batch-sound-spec =

@@ -81,7 +81,9 @@ returns-4 c =
     let at-if2 = at-batch-one2 .before .before .before .before .before in
     let at-run2 = at-if2 .before .before in
     let at-batch-run = at-run2 .before .before .before .before .before .before .before .before in
-    then-runs _ _ _ _ _ _ _ (at-batch-run .batch-run .ensures) _ (at-run2 .run2 .given .1) (at-if2 .if2 .left) (run-goes _ _ _ _ _ _ _ (at-batch-run .batch-run .ensures) _ (at-run2 .run2 .given .1) .1) _ _ (at-batch-one2 .batch-one2 .ensures)
+    then-runs _ _ _ _ _ _ _ (at-batch-run .batch-run .ensures) _ (at-run2 .run2 .given .1) (at-if2 .if2 .left)
+    (run-goes _ _ _ _ _ _ _ (at-batch-run .batch-run .ensures) _ (at-run2 .run2 .given .1) .1) _ _
+    (at-batch-one2 .batch-one2 .ensures)
 
 pub batch-step-spec : {M : Type 1} → statement M
 batch-step-spec =

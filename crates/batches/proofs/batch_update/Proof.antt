@@ -55,7 +55,12 @@ unfolding batch batchIf need
 returns-3 c =
     let n = c .before .before .before .before .before .before .before .before in
     let e = n .before .before in
-    rw (yes (e .before .settings-ok .ensures) (e .if1 .left), yes (n .before .lengths-ok .ensures) (n .if2 .left), ← c .before .before .before .check-table .ensures, c .before .why .given .1)
+    rw (
+      yes (e .before .settings-ok .ensures) (e .if1 .left),
+      yes (n .before .lengths-ok .ensures) (n .if2 .left),
+      ← c .before .before .before .check-table .ensures,
+      c .before .why .given .1,
+    )
 
 same-length-4 : tie.Need-same-length-4
 same-length-4 c = search needs
@@ -74,7 +79,13 @@ returns-4 c =
     let at-check-table = at-enum-told .before .before in
     let n = c .before .before .before .before .before .before .before .before .before .before .before .before .before .before .before .before .before .before in
     let e = n .before .before in
-    rw (yes (e .before .settings-ok .ensures) (e .if1 .left), yes (n .before .lengths-ok .ensures) (n .if2 .left), ← at-check-table .check-table .ensures, at-enum-told .enum-told .given .1) (at-batch-sound .batch-sound .ensures)
+    rw (
+      yes (e .before .settings-ok .ensures) (e .if1 .left),
+      yes (n .before .lengths-ok .ensures) (n .if2 .left),
+      ← at-check-table .check-table .ensures,
+      at-enum-told .enum-told .given .1,
+    )
+    (at-batch-sound .batch-sound .ensures)
 
 pub batch-update-spec : {M : Type 1} → statement M
 batch-update-spec =

@@ -1,4 +1,5 @@
--- `bcc_utils::snap_place` meets its contract: each `match` is one of the definition's, and a rounded number is read back from its bits, since it fits. Assumes nothing.
+-- `bcc_utils::snap_place` meets its contract: each `match` is one of the definition's, and a rounded number is read
+-- back from its bits, since it fits. Assumes nothing.
 use Rattle.bcc_utils.specs.Metres.{placeSnapped}
 use mathlib.Core.Path.{_≡_}
 use mir.Syntax.{w32}
@@ -54,9 +55,11 @@ returns-2 c =
 returns-3 : tie.Need-returns-3
 unfolding placeSnapped
 returns-3 c =
+    let at-a = c .before .before .before .before .before .before .before .before .before in
+    let at-cells-of = at-a .before .before in
     rw (
-      ← c .before .before .before .before .before .before .before .before .before .before .before .cells-of .ensures,
-      c .before .before .before .before .before .before .before .before .before .a .given .1,
+      ← at-cells-of .cells-of .ensures,
+      at-a .a .given .1,
       ← c .before .before .before .before .before .before .before .cells-of2 .ensures,
       c .before .before .before .before .before .b .given .1,
       ← c .before .before .before .cells-of3 .ensures,
@@ -72,11 +75,14 @@ returns-4 c =
     let ha : toZ w32 (ofZ w32 a) ≡ a = search needs in
     let hb : toZ w32 (ofZ w32 b) ≡ b = search needs in
     let hd : toZ w32 (ofZ w32 d) ≡ d = search needs in
+    let at-cells-of2 = c .before .before .before .before .before .before .before .before in
+    let at-a = at-cells-of2 .before .before in
+    let at-cells-of = at-a .before .before in
     rw (
       c .snap-to-nearest-bcc .ensures,
-      ← c .before .before .before .before .before .before .before .before .before .before .before .before .cells-of .ensures,
-      c .before .before .before .before .before .before .before .before .before .before .a .given .1,
-      ← c .before .before .before .before .before .before .before .before .cells-of2 .ensures,
+      ← at-cells-of .cells-of .ensures,
+      at-a .a .given .1,
+      ← at-cells-of2 .cells-of2 .ensures,
       c .before .before .before .before .before .before .b .given .1,
       ← c .before .before .before .before .cells-of3 .ensures,
       c .before .before .c .given .1,

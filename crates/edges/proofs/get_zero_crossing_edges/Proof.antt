@@ -32,13 +32,16 @@ returns : tie.Need-returns
 returns c =
     let l = c .before .before .before .before .before .before .before .before .before .before .before .before .before in
     let n = c .before .before .before .before .before .before .before .before .count-of .ensures in
-    let verdict = c .before .before .before .before .before .before .before .before .before .before .before .before .before .before .before .before .check .ensures in
-    let a = c .before .before .before .before .before .before .before .before .before .before .before .before .before .before .before .before .before .before .before .before .before .before .args in
+    let verdict = c .before .before .before .before .before .before .before .before .before .before .before .before
+    .before .before .before .before .check .ensures in
+    let a = c .before .before .before .before .before .before .before .before .before .before .before .before .before
+    .before .before .before .before .before .before .before .before .before .args in
     let t = table (a .keys .now) (a .distances .now) (a .weights .now) (a .count) in
     let done = l .list-checked .ensures in (
       answered (a .settings) t _ _ _ verdict _ (done .0),
       (
-        cleared-to (a .settings) t _ _ _ verdict _ (done .0) _ n _ _ _ _ (c .before .before .before .before .before .before .clear-from-u64 .ensures) (done .1 .0),
+        cleared-to (a .settings) t _ _ _ verdict _ (done .0) _ n _ _ _ _
+            (c .before .before .before .before .before .before .clear-from-u64 .ensures) (done .1 .0),
         cleared-to (a .settings) t _ _ _ verdict _ (done .0) _ n _ _ _ _ (c .before .before .clear-from-u642 .ensures) (done .1 .1),
       ),
     )

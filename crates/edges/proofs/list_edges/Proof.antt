@@ -47,7 +47,9 @@ loop-again c =
     let p = s .pre .0 in (
       omega arith,
       omega (arith, t .list-row .ensures .1),
-      row-turn neighbours crossesZero _ (l .loop .row) _ (row-at (a .keys .now) (a .distances .now) (a .weights .now) (a .count) (l .loop .row) (p .distances) (p .weights) below (p .fits))
+      row-turn neighbours crossesZero _ (l .loop .row) _
+          (row-at (a .keys .now) (a .distances .now) (a .weights .now) (a .count) (l .loop .row) (p .distances)
+          (p .weights) below (p .fits))
           _ _ _ _ _ _ _ _ _ _ (l .loop .inv .2) (t .list-row .ensures .0),
     )
 

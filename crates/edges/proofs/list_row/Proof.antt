@@ -64,7 +64,11 @@ few c = rw (size c) (at-most-14 (key c))
 -- what was asked of the neighbour
 asked : (c : tie.After-is-listed Inv-loop μ-loop) →
     let l = c .before .before in
-    c .is-listed .result ≡ listed neighbours crossesZero (rowsOf (start l .args .keys .now) (start l .args .distances .now) (start l .args .weights .now) (start l .args .count)) (rowAt (start l .args .keys .now) (start l .args .distances .now) (start l .args .weights .now) (start l .args .row)) (getD (neighbours (key l)) (l .loop .i) 0)
+    c .is-listed .result ≡ listed neighbours crossesZero
+    (rowsOf (start l .args .keys .now) (start l .args .distances .now) (start l .args .weights .now)
+    (start l .args .count))
+    (rowAt (start l .args .keys .now) (start l .args .distances .now) (start l .args .weights .now)
+    (start l .args .row)) (getD (neighbours (key l)) (l .loop .i) 0)
 asked c = c .is-listed .ensures ∙ ap (listed neighbours crossesZero _ _) (cell (c .before .before) (c .before .before .loop .i))
 
 mul-k : tie.Need-mul-k Inv-loop μ-loop
@@ -80,7 +84,8 @@ put-edge-requires : tie.Need-put-edge-requires Inv-loop μ-loop
 put-edge-requires c κs = search needs
 
 add-end : tie.Need-add-end Inv-loop μ-loop
-add-end c = let l = c .before .before .before .before .before .before .before .before .before .before in omega (arith, few l, start l .pre .2, start l .pre .0 .few)
+add-end c = let l = c .before .before .before .before .before .before .before .before .before .before in
+    omega (arith, few l, start l .pre .2, start l .pre .0 .few)
 
 add-i : tie.Need-add-i Inv-loop μ-loop
 add-i c = search needs
@@ -96,7 +101,12 @@ loop-again c =
     let h : i < length (neighbours (key l)) = omega (arith, size l) in
     let e = asked (c .before) in
     ⊎-elim
-    (λ p. (omega arith, omega (arith, p .10), turn-listed _ _ _ _ _ _ h _ _ _ _ _ _ _ _ _ _ w _ e (p .0 .taken) _ (cell l i) (p .8 ∙ p .3 .ensures .0) (p .9 ∙ p .3 .ensures .1) (p .10)))
+    (λ p. (
+      omega arith,
+      omega (arith, p .10),
+      turn-listed _ _ _ _ _ _ h _ _ _ _ _ _ _ _ _ _ w _ e (p .0 .taken) _ (cell l i) (p .8 ∙ p .3 .ensures .0)
+          (p .9 ∙ p .3 .ensures .1) (p .10),
+    ))
     (λ p. (omega arith, omega (arith, p .3), turn-unlisted _ _ _ _ _ _ h _ _ _ _ _ _ _ _ _ _ w _ e (p .0 .left) (p .1) (p .2) (p .3)))
     (c .if1 .came)
 

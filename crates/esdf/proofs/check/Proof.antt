@@ -14,7 +14,8 @@ settings-ok-requires c κs = search needs
 returns : tie.Need-returns
 returns c =
     let a = c .before .before .before .before .before .args in
-    sym (check-setting (a .settings) (table (a .keys .now) (a .distances .now) (a .weights .now) (a .count)) (a .threshold) (a .fit) (no (c .before .settings-ok .ensures) (c .if1 .taken)))
+    sym (check-setting (a .settings) (table (a .keys .now) (a .distances .now) (a .weights .now) (a .count))
+    (a .threshold) (a .fit) (no (c .before .settings-ok .ensures) (c .if1 .taken)))
 
 lengths-ok-requires : tie.Need-lengths-ok-requires
 lengths-ok-requires c κs = search needs
@@ -22,12 +23,17 @@ lengths-ok-requires c κs = search needs
 returns-2 : tie.Need-returns-2
 returns-2 c =
     let a = c .before .before .before .before .before .before .before .args in
-    sym (check-lengths (a .settings) (table (a .keys .now) (a .distances .now) (a .weights .now) (a .count)) (a .threshold) (a .fit) (yes (c .before .before .before .settings-ok .ensures) (c .before .before .if1 .left)) (no (c .before .lengths-ok .ensures) (c .if2 .taken)))
+    sym (check-lengths (a .settings) (table (a .keys .now) (a .distances .now) (a .weights .now) (a .count))
+    (a .threshold) (a .fit) (yes (c .before .before .before .settings-ok .ensures) (c .before .before .if1 .left))
+    (no (c .before .lengths-ok .ensures) (c .if2 .taken)))
 
 returns-3 : tie.Need-returns-3
 returns-3 c =
     let a = c .before .before .before .before .before .before .before .before .args in
-    sym (check-places (a .settings) (table (a .keys .now) (a .distances .now) (a .weights .now) (a .count)) (a .threshold) (a .fit) (yes (c .before .before .before .before .settings-ok .ensures) (c .before .before .before .if1 .left)) (yes (c .before .before .lengths-ok .ensures) (c .before .if2 .left)) (no refl (c .if3 .taken)))
+    sym (check-places (a .settings) (table (a .keys .now) (a .distances .now) (a .weights .now) (a .count))
+    (a .threshold) (a .fit)
+    (yes (c .before .before .before .before .settings-ok .ensures) (c .before .before .before .if1 .left))
+    (yes (c .before .before .lengths-ok .ensures) (c .before .if2 .left)) (no refl (c .if3 .taken)))
 
 check-table-requires : tie.Need-check-table-requires
 check-table-requires c κs = search needs
@@ -43,18 +49,42 @@ is-finite-requires c κs = search needs
 
 returns-4 : tie.Need-returns-4
 returns-4 c =
+    let at-settings-ok = c .before .before .before .before .before .before .before .before in
     let a = c .before .before .before .before .before .before .before .before .before .before .before .before .args in
-    sym (check-row (a .settings) (table (a .keys .now) (a .distances .now) (a .weights .now) (a .count)) (a .threshold) (a .fit) (yes (c .before .before .before .before .before .before .before .before .settings-ok .ensures) (c .before .before .before .before .before .before .before .if1 .left)) (yes (c .before .before .before .before .before .before .lengths-ok .ensures) (c .before .before .before .before .before .if2 .left)) (yes refl (c .before .before .before .before .if3 .left)) _ _ (c .before .before .before .check-table .ensures) (c .before .why .given .1))
+    sym (check-row (a .settings) (table (a .keys .now) (a .distances .now) (a .weights .now) (a .count)) (a .threshold)
+    (a .fit)
+    (yes (at-settings-ok .settings-ok .ensures)
+    (c .before .before .before .before .before .before .before .if1 .left))
+    (yes (c .before .before .before .before .before .before .lengths-ok .ensures)
+    (c .before .before .before .before .before .if2 .left))
+    (yes refl (c .before .before .before .before .if3 .left)) _ _ (c .before .before .before .check-table .ensures)
+    (c .before .why .given .1))
 
 returns-5 : tie.Need-returns-5
 returns-5 c =
+    let at-if1 = c .before .before .before .before .before .before .before .before in
+    let at-settings-ok = at-if1 .before in
     let a = c .before .before .before .before .before .before .before .before .before .before .before .before .before .args in
-    sym (check-passed (a .settings) (table (a .keys .now) (a .distances .now) (a .weights .now) (a .count)) (a .threshold) (a .fit) (yes (c .before .before .before .before .before .before .before .before .before .settings-ok .ensures) (c .before .before .before .before .before .before .before .before .if1 .left)) (yes (c .before .before .before .before .before .before .before .lengths-ok .ensures) (c .before .before .before .before .before .before .if2 .left)) (yes refl (c .before .before .before .before .before .if3 .left)) _ (c .before .before .before .before .check-table .ensures) (c .before .before .enum-told .given .1) (sym (c .before .is-finite .ensures) ∙ c .if4 .taken))
+    sym (check-passed (a .settings) (table (a .keys .now) (a .distances .now) (a .weights .now) (a .count))
+    (a .threshold) (a .fit) (yes (at-settings-ok .settings-ok .ensures) (at-if1 .if1 .left))
+    (yes (c .before .before .before .before .before .before .before .lengths-ok .ensures)
+    (c .before .before .before .before .before .before .if2 .left))
+    (yes refl (c .before .before .before .before .before .if3 .left)) _
+    (c .before .before .before .before .check-table .ensures) (c .before .before .enum-told .given .1)
+    (sym (c .before .is-finite .ensures) ∙ c .if4 .taken))
 
 returns-6 : tie.Need-returns-6
 returns-6 c =
+    let at-if1 = c .before .before .before .before .before .before .before .before in
+    let at-settings-ok = at-if1 .before in
     let a = c .before .before .before .before .before .before .before .before .before .before .before .before .before .args in
-    sym (check-reading (a .settings) (table (a .keys .now) (a .distances .now) (a .weights .now) (a .count)) (a .threshold) (a .fit) (yes (c .before .before .before .before .before .before .before .before .before .settings-ok .ensures) (c .before .before .before .before .before .before .before .before .if1 .left)) (yes (c .before .before .before .before .before .before .before .lengths-ok .ensures) (c .before .before .before .before .before .before .if2 .left)) (yes refl (c .before .before .before .before .before .if3 .left)) _ (c .before .before .before .before .check-table .ensures) (c .before .before .enum-told .given .1) (sym (c .before .is-finite .ensures) ∙ c .if4 .left))
+    sym (check-reading (a .settings) (table (a .keys .now) (a .distances .now) (a .weights .now) (a .count))
+    (a .threshold) (a .fit) (yes (at-settings-ok .settings-ok .ensures) (at-if1 .if1 .left))
+    (yes (c .before .before .before .before .before .before .before .lengths-ok .ensures)
+    (c .before .before .before .before .before .before .if2 .left))
+    (yes refl (c .before .before .before .before .before .if3 .left)) _
+    (c .before .before .before .before .check-table .ensures) (c .before .before .enum-told .given .1)
+    (sym (c .before .is-finite .ensures) ∙ c .if4 .left))
 
 pub check-spec : {M : Type 1} → statement M
 check-spec =

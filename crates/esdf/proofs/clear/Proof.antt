@@ -29,7 +29,18 @@ same-length-4 : tie.Need-same-length-4
 same-length-4 c = search needs
 
 returns : tie.Need-returns
-returns c = (c .before .before .before .before .before .before .before .before .before .before .before .before .before .before .clear-u64 .ensures, (c .before .before .before .before .before .before .before .before .before .before .clear-f32 .ensures, (c .before .before .before .before .before .before .clear-f322 .ensures, c .before .before .clear-u642 .ensures)))
+returns c =
+    let at-clear-f32 = c .before .before .before .before .before .before .before .before .before .before in
+    let at-clear-u64 = at-clear-f32 .before .before .before .before in (
+      at-clear-u64 .clear-u64 .ensures,
+      (
+        at-clear-f32 .clear-f32 .ensures,
+        (
+          c .before .before .before .before .before .before .clear-f322 .ensures,
+          c .before .before .clear-u642 .ensures,
+        ),
+      ),
+    )
 
 pub clear-spec : {M : Type 1} → statement M
 clear-spec =

@@ -14,7 +14,8 @@ use Rattle.esdf.proofs.heard.Tie as tie
 within : (c : tie.After-known-told) → c .before .at .given .0 .0 < length (c .before .before .before .before .before .before .args .distances .now)
 within c =
     let s = c .before .before .before .before .before .before in
-    found-in (s .pre .0) (s .args .count) (s .args .keys .now) (s .args .distances .now) (s .pre .1) (s .args .neighbour) _ (c .before .before .before .find-row .ensures) _ (c .before .at .given .1)
+    found-in (s .pre .0) (s .args .count) (s .args .keys .now) (s .args .distances .now) (s .pre .1)
+    (s .args .neighbour) _ (c .before .before .before .find-row .ensures) _ (c .before .at .given .1)
 
 find-row-requires : tie.Need-find-row-requires
 find-row-requires c κs = search needs
@@ -29,7 +30,9 @@ returns : tie.Need-returns
 unfolding heard
 returns c =
     let a = c .before .before .before .before .before .args in
-    λ rs h. rw (absent-distance rs (a .count) (a .keys .now) (a .distances .now) h (a .neighbour) _ (c .before .before .find-row .ensures) (c .enum-told .given .1))
+    λ rs h.
+    rw (absent-distance rs (a .count) (a .keys .now) (a .distances .now) h (a .neighbour) _
+    (c .before .before .find-row .ensures) (c .enum-told .given .1))
 
 step-length-requires : tie.Need-step-length-requires
 step-length-requires c κs = search needs
@@ -51,19 +54,27 @@ size-requires-2 c κs = search needs
 
 returns-2 : tie.Need-returns-2
 returns-2 c =
+    let at-find-row = c .before .before .before .before .before .before .before .before .before in
     let a = c .before .before .before .before .before .before .before .before .before .before .before .before .args in
     λ rs h.
     heard-better _ _ _ _ _ _ _ _
-    (found-distance rs (a .count) (a .keys .now) (a .distances .now) h (a .neighbour) _ (c .before .before .before .before .before .before .before .before .before .find-row .ensures) _ (c .before .before .before .before .before .before .before .at .given .1))
-    (c .before .before .before .candidate .ensures ∙ rw (c .before .before .before .before .before .step-length .ensures)) (c .before .before .size .ensures) (c .before .size2 .ensures) (c .if1 .taken)
+    (found-distance rs (a .count) (a .keys .now) (a .distances .now) h (a .neighbour) _ (at-find-row .find-row .ensures)
+    _ (c .before .before .before .before .before .before .before .at .given .1))
+    (c .before .before .before .candidate .ensures
+    ∙ rw (c .before .before .before .before .before .step-length .ensures)) (c .before .before .size .ensures)
+    (c .before .size2 .ensures) (c .if1 .taken)
 
 returns-3 : tie.Need-returns-3
 returns-3 c =
+    let at-find-row = c .before .before .before .before .before .before .before .before .before in
     let a = c .before .before .before .before .before .before .before .before .before .before .before .before .args in
     λ rs h.
     heard-worse _ _ _ _ _ _ _ _
-    (found-distance rs (a .count) (a .keys .now) (a .distances .now) h (a .neighbour) _ (c .before .before .before .before .before .before .before .before .before .find-row .ensures) _ (c .before .before .before .before .before .before .before .at .given .1))
-    (c .before .before .before .candidate .ensures ∙ rw (c .before .before .before .before .before .step-length .ensures)) (c .before .before .size .ensures) (c .before .size2 .ensures) (c .if1 .left)
+    (found-distance rs (a .count) (a .keys .now) (a .distances .now) h (a .neighbour) _ (at-find-row .find-row .ensures)
+    _ (c .before .before .before .before .before .before .before .at .given .1))
+    (c .before .before .before .candidate .ensures
+    ∙ rw (c .before .before .before .before .before .step-length .ensures)) (c .before .before .size .ensures)
+    (c .before .size2 .ensures) (c .if1 .left)
 
 pub heard-spec : {M : Type 1} → statement M
 heard-spec =

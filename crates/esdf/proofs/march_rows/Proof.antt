@@ -17,9 +17,19 @@ enum-known-rows c = search needs
 
 take-all-requires : tie.Need-take-all-requires
 take-all-requires c κs =
-    let a = c .before .before .before .before .before .before .before .before .before .before .before .before .before .before .before .before .before .before .before .before .before .before .before .before .before .before .before .args in
-    let p = c .before .before .before .before .before .before .before .before .before .before .before .before .before .before .before .before .before .before .before .before .before .before .before .before .before .before .before .pre in
-    let x = sown-all (a .size) (a .most) (a .threshold) (rowsOf (a .fused-keys .now) (a .fused-distances .now) (a .fused-weights .now) (a .fused-count)) (a .keys .now) (a .cells .now) _ _ _ _ _ (c .before .before .before .before .before .before .before .before .before .before .before .before .before .before .before .sow-all .ensures) (rows-ascend _ _ _ _ (p .0)) (c .before .before .before .before .before .before .before .before .before .before .before .before .before .before .before .sow-all .kept .1 .1 .1 .1 .1 .0) (c .before .before .before .before .before .before .before .before .before .before .before .before .before .before .before .sow-all .kept .1 .1 .1 .1 .1 .1 .1 .1 .0) _ _ (c .before .before .before .before .before .rows .given .1) in
+    let at-sow-all = c .before .before .before .before .before .before .before .before .before .before .before .before .before .before .before in
+    let a = c .before .before .before .before .before .before .before .before .before .before .before .before .before
+    .before .before .before .before .before .before .before .before .before .before .before .before .before
+    .before .args in
+    let p = c .before .before .before .before .before .before .before .before .before .before .before .before .before
+    .before .before .before .before .before .before .before .before .before .before .before .before .before
+    .before .pre in
+    let x =
+    sown-all (a .size) (a .most) (a .threshold)
+    (rowsOf (a .fused-keys .now) (a .fused-distances .now) (a .fused-weights .now) (a .fused-count)) (a .keys .now)
+    (a .cells .now) _ _ _ _ _ (at-sow-all .sow-all .ensures) (rows-ascend _ _ _ _ (p .0))
+    (at-sow-all .sow-all .kept .1 .1 .1 .1 .1 .0) (at-sow-all .sow-all .kept .1 .1 .1 .1 .1 .1 .1 .1 .0) _ _
+    (c .before .before .before .before .before .rows .given .1) in
     (_, (x .0, x .1 .1))
 
 same-length : tie.Need-same-length
@@ -36,8 +46,12 @@ same-length-4 c = search needs
 
 returns : tie.Need-returns
 returns c =
-    let a = c .before .before .before .before .before .before .before .before .before .before .before .before .before .before .before .before .before .before .before .before .before .before .before .args in
-    march-refused (a .size) (a .most) (a .threshold) (rowsOf (a .fused-keys .now) (a .fused-distances .now) (a .fused-weights .now) (a .fused-count)) (a .keys .now) (a .cells .now) _ _ _ _ _ (c .before .before .before .before .before .before .before .before .before .before .before .sow-all .ensures) _ (c .before .why .given .1)
+    let at-sow-all = c .before .before .before .before .before .before .before .before .before .before .before in
+    let a = c .before .before .before .before .before .before .before .before .before .before .before .before .before
+    .before .before .before .before .before .before .before .before .before .before .args in
+    march-refused (a .size) (a .most) (a .threshold)
+    (rowsOf (a .fused-keys .now) (a .fused-distances .now) (a .fused-weights .now) (a .fused-count)) (a .keys .now)
+    (a .cells .now) _ _ _ _ _ (at-sow-all .sow-all .ensures) _ (c .before .why .given .1)
 
 same-length-5 : tie.Need-same-length-5
 same-length-5 c = search needs
@@ -53,9 +67,20 @@ same-length-8 c = search needs
 
 returns-2 : tie.Need-returns-2
 returns-2 c =
-    let a = c .before .before .before .before .before .before .before .before .before .before .before .before .before .before .before .before .before .before .before .before .before .before .before .before .before .before .before .before .before .before .before .before .before .before .before .before .args in
-    let p = c .before .before .before .before .before .before .before .before .before .before .before .before .before .before .before .before .before .before .before .before .before .before .before .before .before .before .before .before .before .before .before .before .before .before .before .before .pre in
-    march-taken (a .size) (a .most) (a .threshold) (rowsOf (a .fused-keys .now) (a .fused-distances .now) (a .fused-weights .now) (a .fused-count)) (a .keys .now) (a .cells .now) _ _ _ _ _ (c .before .before .before .before .before .before .before .before .before .before .before .before .before .before .before .before .before .before .before .before .before .before .before .before .sow-all .ensures) (rows-ascend _ _ _ _ (p .0)) (c .before .before .before .before .before .before .before .before .before .before .before .before .before .before .before .before .before .before .before .before .before .before .before .before .sow-all .kept .1 .1 .1 .1 .1 .0) (c .before .before .before .before .before .before .before .before .before .before .before .before .before .before .before .before .before .before .before .before .before .before .before .before .sow-all .kept .1 .1 .1 .1 .1 .1 .1 .1 .0) _ _ (c .before .before .before .before .before .before .before .before .before .before .before .before .before .before .rows .given .1) _ _ _ _ _ (c .before .before .before .before .before .before .before .before .take-all .ensures)
+    let at-take-all = c .before .before .before .before .before .before .before .before in
+    let at-rows = at-take-all .before .before .before .before .before .before in
+    let at-sow-all = at-rows .before .before .before .before .before .before .before .before .before .before in
+    let a = c .before .before .before .before .before .before .before .before .before .before .before .before .before
+    .before .before .before .before .before .before .before .before .before .before .before .before .before
+    .before .before .before .before .before .before .before .before .before .before .args in
+    let p = c .before .before .before .before .before .before .before .before .before .before .before .before .before
+    .before .before .before .before .before .before .before .before .before .before .before .before .before
+    .before .before .before .before .before .before .before .before .before .before .pre in
+    march-taken (a .size) (a .most) (a .threshold)
+    (rowsOf (a .fused-keys .now) (a .fused-distances .now) (a .fused-weights .now) (a .fused-count)) (a .keys .now)
+    (a .cells .now) _ _ _ _ _ (at-sow-all .sow-all .ensures) (rows-ascend _ _ _ _ (p .0))
+    (at-sow-all .sow-all .kept .1 .1 .1 .1 .1 .0) (at-sow-all .sow-all .kept .1 .1 .1 .1 .1 .1 .1 .1 .0) _ _
+    (at-rows .rows .given .1) _ _ _ _ _ (at-take-all .take-all .ensures)
 
 pub march-rows-spec : {M : Type 1} → statement M
 march-rows-spec =

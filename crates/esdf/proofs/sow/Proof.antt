@@ -26,16 +26,22 @@ unfolding sow
 returns c =
     let a = c .before .before .before .before .before .before .before .before .before .before .before .before .before .args in
     λ s h new.
-    no-place _ _ s (a .waiting) (a .estimates .now) (a .cells .now) (h .cells) _ _ _ (c .before .before .before .before .before .before .store .ensures s (h .rows) new) (c .enum-told .given .1) _ _
+    no-place _ _ s (a .waiting) (a .estimates .now) (a .cells .now) (h .cells) _ _ _
+    (c .before .before .before .before .before .before .store .ensures s (h .rows) new) (c .enum-told .given .1) _ _
 
 size-requires : tie.Need-size-requires
 size-requires c κs = search needs
 
 wait-around-requires : tie.Need-wait-around-requires
 wait-around-requires c κs =
-    let a = c .before .before .before .before .before .before .before .before .before .before .before .before .before .before .before .before .before .before .args in
-    let p = c .before .before .before .before .before .before .before .before .before .before .before .before .before .before .before .before .before .before .pre in
-    then-may _ (λ t. on t) (p .0) (a .waiting) (a .estimates .now) (a .cells .now) (p .1 .0 .cells) _ _ _ (c .before .before .before .before .before .before .before .before .before .before .before .store .ensures (p .0) (p .1 .0 .rows) (p .1 .1)) _ (c .before .before .before .before .before .rows .given .1)
+    let at-store = c .before .before .before .before .before .before .before .before .before .before .before in
+    let a = c .before .before .before .before .before .before .before .before .before .before .before .before .before
+    .before .before .before .before .before .args in
+    let p = c .before .before .before .before .before .before .before .before .before .before .before .before .before
+    .before .before .before .before .before .pre in
+    then-may _ (λ t. on t) (p .0) (a .waiting) (a .estimates .now) (a .cells .now) (p .1 .0 .cells) _ _ _
+    (at-store .store .ensures (p .0) (p .1 .0 .rows) (p .1 .1)) _
+    (c .before .before .before .before .before .rows .given .1)
 
 enum-known-held : tie.Need-enum-known-held
 enum-known-held c = search needs
@@ -58,9 +64,15 @@ same-length-6 c = search needs
 returns-2 : tie.Need-returns-2
 unfolding sow
 returns-2 c =
-    let a = c .before .before .before .before .before .before .before .before .before .before .before .before .before .before .before .before .before .before .before .before .before .before .before .before .before .args in
+    let at-rows = c .before .before .before .before .before .before .before .before .before .before .before .before in
+    let at-store = at-rows .before .before .before .before .before .before in
+    let a = c .before .before .before .before .before .before .before .before .before .before .before .before .before
+    .before .before .before .before .before .before .before .before .before .before .before .before .args in
     λ s h new.
-    no-waiting _ _ s (a .waiting) (a .estimates .now) (a .cells .now) (h .cells) _ _ _ (c .before .before .before .before .before .before .before .before .before .before .before .before .before .before .before .before .before .before .store .ensures s (h .rows) new) _ (c .before .before .before .before .before .before .before .before .before .before .before .before .rows .given .1) _ _ _ (with-size _ _ _ _ _ _ _ _ _ _ _ (c .before .before .before .before .before .before .before .size .ensures) (c .before .before .before .before .before .before .wait-around .ensures)) (c .enum-told2 .given .1)
+    no-waiting _ _ s (a .waiting) (a .estimates .now) (a .cells .now) (h .cells) _ _ _
+    (at-store .store .ensures s (h .rows) new) _ (at-rows .rows .given .1) _ _ _
+    (with-size _ _ _ _ _ _ _ _ _ _ _ (c .before .before .before .before .before .before .before .size .ensures)
+    (c .before .before .before .before .before .before .wait-around .ensures)) (c .enum-told2 .given .1)
 
 same-length-7 : tie.Need-same-length-7
 same-length-7 c = search needs
@@ -77,9 +89,17 @@ same-length-10 c = search needs
 returns-3 : tie.Need-returns-3
 unfolding sow
 returns-3 c =
-    let a = c .before .before .before .before .before .before .before .before .before .before .before .before .before .before .before .before .before .before .before .before .before .before .before .before .before .before .args in
+    let at-size = c .before .before .before .before .before .before .before .before in
+    let at-rows = at-size .before .before .before .before .before in
+    let at-store = at-rows .before .before .before .before .before .before in
+    let a = c .before .before .before .before .before .before .before .before .before .before .before .before .before
+    .before .before .before .before .before .before .before .before .before .before .before .before .before .args
+    in
     λ s h new.
-    both-done _ _ s (a .waiting) (a .estimates .now) (a .cells .now) (h .cells) _ _ _ (c .before .before .before .before .before .before .before .before .before .before .before .before .before .before .before .before .before .before .before .store .ensures s (h .rows) new) _ (c .before .before .before .before .before .before .before .before .before .before .before .before .before .rows .given .1) _ _ _ (with-size _ _ _ _ _ _ _ _ _ _ _ (c .before .before .before .before .before .before .before .before .size .ensures) (c .before .before .before .before .before .before .before .wait-around .ensures)) _ (c .before .held .given .1)
+    both-done _ _ s (a .waiting) (a .estimates .now) (a .cells .now) (h .cells) _ _ _
+    (at-store .store .ensures s (h .rows) new) _ (at-rows .rows .given .1) _ _ _
+    (with-size _ _ _ _ _ _ _ _ _ _ _ (at-size .size .ensures)
+    (c .before .before .before .before .before .before .before .wait-around .ensures)) _ (c .before .held .given .1)
 
 pub sow-spec : {M : Type 1} → statement M
 sow-spec =

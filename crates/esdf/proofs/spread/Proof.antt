@@ -27,14 +27,19 @@ same-length-2 c = search needs
 returns : tie.Need-returns
 unfolding ofBits
 returns c =
+    let at-size = c .before .before .before .before .before .before .before .before in
     let a = c .before .before .before .before .before .before .before .before .before .before .before .before .args in
-    spread-waits (lattice (a .size) (a .most)) (marchedRow (a .key) (a .distance)) (a .count) (a .keys .now) (a .waiting) (a .estimates .now) (a .cells .now) _ (rw (c .before .before .before .before .before .before .before .before .size .ensures)) (c .before .before .before .before .before .before .before .if1 .taken) _ _ _ (c .before .before .before .before .wait-around .ensures)
+    spread-waits (lattice (a .size) (a .most)) (marchedRow (a .key) (a .distance)) (a .count) (a .keys .now)
+    (a .waiting) (a .estimates .now) (a .cells .now) _ (rw (at-size .size .ensures))
+    (c .before .before .before .before .before .before .before .if1 .taken) _ _ _
+    (c .before .before .before .before .wait-around .ensures)
 
 returns-2 : tie.Need-returns-2
 unfolding ofBits
 returns-2 c =
     let a = c .before .before .before .before .before .args in
-    spread-stays (lattice (a .size) (a .most)) (marchedRow (a .key) (a .distance)) (a .count) (a .keys .now) (a .waiting) (a .estimates .now) (a .cells .now) _ (rw (c .before .size .ensures)) (c .if1 .left)
+    spread-stays (lattice (a .size) (a .most)) (marchedRow (a .key) (a .distance)) (a .count) (a .keys .now)
+    (a .waiting) (a .estimates .now) (a .cells .now) _ (rw (c .before .size .ensures)) (c .if1 .left)
 
 pub spread-spec : {M : Type 1} → statement M
 spread-spec =

@@ -31,8 +31,14 @@ same-length-2 c = search needs
 
 returns-2 : tie.Need-returns-2
 returns-2 c =
+    let at-place-of = c .before .before .before .before .before .before .before .before in
+    let at-if1 = at-place-of .before .before in
     let a = c .before .before .before .before .before .before .before .before .before .before .before .before .before .args in
-    λ s h new. store-placed (marchedRow (a .key) (a .distance)) s (a .count) (a .keys .now) (a .distances .now) h new (c .before .before .before .before .before .before .before .before .before .before .if1 .left) _ (c .before .before .before .before .before .before .before .before .place-of .ensures) _ _ (c .before .before .before .before .before .before .insert-u64 .ensures) (c .before .before .insert-f32 .ensures)
+    λ s h new.
+    store-placed (marchedRow (a .key) (a .distance)) s (a .count) (a .keys .now) (a .distances .now) h new
+    (at-if1 .if1 .left) _ (at-place-of .place-of .ensures) _ _
+    (c .before .before .before .before .before .before .insert-u64 .ensures)
+    (c .before .before .insert-f32 .ensures)
 
 pub store-spec : {M : Type 1} → statement M
 store-spec =

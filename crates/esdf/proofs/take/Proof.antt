@@ -39,11 +39,17 @@ same-length-3 c = search needs
 returns : tie.Need-returns
 unfolding ofBits
 returns c =
+    let at-drop-first-f32 = c .before .before .before .before .before .before .before .before .before .before in
+    let at-pre = at-drop-first-f32 .before .before .before .before .before .before .before in
     let a = c .before .before .before .before .before .before .before .before .before .before .before .before .before .before .before .before .before .args in
     λ s h.
-    let u = uncons (s .waiting) (a .waiting) (h .cells .count) (c .before .before .before .before .before .before .before .before .before .before .before .before .before .before .before .before .before .pre .1) in
-    take-skips s (a .count) (a .keys .now) (a .distances .now) (a .waiting) (a .estimates .now) (a .cells .now) h (u .0) (u .1 .0) (u .1 .1) _ _ (c .before .before .before .before .before .before .before .before .before .before .drop-first-f32 .ensures) (c .before .before .before .before .before .before .drop-first-u64 .ensures) (lattice (a .size) (a .most))
-    (found-stored (s .stored) (a .count) (a .keys .now) (held-keys (s .stored) (a .count) (a .keys .now) (a .distances .now) (h .rows)) _ _ _ (c .before .before .find-row .ensures) (c .enum-told .given .1))
+    let u = uncons (s .waiting) (a .waiting) (h .cells .count) (at-pre .pre .1) in
+    take-skips s (a .count) (a .keys .now) (a .distances .now) (a .waiting) (a .estimates .now) (a .cells .now) h (u .0)
+    (u .1 .0) (u .1 .1) _ _ (at-drop-first-f32 .drop-first-f32 .ensures)
+    (c .before .before .before .before .before .before .drop-first-u64 .ensures) (lattice (a .size) (a .most))
+    (found-stored (s .stored) (a .count) (a .keys .now)
+    (held-keys (s .stored) (a .count) (a .keys .now) (a .distances .now) (h .rows)) _ _ _
+    (c .before .before .find-row .ensures) (c .enum-told .given .1))
 
 enum-told-2 : tie.Need-enum-told-2
 enum-told-2 c = search needs
@@ -51,15 +57,24 @@ enum-told-2 c = search needs
 settle-requires : tie.Need-settle-requires
 unfolding ofBits
 settle-requires c κs =
-    let a = c .before .before .before .before .before .before .before .before .before .before .before .before .before .before .before .before .before .before .before .before .before .args in
-    let p = c .before .before .before .before .before .before .before .before .before .before .before .before .before .before .before .before .before .before .before .before .before .pre in
+    let at-drop-first-u64 = c .before .before .before .before .before .before .before .before .before .before in
+    let at-drop-first-f32 = at-drop-first-u64 .before .before .before .before in
+    let a = c .before .before .before .before .before .before .before .before .before .before .before .before .before
+    .before .before .before .before .before .before .before .before .args in
+    let p = c .before .before .before .before .before .before .before .before .before .before .before .before .before
+    .before .before .before .before .before .before .before .before .pre in
     let s = p .0 .0 in
     let h = p .0 .1 in
     let u = uncons (s .waiting) (a .waiting) (h .cells .count) (p .1) in (
       _,
       (
-        rest-held s (a .count) (a .keys .now) (a .distances .now) (a .waiting) (a .estimates .now) (a .cells .now) h (u .0) (u .1 .0) (u .1 .1) _ _ (c .before .before .before .before .before .before .before .before .before .before .before .before .before .before .drop-first-f32 .ensures) (c .before .before .before .before .before .before .before .before .before .before .drop-first-u64 .ensures),
-        absent-new (s .stored) (a .count) (a .keys .now) (held-keys (s .stored) (a .count) (a .keys .now) (a .distances .now) (h .rows)) _ _ (c .before .before .before .before .before .before .find-row .ensures) (c .before .before .before .before .enum-told2 .given .1),
+        rest-held s (a .count) (a .keys .now) (a .distances .now) (a .waiting) (a .estimates .now) (a .cells .now) h
+            (u .0) (u .1 .0) (u .1 .1) _ _ (at-drop-first-f32 .drop-first-f32 .ensures)
+            (at-drop-first-u64 .drop-first-u64 .ensures),
+        absent-new (s .stored) (a .count) (a .keys .now)
+            (held-keys (s .stored) (a .count) (a .keys .now) (a .distances .now) (h .rows)) _ _
+            (c .before .before .before .before .before .before .find-row .ensures)
+            (c .before .before .before .before .enum-told2 .given .1),
       ),
     )
 
@@ -78,13 +93,29 @@ same-length-7 c = search needs
 returns-2 : tie.Need-returns-2
 unfolding ofBits
 returns-2 c =
-    let a = c .before .before .before .before .before .before .before .before .before .before .before .before .before .before .before .before .before .before .before .before .before .before .before .before .before .before .before .before .before .before .args in
+    let at-settle = c .before .before .before .before .before .before .before .before in
+    let at-enum-told2 = at-settle .before .before .before .before .before in
+    let at-find-row = at-enum-told2 .before .before in
+    let at-drop-first-u64 = at-find-row .before .before .before .before in
+    let at-drop-first-f32 = at-drop-first-u64 .before .before .before .before in
+    let at-pre = at-drop-first-f32 .before .before .before .before .before .before .before in
+    let a = c .before .before .before .before .before .before .before .before .before .before .before .before .before
+    .before .before .before .before .before .before .before .before .before .before .before .before .before
+    .before .before .before .before .args in
     λ s h.
-    let u = uncons (s .waiting) (a .waiting) (h .cells .count) (c .before .before .before .before .before .before .before .before .before .before .before .before .before .before .before .before .before .before .before .before .before .before .before .before .before .before .before .before .before .before .pre .1) in
-    let new = absent-new (s .stored) (a .count) (a .keys .now) (held-keys (s .stored) (a .count) (a .keys .now) (a .distances .now) (h .rows)) _ _ (c .before .before .before .before .before .before .before .before .before .before .before .before .before .before .before .find-row .ensures) (c .before .before .before .before .before .before .before .before .before .before .before .before .before .enum-told2 .given .1) in
-    let k = rest-held s (a .count) (a .keys .now) (a .distances .now) (a .waiting) (a .estimates .now) (a .cells .now) h (u .0) (u .1 .0) (u .1 .1) _ _ (c .before .before .before .before .before .before .before .before .before .before .before .before .before .before .before .before .before .before .before .before .before .before .before .drop-first-f32 .ensures) (c .before .before .before .before .before .before .before .before .before .before .before .before .before .before .before .before .before .before .before .drop-first-u64 .ensures) in
-    take-settles s (a .count) (a .keys .now) (a .distances .now) (a .waiting) (a .estimates .now) (a .cells .now) h (u .0) (u .1 .0) (u .1 .1) _ _ (c .before .before .before .before .before .before .before .before .before .before .before .before .before .before .before .before .before .before .before .before .before .before .before .drop-first-f32 .ensures) (c .before .before .before .before .before .before .before .before .before .before .before .before .before .before .before .before .before .before .before .drop-first-u64 .ensures) (lattice (a .size) (a .most))
-    new _ _ _ _ _ (c .before .before .before .before .before .before .before .before .settle .ensures _ k new)
+    let u = uncons (s .waiting) (a .waiting) (h .cells .count) (at-pre .pre .1) in
+    let new =
+    absent-new (s .stored) (a .count) (a .keys .now)
+    (held-keys (s .stored) (a .count) (a .keys .now) (a .distances .now) (h .rows)) _ _
+    (at-find-row .find-row .ensures) (at-enum-told2 .enum-told2 .given .1) in
+    let k =
+    rest-held s (a .count) (a .keys .now) (a .distances .now) (a .waiting) (a .estimates .now) (a .cells .now) h
+    (u .0) (u .1 .0) (u .1 .1) _ _ (at-drop-first-f32 .drop-first-f32 .ensures)
+    (at-drop-first-u64 .drop-first-u64 .ensures) in
+    take-settles s (a .count) (a .keys .now) (a .distances .now) (a .waiting) (a .estimates .now) (a .cells .now) h
+    (u .0) (u .1 .0) (u .1 .1) _ _ (at-drop-first-f32 .drop-first-f32 .ensures)
+    (at-drop-first-u64 .drop-first-u64 .ensures) (lattice (a .size) (a .most))
+    new _ _ _ _ _ (at-settle .settle .ensures _ k new)
 
 pub take-spec : {M : Type 1} → statement M
 take-spec =

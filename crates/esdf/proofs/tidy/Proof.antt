@@ -15,7 +15,13 @@ clear-requires : tie.Need-clear-requires
 clear-requires c κs = search needs
 
 returns : tie.Need-returns
-returns c = (stays _ _ _ (c .enum-told .given .1), (stays _ _ _ (c .enum-told .given .1), (stays _ _ _ (c .enum-told .given .1), stays _ _ _ (c .enum-told .given .1))))
+returns c = (
+  stays _ _ _ (c .enum-told .given .1),
+  (
+    stays _ _ _ (c .enum-told .given .1),
+    (stays _ _ _ (c .enum-told .given .1), stays _ _ _ (c .enum-told .given .1)),
+  ),
+)
 
 same-length : tie.Need-same-length
 same-length c = search needs

@@ -13,7 +13,13 @@ use Rattle.esdf.proofs.wait_around.Tie as tie
 
 abbrev Inv-loop : tie.InvT-loop
 Inv-loop keys count estimates₀ cells₀ waiting estimate key list n held₀ i₀ estimates cells held i =
-    (list ≡ padded 0 14 (neighbours key)) × (n ≡ length (neighbours key)) × (n ≤ 14) × (i ≤ n) × (length cells ≡ length cells₀) × (length estimates ≡ length estimates₀) × Rest estimate (neighbours key) count keys waiting estimates₀ cells₀ i held estimates cells
+    (list ≡ padded 0 14 (neighbours key))
+    × (n ≡ length (neighbours key))
+    × (n ≤ 14)
+    × (i ≤ n)
+    × (length cells ≡ length cells₀)
+    × (length estimates ≡ length estimates₀)
+    × Rest estimate (neighbours key) count keys waiting estimates₀ cells₀ i held estimates cells
 
 abbrev μ-loop : tie.MeasureT-loop
 μ-loop keys count estimates₀ cells₀ waiting estimate key list n held₀ i₀ estimates cells held i = n - i
@@ -24,8 +30,16 @@ around-requires c κs = search needs
 loop-holds : tie.Need-loop-holds Inv-loop μ-loop
 loop-holds c =
     let a = c .before .before .before .before .before .args in
-    let f = near-list (a .key) _ (c .before .around .ensures) in
-    (f .0, f .1, f .2, search needs, refl, refl, rest-all (a .estimate) (neighbours (a .key)) _ (f .0) (a .count) (a .keys .now) (a .waiting) (a .estimates .now) (a .cells .now))
+    let f = near-list (a .key) _ (c .before .around .ensures) in (
+      f .0,
+      f .1,
+      f .2,
+      search needs,
+      refl,
+      refl,
+      rest-all (a .estimate) (neighbours (a .key)) _ (f .0) (a .count) (a .keys .now) (a .waiting) (a .estimates .now)
+          (a .cells .now),
+    )
 
 mul-wait : tie.Need-mul-wait Inv-loop μ-loop
 mul-wait c = search needs
@@ -38,7 +52,9 @@ wait-requires c κs =
     let l = c .before .before .before in
     let a = c .before .before .before .before .before .before .before .before .before .args in
     let p = c .before .before .before .before .before .before .before .before .before .pre in
-    rest-may (a .estimate) (neighbours (a .key)) _ (l .loop .inv .0) (a .count) (a .keys .now) (a .waiting) (a .estimates .now) (a .cells .now) (l .loop .i) (l .loop .held) (l .loop .estimates) (l .loop .cells) (l .loop .inv .6) (p .0) (p .1 .0) (p .1 .1)
+    rest-may (a .estimate) (neighbours (a .key)) _ (l .loop .inv .0) (a .count) (a .keys .now) (a .waiting)
+    (a .estimates .now) (a .cells .now) (l .loop .i) (l .loop .held) (l .loop .estimates) (l .loop .cells)
+    (l .loop .inv .6) (p .0) (p .1 .0) (p .1 .1)
 
 enum-known-more : tie.Need-enum-known-more Inv-loop μ-loop
 enum-known-more c = search needs
@@ -54,9 +70,13 @@ same-length-2 c = search needs
 
 returns : tie.Need-returns Inv-loop μ-loop
 returns c =
+    let at-loop-test = c .before .before .before .before .before .before .before .before .before in
     let l = c .before .before .before .before .before .before .before .before .before .before in
     let a = c .before .before .before .before .before .before .before .before .before .before .before .before .before .before .before .before .args in
-    rest-full (a .estimate) (neighbours (a .key)) _ (l .loop .inv .0) (a .count) (a .keys .now) (a .waiting) (a .estimates .now) (a .cells .now) (l .loop .i) (l .loop .held) (l .loop .estimates) (l .loop .cells) (l .loop .inv .6) (l .loop .inv .4) (lt-of-lt-of-eq _ _ _ (c .before .before .before .before .before .before .before .before .before .loop-test .taken) (l .loop .inv .1)) _ _ _ (c .enum-told .given .1) (c .before .before .before .before .before .before .wait .ensures)
+    rest-full (a .estimate) (neighbours (a .key)) _ (l .loop .inv .0) (a .count) (a .keys .now) (a .waiting)
+    (a .estimates .now) (a .cells .now) (l .loop .i) (l .loop .held) (l .loop .estimates) (l .loop .cells)
+    (l .loop .inv .6) (l .loop .inv .4) (lt-of-lt-of-eq _ _ _ (at-loop-test .loop-test .taken) (l .loop .inv .1)) _ _
+    _ (c .enum-told .given .1) (c .before .before .before .before .before .before .wait .ensures)
 
 add-i : tie.Need-add-i Inv-loop μ-loop
 add-i c = search needs
@@ -66,6 +86,7 @@ loop-less c = search needs
 
 loop-again : tie.Need-loop-again Inv-loop μ-loop
 loop-again c =
+    let at-loop-test = c .before .before .before .before .before .before .before .before .before .before in
     let l = c .before .before .before .before .before .before .before .before .before .before .before in
     let a = c .before .before .before .before .before .before .before .before .before .before .before .before .before .before .before .before .before .args in (
       l .loop .inv .0,
@@ -74,7 +95,10 @@ loop-again c =
       search needs,
       search needs,
       search needs,
-      rest-more (a .estimate) (neighbours (a .key)) _ (l .loop .inv .0) (a .count) (a .keys .now) (a .waiting) (a .estimates .now) (a .cells .now) (l .loop .i) (l .loop .held) (l .loop .estimates) (l .loop .cells) (l .loop .inv .6) (l .loop .inv .4) (lt-of-lt-of-eq _ _ _ (c .before .before .before .before .before .before .before .before .before .before .loop-test .taken) (l .loop .inv .1)) _ _ _ _ (c .before .more .given .1) (c .before .before .before .before .before .before .before .wait .ensures),
+      rest-more (a .estimate) (neighbours (a .key)) _ (l .loop .inv .0) (a .count) (a .keys .now) (a .waiting)
+          (a .estimates .now) (a .cells .now) (l .loop .i) (l .loop .held) (l .loop .estimates) (l .loop .cells)
+          (l .loop .inv .6) (l .loop .inv .4) (lt-of-lt-of-eq _ _ _ (at-loop-test .loop-test .taken) (l .loop .inv .1)) _
+          _ _ _ (c .before .more .given .1) (c .before .before .before .before .before .before .before .wait .ensures),
     )
 
 same-length-3 : tie.Need-same-length-3 Inv-loop μ-loop
@@ -87,7 +111,9 @@ returns-2 : tie.Need-returns-2 Inv-loop μ-loop
 returns-2 c =
     let l = c .before in
     let a = c .before .before .before .before .before .before .before .args in
-    rest-none (a .estimate) (neighbours (a .key)) _ (l .loop .inv .0) (a .count) (a .keys .now) (a .waiting) (a .estimates .now) (a .cells .now) (l .loop .i) (l .loop .held) (l .loop .estimates) (l .loop .cells) (l .loop .inv .6) (omega (arith, l .loop .inv .1))
+    rest-none (a .estimate) (neighbours (a .key)) _ (l .loop .inv .0) (a .count) (a .keys .now) (a .waiting)
+    (a .estimates .now) (a .cells .now) (l .loop .i) (l .loop .held) (l .loop .estimates) (l .loop .cells)
+    (l .loop .inv .6) (omega (arith, l .loop .inv .1))
 
 pub wait-around-spec : {M : Type 1} → statement M
 wait-around-spec =

@@ -15,7 +15,9 @@ use Rattle.esdf.proofs.waiting_place.Tie as tie
 
 abbrev Inv-loop : tie.InvT-loop
 Inv-loop estimates cells waiting estimate key i₀ i =
-    (i ≤ waiting) × (place cellBefore (cell estimate key) (take waiting (cellsBeside estimates cells)) ≡ i + place cellBefore (cell estimate key) (drop i (take waiting (cellsBeside estimates cells))))
+    (i ≤ waiting)
+    × (place cellBefore (cell estimate key) (take waiting (cellsBeside estimates cells))
+    ≡ i + place cellBefore (cell estimate key) (drop i (take waiting (cellsBeside estimates cells))))
 
 abbrev μ-loop : tie.MeasureT-loop
 μ-loop estimates cells waiting estimate key i₀ i = waiting - i
@@ -42,7 +44,9 @@ returns : tie.Need-returns Inv-loop μ-loop
 returns c =
     let l = c .before .before .before .before .before in
     let p = l .before .before .before .pre in
-    sym (l .loop .inv .1 ∙ place-here _ _ _ _ _ (p .1) (p .0) (c .before .before .before .before .loop-test .taken) (sym (c .before .before2 .ensures) ∙ not-true _ (c .if1 .taken)))
+    sym (l .loop .inv .1
+    ∙ place-here _ _ _ _ _ (p .1) (p .0) (c .before .before .before .before .loop-test .taken)
+    (sym (c .before .before2 .ensures) ∙ not-true _ (c .if1 .taken)))
 
 add-i : tie.Need-add-i Inv-loop μ-loop
 add-i c = search needs
@@ -53,8 +57,12 @@ loop-less c = search needs
 loop-again : tie.Need-loop-again Inv-loop μ-loop
 loop-again c =
     let l = c .before .before .before .before .before in
-    let p = l .before .before .before .pre in
-    (search needs, l .loop .inv .1 ∙ place-later _ _ _ _ _ (p .1) (p .0) (c .before .before .before .before .loop-test .taken) (sym (c .before .before2 .ensures) ∙ not-false _ (c .if1 .left)))
+    let p = l .before .before .before .pre in (
+      search needs,
+      l .loop .inv .1
+          ∙ place-later _ _ _ _ _ (p .1) (p .0) (c .before .before .before .before .loop-test .taken)
+          (sym (c .before .before2 .ensures) ∙ not-false _ (c .if1 .left)),
+    )
 
 returns-2 : tie.Need-returns-2 Inv-loop μ-loop
 returns-2 c = let l = c .before in sym (l .loop .inv .1 ∙ place-end _ _ _ _ _ (l .before .before .before .pre .1) (c .loop-test .left))

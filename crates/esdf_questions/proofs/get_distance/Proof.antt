@@ -31,20 +31,25 @@ returns : tie.Need-returns
 returns c =
     let at-start = c .before .before .before .before .before .before in
     let a = at-start .args in
-    distance-refused (marchedTable (a .keys .now) (a .distances .now) (a .count)) (a .key) _ (c .before .before .before .check-key .ensures) (c .before .why .given .1)
+    distance-refused (marchedTable (a .keys .now) (a .distances .now) (a .count)) (a .key) _
+    (c .before .before .before .check-key .ensures) (c .before .why .given .1)
 
 returns-2 : tie.Need-returns-2
 returns-2 c =
     let at-check-key = c .before .before .before .before .before .before in
     let at-start = at-check-key .before .before .before in
     let a = at-start .args in
-    distance-of (marchedTable (a .keys .now) (a .distances .now) (a .count)) (a .key) _ (at-check-key .check-key .ensures) (c .before .before .before .before .enum-told .given .1) _ (c .before .before .before .stored-at .ensures) (c .before .d .given .1)
+    distance-of (marchedTable (a .keys .now) (a .distances .now) (a .count)) (a .key) _
+    (at-check-key .check-key .ensures) (c .before .before .before .before .enum-told .given .1) _
+    (c .before .before .before .stored-at .ensures) (c .before .d .given .1)
 
 returns-3 : tie.Need-returns-3
 returns-3 c =
     let at-start = c .before .before .before .before .before .before .before .before in
     let a = at-start .args in
-    distance-absent (marchedTable (a .keys .now) (a .distances .now) (a .count)) (a .key) _ (c .before .before .before .before .before .check-key .ensures) (c .before .before .before .enum-told .given .1) _ (c .before .before .stored-at .ensures) (c .enum-told2 .given .1)
+    distance-absent (marchedTable (a .keys .now) (a .distances .now) (a .count)) (a .key) _
+    (c .before .before .before .before .before .check-key .ensures) (c .before .before .before .enum-told .given .1) _
+    (c .before .before .stored-at .ensures) (c .enum-told2 .given .1)
 
 pub get-distance-spec : {M : Type 1} → statement M
 get-distance-spec =

@@ -41,13 +41,16 @@ returns : tie.Need-returns
 returns c =
     let at-start = c .before .before .before .before .before .before in
     let a = at-start .args in
-    gradient-refused (marchedTable (a .keys .now) (a .distances .now) (a .count)) (a .key) _ (c .before .before .before .check-key .ensures) (c .before .why .given .1)
+    gradient-refused (marchedTable (a .keys .now) (a .distances .now) (a .count)) (a .key) _
+    (c .before .before .before .check-key .ensures) (c .before .why .given .1)
 
 returns-2 : tie.Need-returns-2
 returns-2 c =
     let at-start = c .before .before .before .before .before .before .before .before in
     let a = at-start .args in
-    gradient-absent (marchedTable (a .keys .now) (a .distances .now) (a .count)) (a .key) _ (c .before .before .before .before .before .check-key .ensures) (c .before .before .before .enum-told .given .1) _ (c .before .before .stored-at .ensures) (c .enum-told2 .given .1)
+    gradient-absent (marchedTable (a .keys .now) (a .distances .now) (a .count)) (a .key) _
+    (c .before .before .before .before .before .check-key .ensures) (c .before .before .before .enum-told .given .1) _
+    (c .before .before .stored-at .ensures) (c .enum-told2 .given .1)
 
 returns-3 : tie.Need-returns-3
 returns-3 c =
@@ -55,7 +58,10 @@ returns-3 c =
     let at-check-key = at-enum-told .before .before in
     let at-start = at-check-key .before .before .before in
     let a = at-start .args in
-    gradient-of (marchedTable (a .keys .now) (a .distances .now) (a .count)) (a .key) _ (at-check-key .check-key .ensures) (at-enum-told .enum-told .given .1) _ (c .before .before .before .before .before .stored-at .ensures) _ _ (c .before .before .before .distance .given .1) (c .before .sum-slopes .ensures) (c .mean .ensures)
+    gradient-of (marchedTable (a .keys .now) (a .distances .now) (a .count)) (a .key) _
+    (at-check-key .check-key .ensures) (at-enum-told .enum-told .given .1) _
+    (c .before .before .before .before .before .stored-at .ensures) _ _
+    (c .before .before .before .distance .given .1) (c .before .sum-slopes .ensures) (c .mean .ensures)
 
 pub get-gradient-spec : {M : Type 1} → statement M
 get-gradient-spec =

@@ -31,20 +31,25 @@ returns : tie.Need-returns
 returns c =
     let at-start = c .before .before .before .before .before .before in
     let a = at-start .args in
-    free-refused (marchedTable (a .keys .now) (a .distances .now) (a .count)) (a .key) (a .threshold) _ (c .before .before .before .check-free .ensures) (c .before .why .given .1)
+    free-refused (marchedTable (a .keys .now) (a .distances .now) (a .count)) (a .key) (a .threshold) _
+    (c .before .before .before .check-free .ensures) (c .before .why .given .1)
 
 returns-2 : tie.Need-returns-2
 returns-2 c =
     let at-check-free = c .before .before .before .before .before .before in
     let at-start = at-check-free .before .before .before in
     let a = at-start .args in
-    free-of (marchedTable (a .keys .now) (a .distances .now) (a .count)) (a .key) (a .threshold) _ (at-check-free .check-free .ensures) (c .before .before .before .before .enum-told .given .1) _ (c .before .before .before .stored-at .ensures) (c .before .d .given .1)
+    free-of (marchedTable (a .keys .now) (a .distances .now) (a .count)) (a .key) (a .threshold) _
+    (at-check-free .check-free .ensures) (c .before .before .before .before .enum-told .given .1) _
+    (c .before .before .before .stored-at .ensures) (c .before .d .given .1)
 
 returns-3 : tie.Need-returns-3
 returns-3 c =
     let at-start = c .before .before .before .before .before .before .before .before in
     let a = at-start .args in
-    free-absent (marchedTable (a .keys .now) (a .distances .now) (a .count)) (a .key) (a .threshold) _ (c .before .before .before .before .before .check-free .ensures) (c .before .before .before .enum-told .given .1) _ (c .before .before .stored-at .ensures) (c .enum-told2 .given .1)
+    free-absent (marchedTable (a .keys .now) (a .distances .now) (a .count)) (a .key) (a .threshold) _
+    (c .before .before .before .before .before .check-free .ensures) (c .before .before .before .enum-told .given .1)
+    _ (c .before .before .stored-at .ensures) (c .enum-told2 .given .1)
 
 pub is-free-space-spec : {M : Type 1} → statement M
 is-free-space-spec =

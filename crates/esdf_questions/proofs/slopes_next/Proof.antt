@@ -20,7 +20,9 @@ enum-told c = search needs
 returns : tie.Need-returns
 returns c =
     let a = c .before .before .before .before .before .before .before .args in
-    slopes-stored (a .key) (a .distance) (a .sum) (a .neighbour) _ _ (c .before .before .before .before .stored-at .ensures) _ (c .before .before .found .given .1) (c .slopes-with .ensures)
+    slopes-stored (a .key) (a .distance) (a .sum) (a .neighbour) _ _
+    (c .before .before .before .before .stored-at .ensures) _ (c .before .before .found .given .1)
+    (c .slopes-with .ensures)
 
 returns-2 : tie.Need-returns-2
 returns-2 c =

@@ -25,8 +25,13 @@ add-t18 c = search needs
 
 returns : tie.Need-returns
 returns c =
+    let at-morton-decode = c .before .before .before .before .before .before .before .before in
     let a = c .before .before .before .before .before .before .before .before .before .args in
-    slopes-of (a .key) (a .distance) (a .sum) (a .neighbour) (a .found) _ _ _ _ _ (c .before .before .before .before .before .before .before .before .morton-decode .ensures) (c .before .before .before .before .before .before .before .morton-decode2 .ensures) (c .before .before .before .before .before .before .step .ensures) (c .before .before .before .before .step2 .ensures) (c .before .before .step3 .ensures)
+    slopes-of (a .key) (a .distance) (a .sum) (a .neighbour) (a .found) _ _ _ _ _
+    (at-morton-decode .morton-decode .ensures)
+    (c .before .before .before .before .before .before .before .morton-decode2 .ensures)
+    (c .before .before .before .before .before .before .step .ensures)
+    (c .before .before .before .before .step2 .ensures) (c .before .before .step3 .ensures)
 
 pub slopes-with-spec : {M : Type 1} → statement M
 slopes-with-spec =

@@ -16,7 +16,13 @@ use Rattle.esdf_questions.proofs.sum_slopes.Tie as tie
 
 abbrev Inv-loop : tie.InvT-loop
 Inv-loop keys distances count key distance list n sum₀ i₀ sum i =
-    (list ≡ padded 0 14 (neighbours key)) × (n ≡ length (neighbours key)) × (n ≤ 14) × (i ≤ n) × (sum .count ≤ i) × (slopesFrom (marchedRowsOf keys distances count) key distance noSlopes (neighbours key) ≡ slopesFrom (marchedRowsOf keys distances count) key distance sum (drop i (neighbours key)))
+    (list ≡ padded 0 14 (neighbours key))
+    × (n ≡ length (neighbours key))
+    × (n ≤ 14)
+    × (i ≤ n)
+    × (sum .count ≤ i)
+    × (slopesFrom (marchedRowsOf keys distances count) key distance noSlopes (neighbours key)
+    ≡ slopesFrom (marchedRowsOf keys distances count) key distance sum (drop i (neighbours key)))
 
 abbrev μ-loop : tie.MeasureT-loop
 μ-loop keys distances count key distance list n sum₀ i₀ sum i = n - i
@@ -58,7 +64,10 @@ loop-again c =
       l .inv .2,
       search needs,
       rw e (slopes-few (a .key) (a .distance) (l .sum) _ _ (l .i) (l .inv .4)),
-      l .inv .5 ∙ slopes-more (marchedRowsOf (a .keys .now) (a .distances .now) (a .count)) (a .key) (a .distance) (neighbours (a .key)) _ (l .inv .0) (l .i) (l .sum) _ (let t = c .before .loop-test .taken in let n = l .inv .1 in omega arith) e,
+      l .inv .5
+          ∙ slopes-more (marchedRowsOf (a .keys .now) (a .distances .now) (a .count)) (a .key) (a .distance)
+          (neighbours (a .key)) _ (l .inv .0) (l .i) (l .sum) _
+          (let t = c .before .loop-test .taken in let n = l .inv .1 in omega arith) e,
     )
 
 returns : tie.Need-returns Inv-loop μ-loop
@@ -66,7 +75,10 @@ returns c =
     let at-start = c .before .before .before .before .before .before in
     let l = c .before .loop in
     let a = at-start .args in
-    sym (l .inv .5 ∙ slopes-none (marchedRowsOf (a .keys .now) (a .distances .now) (a .count)) (a .key) (a .distance) (neighbours (a .key)) _ (l .inv .0) (l .i) (l .sum) (let t = c .loop-test .left in let n = l .inv .1 in omega arith))
+    sym (l .inv .5
+    ∙ slopes-none (marchedRowsOf (a .keys .now) (a .distances .now) (a .count)) (a .key) (a .distance)
+    (neighbours (a .key)) _ (l .inv .0) (l .i) (l .sum)
+    (let t = c .loop-test .left in let n = l .inv .1 in omega arith))
 
 pub sum-slopes-spec : {M : Type 1} → statement M
 sum-slopes-spec =

@@ -26,7 +26,8 @@ returns : tie.Need-returns
 returns c =
     let at-start = c .before .before .before .before .before .before .before in
     let a = at-start .args in
-    fill-refused _ (cellsWithin (a .threshold) (marchedRowsOf (a .keys .now) (a .distances .now) (a .count))) (a .out-keys .now) (a .out-distances .now) (c .before .verdict .given .1)
+    fill-refused _ (cellsWithin (a .threshold) (marchedRowsOf (a .keys .now) (a .distances .now) (a .count)))
+    (a .out-keys .now) (a .out-distances .now) (c .before .verdict .given .1)
 
 same-length : tie.Need-same-length
 same-length c = search needs
@@ -40,7 +41,10 @@ returns-2 c =
     let at-start = at-enum-told .before .before .before .before .before .before in
     let a = at-start .args in
     let v = at-enum-told .enum-told .given .1 in
-    fill-passed _ (cellsWithin (a .threshold) (marchedRowsOf (a .keys .now) (a .distances .now) (a .count))) (a .out-keys .now) (a .out-distances .now) _ _ _ _ _ v (at-start .pre v .2) (c .before .before .before .before .before .put-within .kept .1 .1 .1 .1 .0) (c .before .before .before .before .before .put-within .ensures) (c .room-for .ensures)
+    fill-passed _ (cellsWithin (a .threshold) (marchedRowsOf (a .keys .now) (a .distances .now) (a .count)))
+    (a .out-keys .now) (a .out-distances .now) _ _ _ _ _ v (at-start .pre v .2)
+    (c .before .before .before .before .before .put-within .kept .1 .1 .1 .1 .0)
+    (c .before .before .before .before .before .put-within .ensures) (c .room-for .ensures)
 
 pub fill-spec : {M : Type 1} → statement M
 fill-spec =

@@ -16,7 +16,8 @@ fill-requires : tie.Need-fill-requires
 fill-requires c κs =
     let at-start = c .before .before .before .before .before .before .before .before in
     let a = at-start .args in
-    may-list (a .keys .now) (a .distances .now) (a .count) (a .out-keys .now) (a .out-distances .now) _ (a .threshold) _ (c .before .before .before .pair-ok .ensures) (c .before .before .check-list .ensures)
+    may-list (a .keys .now) (a .distances .now) (a .count) (a .out-keys .now) (a .out-distances .now) _ (a .threshold) _
+    (c .before .before .before .pair-ok .ensures) (c .before .before .check-list .ensures)
 
 count-of-requires : tie.Need-count-of-requires
 count-of-requires c κs = search needs
@@ -48,7 +49,14 @@ returns c =
     let k = at-fill .fill .kept in
     let n = at-count-of .count-of .ensures in (
       within-answer (a .keys .now) (a .distances .now) (a .count) (a .threshold) (a .out-keys .now) (a .out-distances .now) _ _ _ _ _ p q f,
-      (within-keys (a .keys .now) (a .distances .now) (a .count) (a .threshold) (a .out-keys .now) (a .out-distances .now) _ _ _ _ _ p q f _ (k .1 .1 .1 .1 .1 .0) n (at-clear-from-u64 .clear-from-u64 .ensures), within-distances (a .keys .now) (a .distances .now) (a .count) (a .threshold) (a .out-keys .now) (a .out-distances .now) _ _ _ _ _ p q f _ (k .1 .1 .1 .1 .1 .1 .0) n (c .before .before .clear-from-f32 .ensures)),
+      (
+        within-keys (a .keys .now) (a .distances .now) (a .count) (a .threshold) (a .out-keys .now)
+            (a .out-distances .now) _ _ _ _ _ p q f _ (k .1 .1 .1 .1 .1 .0) n
+            (at-clear-from-u64 .clear-from-u64 .ensures),
+        within-distances (a .keys .now) (a .distances .now) (a .count) (a .threshold) (a .out-keys .now)
+            (a .out-distances .now) _ _ _ _ _ p q f _ (k .1 .1 .1 .1 .1 .1 .0) n
+            (c .before .before .clear-from-f32 .ensures),
+      ),
     )
 
 pub get-voxels-within-distance-spec : {M : Type 1} → statement M

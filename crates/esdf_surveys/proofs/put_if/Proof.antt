@@ -30,7 +30,8 @@ returns c =
     let at-size = at-if1 .before in
     let at-start = at-size .before .before .before in
     let a = at-start .args in
-    put-yes (a .threshold) (a .key) (a .distance) _ (at-size .size .ensures) _ _ _ _ _ (at-if1 .if1 .taken) (at-put-key .put-key .ensures) (c .before .before .put-distance .ensures)
+    put-yes (a .threshold) (a .key) (a .distance) _ (at-size .size .ensures) _ _ _ _ _ (at-if1 .if1 .taken)
+    (at-put-key .put-key .ensures) (c .before .before .put-distance .ensures)
 
 returns-2 : tie.Need-returns-2
 returns-2 c =

@@ -12,15 +12,25 @@ use Rattle.esdf_surveys.proofs.put_within.Tie as tie
 
 abbrev Inv-loop : tie.InvT-loop
 Inv-loop keys distances count threshold out-keys₀ out-distances₀ n₀ i₀ out-keys out-distances n i =
-    (i ≤ count) × (n ≤ i) × (length out-keys ≡ length out-keys₀) × (length out-distances ≡ length out-distances₀) × Putting threshold (marchedRowsOf keys distances count) i n out-keys₀ out-distances₀ out-keys out-distances
+    (i ≤ count)
+    × (n ≤ i)
+    × (length out-keys ≡ length out-keys₀)
+    × (length out-distances ≡ length out-distances₀)
+    × Putting threshold (marchedRowsOf keys distances count) i n out-keys₀ out-distances₀ out-keys out-distances
 
 abbrev μ-loop : tie.MeasureT-loop
 μ-loop keys distances count threshold out-keys₀ out-distances₀ n₀ i₀ out-keys out-distances n i = count - i
 
 loop-holds : tie.Need-loop-holds Inv-loop μ-loop
 loop-holds c =
-    let a = c .before .before .before .before .args in
-    (search needs, search needs, refl, refl, put-begun (a .threshold) (marchedRowsOf (a .keys .now) (a .distances .now) (a .count)) (a .out-keys .now) (a .out-distances .now))
+    let a = c .before .before .before .before .args in (
+      search needs,
+      search needs,
+      refl,
+      refl,
+      put-begun (a .threshold) (marchedRowsOf (a .keys .now) (a .distances .now) (a .count)) (a .out-keys .now)
+          (a .out-distances .now),
+    )
 
 mul-put-if : tie.Need-mul-put-if Inv-loop μ-loop
 mul-put-if c = search needs
@@ -55,10 +65,14 @@ loop-again c =
     let k = c .before .before .before .before .put-if .kept in
     let rs = marchedRowsOf (a .keys .now) (a .distances .now) (a .count) in (
       search needs,
-      put-few (a .threshold) rs (l .i) (l .n) (a .out-keys .now) (a .out-distances .now) (l .out-keys) (l .out-distances) (l .inv .4) (l .inv .1) _ _ _ _ (c .before .before .before .before .put-if .ensures),
+      put-few (a .threshold) rs (l .i) (l .n) (a .out-keys .now) (a .out-distances .now) (l .out-keys)
+          (l .out-distances) (l .inv .4) (l .inv .1) _ _ _ _ (c .before .before .before .before .put-if .ensures),
       k .1 .1 .1 .0 ∙ l .inv .2,
       k .1 .1 .1 .1 .0 ∙ l .inv .3,
-      put-next (a .threshold) rs (l .i) (l .n) (a .out-keys .now) (a .out-distances .now) (l .out-keys) (l .out-distances) (l .inv .4) _ (pair-at (a .keys .now) (a .distances .now) (a .count) (l .i) (p .distances) t (p .fits)) _ _ _ (c .before .before .before .before .put-if .ensures),
+      put-next (a .threshold) rs (l .i) (l .n) (a .out-keys .now) (a .out-distances .now) (l .out-keys)
+          (l .out-distances) (l .inv .4) _
+          (pair-at (a .keys .now) (a .distances .now) (a .count) (l .i) (p .distances) t (p .fits)) _ _ _
+          (c .before .before .before .before .put-if .ensures),
     )
 
 same-length : tie.Need-same-length Inv-loop μ-loop
@@ -73,7 +87,8 @@ returns c =
     let a = at-start .args in
     let l = c .before .loop in
     let rs = marchedRowsOf (a .keys .now) (a .distances .now) (a .count) in
-    put-done (a .threshold) rs (l .i) (l .n) (a .out-keys .now) (a .out-distances .now) (l .out-keys) (l .out-distances) (l .inv .4) (pair-end (a .keys .now) (a .distances .now) (a .count) (l .i) (c .loop-test .left))
+    put-done (a .threshold) rs (l .i) (l .n) (a .out-keys .now) (a .out-distances .now) (l .out-keys) (l .out-distances)
+    (l .inv .4) (pair-end (a .keys .now) (a .distances .now) (a .count) (l .i) (c .loop-test .left))
 
 pub put-within-spec : {M : Type 1} → statement M
 put-within-spec =

@@ -17,8 +17,12 @@ enum-told c = search needs
 
 tally-all-requires : tie.Need-tally-all-requires
 tally-all-requires c κs =
-    let a = c .before .before .before .before .before .args in
-    (accepted (a .keys .now) (a .distances .now) (a .count) _ _ (c .before .before .check .ensures) (c .enum-told .given .1), short (a .keys .now) (a .distances .now) (a .count) _ _ (c .before .before .check .ensures) (c .enum-told .given .1))
+    let a = c .before .before .before .before .before .args in (
+      accepted (a .keys .now) (a .distances .now) (a .count) _ _ (c .before .before .check .ensures)
+          (c .enum-told .given .1),
+      short (a .keys .now) (a .distances .now) (a .count) _ _ (c .before .before .check .ensures)
+          (c .enum-told .given .1),
+    )
 
 stats-of-requires : tie.Need-stats-of-requires
 stats-of-requires c κs = search needs
@@ -33,7 +37,10 @@ returns-2 : tie.Need-returns-2
 returns-2 c =
     let at-start = c .before .before .before .before .before .before .before in
     let a = at-start .args in
-    stats-known (a .keys .now) (a .distances .now) (a .count) _ (c .before .before .before .before .check .ensures) _ _ (c .before .before .enum-told .given .1) (accepted (a .keys .now) (a .distances .now) (a .count) _ _ (c .before .before .before .before .check .ensures) (c .before .before .enum-told .given .1)) (c .before .tally-all .ensures) (c .stats-of .ensures)
+    stats-known (a .keys .now) (a .distances .now) (a .count) _ (c .before .before .before .before .check .ensures) _ _
+    (c .before .before .enum-told .given .1)
+    (accepted (a .keys .now) (a .distances .now) (a .count) _ _ (c .before .before .before .before .check .ensures)
+    (c .before .before .enum-told .given .1)) (c .before .tally-all .ensures) (c .stats-of .ensures)
 
 pub stats-spec : {M : Type 1} → statement M
 stats-spec =

@@ -14,7 +14,11 @@ use Rattle.esdf_surveys.proofs.tally_all.Tie as tie
 
 abbrev Inv-loop : tie.InvT-loop
 Inv-loop keys distances count tally₀ i₀ tally i =
-    (i ≤ count) × (tally .obstacles ≤ i) × (tally .free ≤ i) × (talliedAll noTally (marchedRowsOf keys distances count) ≡ talliedAll tally (drop i (marchedRowsOf keys distances count)))
+    (i ≤ count)
+    × (tally .obstacles ≤ i)
+    × (tally .free ≤ i)
+    × (talliedAll noTally (marchedRowsOf keys distances count)
+    ≡ talliedAll tally (drop i (marchedRowsOf keys distances count)))
 
 abbrev μ-loop : tie.MeasureT-loop
 μ-loop keys distances count tally₀ i₀ tally i = count - i
@@ -50,14 +54,18 @@ loop-again c =
       search needs,
       rw e (f .0),
       rw e (f .1),
-      l .inv .3 ∙ tally-more (l .tally) _ _ (marchedRowsOf (a .keys .now) (a .distances .now) (a .count)) (l .i) (pair-at (a .keys .now) (a .distances .now) (a .count) (l .i) (p .distances) t (p .fits)) e,
+      l .inv .3
+          ∙ tally-more (l .tally) _ _ (marchedRowsOf (a .keys .now) (a .distances .now) (a .count)) (l .i)
+          (pair-at (a .keys .now) (a .distances .now) (a .count) (l .i) (p .distances) t (p .fits)) e,
     )
 
 returns : tie.Need-returns Inv-loop μ-loop
 returns c =
     let a = c .before .before .before .before .args in
     let l = c .before .loop in
-    sym (l .inv .3 ∙ tally-none (l .tally) (marchedRowsOf (a .keys .now) (a .distances .now) (a .count)) (l .i) (pair-end (a .keys .now) (a .distances .now) (a .count) (l .i) (c .loop-test .left)))
+    sym (l .inv .3
+    ∙ tally-none (l .tally) (marchedRowsOf (a .keys .now) (a .distances .now) (a .count)) (l .i)
+    (pair-end (a .keys .now) (a .distances .now) (a .count) (l .i) (c .loop-test .left)))
 
 pub tally-all-spec : {M : Type 1} → statement M
 tally-all-spec =

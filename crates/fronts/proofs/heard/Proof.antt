@@ -19,7 +19,10 @@ returns : tie.Need-returns
 unfolding heard
 returns c =
     λ rs ws h.
-    let e = said-none (c .before .before .known .result) (distanceOf (c .before .before .before .before .before .args .neighbour) rs) (c .before .before .known .ensures rs ws h) (no (c .before .is-finite .ensures) (c .if1 .taken)) in
+    let e =
+    said-none (c .before .before .known .result)
+    (distanceOf (c .before .before .before .before .before .args .neighbour) rs)
+    (c .before .before .known .ensures rs ws h) (no (c .before .is-finite .ensures) (c .if1 .taken)) in
     rw e
 
 step-length-requires : tie.Need-step-length-requires
@@ -36,15 +39,29 @@ size-requires-2 c κs = search needs
 
 returns-2 : tie.Need-returns-2
 returns-2 c =
+    let at-args = c .before .before .before .before .before .before .before .before .before .before in
     λ rs ws h.
-    heard-better _ _ _ _ _ _ (c .before .before .before .before .before .before .before .known .result) _ (said-some (c .before .before .before .before .before .before .before .known .result) (distanceOf (c .before .before .before .before .before .before .before .before .before .before .args .neighbour) rs) (c .before .before .before .before .before .before .before .known .ensures rs ws h) (yes (c .before .before .before .before .before .before .is-finite .ensures) (c .before .before .before .before .before .if1 .left)))
-    (c .before .before .before .candidate .ensures ∙ rw (c .before .before .before .before .step-length .ensures)) (c .before .before .size .ensures) (c .before .size2 .ensures) (c .if2 .taken)
+    heard-better _ _ _ _ _ _ (c .before .before .before .before .before .before .before .known .result) _
+    (said-some (c .before .before .before .before .before .before .before .known .result)
+    (distanceOf (at-args .args .neighbour) rs)
+    (c .before .before .before .before .before .before .before .known .ensures rs ws h)
+    (yes (c .before .before .before .before .before .before .is-finite .ensures)
+    (c .before .before .before .before .before .if1 .left)))
+    (c .before .before .before .candidate .ensures ∙ rw (c .before .before .before .before .step-length .ensures))
+    (c .before .before .size .ensures) (c .before .size2 .ensures) (c .if2 .taken)
 
 returns-3 : tie.Need-returns-3
 returns-3 c =
+    let at-args = c .before .before .before .before .before .before .before .before .before .before in
     λ rs ws h.
-    heard-worse _ _ _ _ _ _ (c .before .before .before .before .before .before .before .known .result) _ (said-some (c .before .before .before .before .before .before .before .known .result) (distanceOf (c .before .before .before .before .before .before .before .before .before .before .args .neighbour) rs) (c .before .before .before .before .before .before .before .known .ensures rs ws h) (yes (c .before .before .before .before .before .before .is-finite .ensures) (c .before .before .before .before .before .if1 .left)))
-    (c .before .before .before .candidate .ensures ∙ rw (c .before .before .before .before .step-length .ensures)) (c .before .before .size .ensures) (c .before .size2 .ensures) (c .if2 .left)
+    heard-worse _ _ _ _ _ _ (c .before .before .before .before .before .before .before .known .result) _
+    (said-some (c .before .before .before .before .before .before .before .known .result)
+    (distanceOf (at-args .args .neighbour) rs)
+    (c .before .before .before .before .before .before .before .known .ensures rs ws h)
+    (yes (c .before .before .before .before .before .before .is-finite .ensures)
+    (c .before .before .before .before .before .if1 .left)))
+    (c .before .before .before .candidate .ensures ∙ rw (c .before .before .before .before .step-length .ensures))
+    (c .before .before .size .ensures) (c .before .size2 .ensures) (c .if2 .left)
 
 pub heard-spec : {M : Type 1} → statement M
 heard-spec =

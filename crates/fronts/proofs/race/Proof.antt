@@ -19,8 +19,17 @@ enum-known-rows c = search needs
 
 take-all-requires : tie.Need-take-all-requires
 take-all-requires c κs =
-    let a = c .before .before .before .before .before .before .before .before .before .before .before .before .before .before .before .before .before .before .before .before .before .before .before .before .before .before .before .args in
-    let x = sown-all (a .size) (a .most) (a .threshold) (rowsOf (a .fused-keys .now) (a .fused-distances .now) (a .fused-weights .now) (a .fused-count)) (a .keys .now) (a .cells .now) _ _ _ _ _ (c .before .before .before .before .before .before .before .before .before .before .before .before .before .before .before .sow-all .ensures) (rows-ascend _ _ _ _ (c .before .before .before .before .before .before .before .before .before .before .before .before .before .before .before .before .before .before .before .before .before .before .before .before .before .before .before .pre .0)) (c .before .before .before .before .before .before .before .before .before .before .before .before .before .before .before .sow-all .kept .1 .1 .1 .1 .1 .0) (c .before .before .before .before .before .before .before .before .before .before .before .before .before .before .before .sow-all .kept .1 .1 .1 .1 .1 .1 .1 .1 .0) _ _ (c .before .before .before .before .before .rows .given .1) in
+    let at-sow-all = c .before .before .before .before .before .before .before .before .before .before .before .before .before .before .before in
+    let at-pre = at-sow-all .before .before .before .before .before .before .before .before .before .before .before .before in
+    let a = c .before .before .before .before .before .before .before .before .before .before .before .before .before
+    .before .before .before .before .before .before .before .before .before .before .before .before .before
+    .before .args in
+    let x =
+    sown-all (a .size) (a .most) (a .threshold)
+    (rowsOf (a .fused-keys .now) (a .fused-distances .now) (a .fused-weights .now) (a .fused-count)) (a .keys .now)
+    (a .cells .now) _ _ _ _ _ (at-sow-all .sow-all .ensures) (rows-ascend _ _ _ _ (at-pre .pre .0))
+    (at-sow-all .sow-all .kept .1 .1 .1 .1 .1 .0) (at-sow-all .sow-all .kept .1 .1 .1 .1 .1 .1 .1 .1 .0) _ _
+    (c .before .before .before .before .before .rows .given .1) in
     (_, (x .0, x .1 .1))
 
 enum-known-why-2 : tie.Need-enum-known-why-2
@@ -31,8 +40,13 @@ enum-known-n c = search needs
 
 sort-rows-requires : tie.Need-sort-rows-requires
 sort-rows-requires c κs =
-    let p = c .before .before .before .before .before .before .before .before .before .before .before .before .before .before .before .before .before .before .before .before .before .before .before .before .before .before .before .before .before .before .before .before .before .before .before .before .before .before .before .before .before .pre .1 in
-    let k = c .before .before .before .before .before .before .before .before .before .before .before .before .before .before .before .before .before .before .before .before .before .before .before .before .before .before .before .before .before .sow-all .kept in
+    let p = c .before .before .before .before .before .before .before .before .before .before .before .before .before
+    .before .before .before .before .before .before .before .before .before .before .before .before .before
+    .before .before .before .before .before .before .before .before .before .before .before .before .before
+    .before .before .pre .1 in
+    let k = c .before .before .before .before .before .before .before .before .before .before .before .before .before
+    .before .before .before .before .before .before .before .before .before .before .before .before .before
+    .before .before .before .sow-all .kept in
     let m = c .before .before .before .before .before .before .before .before .before .before .before .before .before .take-all .kept in
     m .1 .0 ∙ k .1 .1 .1 .1 .1 .1 .0 ∙ blank-long _ _ _ (p .distances) ∙ sym (k .1 .1 .1 .1 .1 .0) ∙ sym (m .0)
 
@@ -50,8 +64,12 @@ same-length-4 c = search needs
 
 returns : tie.Need-returns
 returns c =
-    let a = c .before .before .before .before .before .before .before .before .before .before .before .before .before .before .before .before .before .before .before .before .before .before .before .args in
-    march-stopped (a .size) (a .most) (a .threshold) (rowsOf (a .fused-keys .now) (a .fused-distances .now) (a .fused-weights .now) (a .fused-count)) (a .keys .now) (a .cells .now) _ _ _ _ _ (c .before .before .before .before .before .before .before .before .before .before .before .sow-all .ensures) _ (c .before .why .given .1) _ _ _ _
+    let at-sow-all = c .before .before .before .before .before .before .before .before .before .before .before in
+    let a = c .before .before .before .before .before .before .before .before .before .before .before .before .before
+    .before .before .before .before .before .before .before .before .before .before .args in
+    march-stopped (a .size) (a .most) (a .threshold)
+    (rowsOf (a .fused-keys .now) (a .fused-distances .now) (a .fused-weights .now) (a .fused-count)) (a .keys .now)
+    (a .cells .now) _ _ _ _ _ (at-sow-all .sow-all .ensures) _ (c .before .why .given .1) _ _ _ _
 
 same-length-5 : tie.Need-same-length-5
 same-length-5 c = search needs
@@ -67,8 +85,19 @@ same-length-8 c = search needs
 
 returns-2 : tie.Need-returns-2
 returns-2 c =
-    let a = c .before .before .before .before .before .before .before .before .before .before .before .before .before .before .before .before .before .before .before .before .before .before .before .before .before .before .before .before .before .before .before .before .before .before .before .before .before .before .before .args in
-    march-halted (a .size) (a .most) (a .threshold) (rowsOf (a .fused-keys .now) (a .fused-distances .now) (a .fused-weights .now) (a .fused-count)) (a .keys .now) (a .cells .now) _ _ _ _ _ (c .before .before .before .before .before .before .before .before .before .before .before .before .before .before .before .before .before .before .before .before .before .before .before .before .before .before .before .sow-all .ensures) (rows-ascend _ _ _ _ (c .before .before .before .before .before .before .before .before .before .before .before .before .before .before .before .before .before .before .before .before .before .before .before .before .before .before .before .before .before .before .before .before .before .before .before .before .before .before .before .pre .0)) (c .before .before .before .before .before .before .before .before .before .before .before .before .before .before .before .before .before .before .before .before .before .before .before .before .before .before .before .sow-all .kept .1 .1 .1 .1 .1 .0) (c .before .before .before .before .before .before .before .before .before .before .before .before .before .before .before .before .before .before .before .before .before .before .before .before .before .before .before .sow-all .kept .1 .1 .1 .1 .1 .1 .1 .1 .0) _ _ (c .before .before .before .before .before .before .before .before .before .before .before .before .before .before .before .before .before .rows .given .1) _ _ _ _ _ (c .before .before .before .before .before .before .before .before .before .before .before .take-all .ensures) _ (c .before .why2 .given .1)
+    let at-take-all = c .before .before .before .before .before .before .before .before .before .before .before in
+    let at-rows = at-take-all .before .before .before .before .before .before in
+    let at-sow-all = at-rows .before .before .before .before .before .before .before .before .before .before in
+    let at-pre = at-sow-all .before .before .before .before .before .before .before .before .before .before .before .before in
+    let a = c .before .before .before .before .before .before .before .before .before .before .before .before .before
+    .before .before .before .before .before .before .before .before .before .before .before .before .before
+    .before .before .before .before .before .before .before .before .before .before .before .before .before .args
+    in
+    march-halted (a .size) (a .most) (a .threshold)
+    (rowsOf (a .fused-keys .now) (a .fused-distances .now) (a .fused-weights .now) (a .fused-count)) (a .keys .now)
+    (a .cells .now) _ _ _ _ _ (at-sow-all .sow-all .ensures) (rows-ascend _ _ _ _ (at-pre .pre .0))
+    (at-sow-all .sow-all .kept .1 .1 .1 .1 .1 .0) (at-sow-all .sow-all .kept .1 .1 .1 .1 .1 .1 .1 .1 .0) _ _
+    (at-rows .rows .given .1) _ _ _ _ _ (at-take-all .take-all .ensures) _ (c .before .why2 .given .1)
 
 same-length-9 : tie.Need-same-length-9
 same-length-9 c = search needs
@@ -84,8 +113,21 @@ same-length-12 c = search needs
 
 returns-3 : tie.Need-returns-3
 returns-3 c =
-    let a = c .before .before .before .before .before .before .before .before .before .before .before .before .before .before .before .before .before .before .before .before .before .before .before .before .before .before .before .before .before .before .before .before .before .before .before .before .before .before .before .before .before .before .before .before .before .before .args in
-    march-done (a .size) (a .most) (a .threshold) (rowsOf (a .fused-keys .now) (a .fused-distances .now) (a .fused-weights .now) (a .fused-count)) (a .keys .now) (a .cells .now) _ _ _ _ _ (c .before .before .before .before .before .before .before .before .before .before .before .before .before .before .before .before .before .before .before .before .before .before .before .before .before .before .before .before .before .before .before .before .before .before .sow-all .ensures) (rows-ascend _ _ _ _ (c .before .before .before .before .before .before .before .before .before .before .before .before .before .before .before .before .before .before .before .before .before .before .before .before .before .before .before .before .before .before .before .before .before .before .before .before .before .before .before .before .before .before .before .before .before .before .pre .0)) (c .before .before .before .before .before .before .before .before .before .before .before .before .before .before .before .before .before .before .before .before .before .before .before .before .before .before .before .before .before .before .before .before .before .before .sow-all .kept .1 .1 .1 .1 .1 .0) (c .before .before .before .before .before .before .before .before .before .before .before .before .before .before .before .before .before .before .before .before .before .before .before .before .before .before .before .before .before .before .before .before .before .before .sow-all .kept .1 .1 .1 .1 .1 .1 .1 .1 .0) _ _ (c .before .before .before .before .before .before .before .before .before .before .before .before .before .before .before .before .before .before .before .before .before .before .before .before .rows .given .1) _ _ _ _ _ (c .before .before .before .before .before .before .before .before .before .before .before .before .before .before .before .before .before .before .take-all .ensures) _ _ (c .before .before .before .before .before .before .before .before .n .given .1) _ _ (c .before .before .before .before .sort-rows .kept .0) (c .before .before .before .before .sort-rows .ensures)
+    let at-n = c .before .before .before .before .before .before .before .before in
+    let at-take-all = at-n .before .before .before .before .before .before .before .before .before .before in
+    let at-rows = at-take-all .before .before .before .before .before .before in
+    let at-sow-all = at-rows .before .before .before .before .before .before .before .before .before .before in
+    let at-pre = at-sow-all .before .before .before .before .before .before .before .before .before .before .before .before in
+    let a = c .before .before .before .before .before .before .before .before .before .before .before .before .before
+    .before .before .before .before .before .before .before .before .before .before .before .before .before
+    .before .before .before .before .before .before .before .before .before .before .before .before .before
+    .before .before .before .before .before .before .before .args in
+    march-done (a .size) (a .most) (a .threshold)
+    (rowsOf (a .fused-keys .now) (a .fused-distances .now) (a .fused-weights .now) (a .fused-count)) (a .keys .now)
+    (a .cells .now) _ _ _ _ _ (at-sow-all .sow-all .ensures) (rows-ascend _ _ _ _ (at-pre .pre .0))
+    (at-sow-all .sow-all .kept .1 .1 .1 .1 .1 .0) (at-sow-all .sow-all .kept .1 .1 .1 .1 .1 .1 .1 .1 .0) _ _
+    (at-rows .rows .given .1) _ _ _ _ _ (at-take-all .take-all .ensures) _ _ (at-n .n .given .1) _ _
+    (c .before .before .before .before .sort-rows .kept .0) (c .before .before .before .before .sort-rows .ensures)
 
 pub race-spec : {M : Type 1} → statement M
 race-spec =

@@ -16,7 +16,8 @@ settled-requires c κs =
 
 store-requires : tie.Need-store-requires
 store-requires c κs =
-    c .before .before .before .before .before .before .before .before .before .pre .0
+    let at-pre = c .before .before .before .before .before .before .before .before .before in
+    at-pre .pre .0
 
 enum-known-why : tie.Need-enum-known-why
 enum-known-why c = search needs
@@ -26,7 +27,8 @@ enum-known-rows c = search needs
 
 spread-requires : tie.Need-spread-requires
 spread-requires c κs =
-    let p = c .before .before .before .before .before .before .before .before .before .before .before .before .before .before .before .before .before .before .before .before .before .pre in
+    let p = c .before .before .before .before .before .before .before .before .before .before .before .before .before
+    .before .before .before .before .before .before .before .before .pre in
     let k = c .before .before .before .before .before .before .before .before .before .before .before .store .kept in
     (k .1 .0 ∙ p .0 ∙ sym (k .0), p .1)
 
@@ -44,10 +46,15 @@ same-length-2 c = search needs
 
 returns : tie.Need-returns
 returns c =
+    let at-settled = c .before .before .before .before .before .before .before .before .before .before in
     let a = c .before .before .before .before .before .before .before .before .before .before .before .before .before .before .before .before .before .args in
     λ s h.
-    settle-by (lattice (a .size) (a .most)) (roomsOf (a .keys .now) (a .cells .now)) (a .key) s _ (c .before .before .before .before .before .before .before .before .before .before .settled .ensures (s .stored) _ (h .marked)) _ _ _ _ _
-    (no-row _ _ s (a .waiting) (a .estimates .now) (a .cells .now) (h .heap) _ _ _ (c .before .before .before .before .before .before .before .store .ensures s (a .key ∷ cellsOf (s .waiting)) (cellsOf (s .waiting)) (h .marked) (taken-same (a .key) (cellsOf (s .waiting))) (h .count) (h .new)) _ (c .before .why .given .1) _ _)
+    settle-by (lattice (a .size) (a .most)) (roomsOf (a .keys .now) (a .cells .now)) (a .key) s _
+    (at-settled .settled .ensures (s .stored) _ (h .marked)) _ _ _ _ _
+    (no-row _ _ s (a .waiting) (a .estimates .now) (a .cells .now) (h .heap) _ _ _
+    (c .before .before .before .before .before .before .before .store .ensures s (a .key ∷ cellsOf (s .waiting))
+    (cellsOf (s .waiting)) (h .marked) (taken-same (a .key) (cellsOf (s .waiting))) (h .count) (h .new)) _
+    (c .before .why .given .1) _ _)
 
 same-length-3 : tie.Need-same-length-3
 same-length-3 c = search needs
@@ -63,10 +70,20 @@ same-length-6 c = search needs
 
 returns-2 : tie.Need-returns-2
 returns-2 c =
-    let a = c .before .before .before .before .before .before .before .before .before .before .before .before .before .before .before .before .before .before .before .before .before .before .before .before .before .before .before .before .before .before .before .before .before .args in
+    let at-spread = c .before .before .before .before .before .before .before .before .before .before .before in
+    let at-rows = at-spread .before .before .before .before .before .before in
+    let at-store = at-rows .before .before .before .before .before .before in
+    let at-settled = at-store .before .before .before in
+    let a = c .before .before .before .before .before .before .before .before .before .before .before .before .before
+    .before .before .before .before .before .before .before .before .before .before .before .before .before
+    .before .before .before .before .before .before .before .args in
     λ s h.
-    settle-by (lattice (a .size) (a .most)) (roomsOf (a .keys .now) (a .cells .now)) (a .key) s _ (c .before .before .before .before .before .before .before .before .before .before .before .before .before .before .before .before .before .before .before .before .before .before .before .before .before .before .settled .ensures (s .stored) _ (h .marked)) _ _ _ _ _
-    (no-cell _ _ s (a .waiting) (a .estimates .now) (a .cells .now) (h .heap) _ _ _ (c .before .before .before .before .before .before .before .before .before .before .before .before .before .before .before .before .before .before .before .before .before .before .before .store .ensures s (a .key ∷ cellsOf (s .waiting)) (cellsOf (s .waiting)) (h .marked) (taken-same (a .key) (cellsOf (s .waiting))) (h .count) (h .new)) _ (c .before .before .before .before .before .before .before .before .before .before .before .before .before .before .before .before .before .rows .given .1) _ _ _ _ _ (c .before .before .before .before .before .before .before .before .before .before .before .spread .ensures) _ (c .before .why2 .given .1))
+    settle-by (lattice (a .size) (a .most)) (roomsOf (a .keys .now) (a .cells .now)) (a .key) s _
+    (at-settled .settled .ensures (s .stored) _ (h .marked)) _ _ _ _ _
+    (no-cell _ _ s (a .waiting) (a .estimates .now) (a .cells .now) (h .heap) _ _ _
+    (at-store .store .ensures s (a .key ∷ cellsOf (s .waiting)) (cellsOf (s .waiting)) (h .marked)
+    (taken-same (a .key) (cellsOf (s .waiting))) (h .count) (h .new)) _ (at-rows .rows .given .1) _ _ _ _ _
+    (at-spread .spread .ensures) _ (c .before .why2 .given .1))
 
 same-length-7 : tie.Need-same-length-7
 same-length-7 c = search needs
@@ -82,10 +99,20 @@ same-length-10 c = search needs
 
 returns-3 : tie.Need-returns-3
 returns-3 c =
-    let a = c .before .before .before .before .before .before .before .before .before .before .before .before .before .before .before .before .before .before .before .before .before .before .before .before .before .before .before .before .before .before .before .before .before .args in
+    let at-spread = c .before .before .before .before .before .before .before .before .before .before .before in
+    let at-rows = at-spread .before .before .before .before .before .before in
+    let at-store = at-rows .before .before .before .before .before .before in
+    let at-settled = at-store .before .before .before in
+    let a = c .before .before .before .before .before .before .before .before .before .before .before .before .before
+    .before .before .before .before .before .before .before .before .before .before .before .before .before
+    .before .before .before .before .before .before .before .args in
     λ s h.
-    settle-by (lattice (a .size) (a .most)) (roomsOf (a .keys .now) (a .cells .now)) (a .key) s _ (c .before .before .before .before .before .before .before .before .before .before .before .before .before .before .before .before .before .before .before .before .before .before .before .before .before .before .settled .ensures (s .stored) _ (h .marked)) _ _ _ _ _
-    (both-done _ _ s (a .waiting) (a .estimates .now) (a .cells .now) (h .heap) _ _ _ (c .before .before .before .before .before .before .before .before .before .before .before .before .before .before .before .before .before .before .before .before .before .before .before .store .ensures s (a .key ∷ cellsOf (s .waiting)) (cellsOf (s .waiting)) (h .marked) (taken-same (a .key) (cellsOf (s .waiting))) (h .count) (h .new)) _ (c .before .before .before .before .before .before .before .before .before .before .before .before .before .before .before .before .before .rows .given .1) _ _ _ _ _ (c .before .before .before .before .before .before .before .before .before .before .before .spread .ensures) _ (c .before .held .given .1))
+    settle-by (lattice (a .size) (a .most)) (roomsOf (a .keys .now) (a .cells .now)) (a .key) s _
+    (at-settled .settled .ensures (s .stored) _ (h .marked)) _ _ _ _ _
+    (both-done _ _ s (a .waiting) (a .estimates .now) (a .cells .now) (h .heap) _ _ _
+    (at-store .store .ensures s (a .key ∷ cellsOf (s .waiting)) (cellsOf (s .waiting)) (h .marked)
+    (taken-same (a .key) (cellsOf (s .waiting))) (h .count) (h .new)) _ (at-rows .rows .given .1) _ _ _ _ _
+    (at-spread .spread .ensures) _ (c .before .held .given .1))
 
 pub settle-spec : {M : Type 1} → statement M
 settle-spec =

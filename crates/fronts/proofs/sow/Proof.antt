@@ -21,7 +21,8 @@ size-requires c κs = search needs
 
 wait-around-requires : tie.Need-wait-around-requires
 wait-around-requires c κs =
-    let p = c .before .before .before .before .before .before .before .before .before .before .before .before .before .before .before .before .before .before .before .pre in
+    let p = c .before .before .before .before .before .before .before .before .before .before .before .before .before
+    .before .before .before .before .before .before .pre in
     let k = c .before .before .before .before .before .before .before .before .before .before .before .before .store .kept in
     (k .1 .0 ∙ p .0 ∙ sym (k .0), p .1)
 
@@ -41,7 +42,10 @@ returns : tie.Need-returns
 unfolding sow
 returns c =
     let a = c .before .before .before .before .before .before .before .before .before .before .before .before .before .before .args in
-    λ s h new. no-row _ _ s (a .waiting) (a .estimates .now) (a .cells .now) (h .front .heap) _ _ _ (c .before .before .before .before .before .before .before .store .ensures s (cellsOf (s .waiting)) (cellsOf (s .waiting)) (h .front .marked) (λ j d. refl) (h .count) new) _ (c .before .why .given .1) _ _
+    λ s h new.
+    no-row _ _ s (a .waiting) (a .estimates .now) (a .cells .now) (h .front .heap) _ _ _
+    (c .before .before .before .before .before .before .before .store .ensures s (cellsOf (s .waiting))
+    (cellsOf (s .waiting)) (h .front .marked) (λ j d. refl) (h .count) new) _ (c .before .why .given .1) _ _
 
 same-length-3 : tie.Need-same-length-3
 same-length-3 c = search needs
@@ -58,8 +62,19 @@ same-length-6 c = search needs
 returns-2 : tie.Need-returns-2
 unfolding sow
 returns-2 c =
-    let a = c .before .before .before .before .before .before .before .before .before .before .before .before .before .before .before .before .before .before .before .before .before .before .before .before .before .before .before .before .before .before .before .args in
-    λ s h new. no-cell _ _ s (a .waiting) (a .estimates .now) (a .cells .now) (h .front .heap) _ _ _ (c .before .before .before .before .before .before .before .before .before .before .before .before .before .before .before .before .before .before .before .before .before .before .before .before .store .ensures s (cellsOf (s .waiting)) (cellsOf (s .waiting)) (h .front .marked) (λ j d. refl) (h .count) new) _ (c .before .before .before .before .before .before .before .before .before .before .before .before .before .before .before .before .before .before .rows .given .1) _ _ _ _ _ (with-size _ _ _ _ _ _ _ _ _ _ _ _ _ _ (c .before .before .before .before .before .before .before .before .before .before .before .before .size .ensures) (c .before .before .before .before .before .before .before .before .before .before .before .wait-around .ensures)) _ (c .before .why2 .given .1)
+    let at-wait-around = c .before .before .before .before .before .before .before .before .before .before .before in
+    let at-size = at-wait-around .before in
+    let at-rows = at-size .before .before .before .before .before .before in
+    let at-store = at-rows .before .before .before .before .before .before in
+    let a = c .before .before .before .before .before .before .before .before .before .before .before .before .before
+    .before .before .before .before .before .before .before .before .before .before .before .before .before
+    .before .before .before .before .before .args in
+    λ s h new.
+    no-cell _ _ s (a .waiting) (a .estimates .now) (a .cells .now) (h .front .heap) _ _ _
+    (at-store .store .ensures s (cellsOf (s .waiting)) (cellsOf (s .waiting)) (h .front .marked) (λ j d. refl)
+    (h .count) new) _ (at-rows .rows .given .1) _ _ _ _ _
+    (with-size _ _ _ _ _ _ _ _ _ _ _ _ _ _ (at-size .size .ensures) (at-wait-around .wait-around .ensures)) _
+    (c .before .why2 .given .1)
 
 same-length-7 : tie.Need-same-length-7
 same-length-7 c = search needs
@@ -76,8 +91,19 @@ same-length-10 c = search needs
 returns-3 : tie.Need-returns-3
 unfolding sow
 returns-3 c =
-    let a = c .before .before .before .before .before .before .before .before .before .before .before .before .before .before .before .before .before .before .before .before .before .before .before .before .before .before .before .before .before .before .before .args in
-    λ s h new. both-done _ _ s (a .waiting) (a .estimates .now) (a .cells .now) (h .front .heap) _ _ _ (c .before .before .before .before .before .before .before .before .before .before .before .before .before .before .before .before .before .before .before .before .before .before .before .before .store .ensures s (cellsOf (s .waiting)) (cellsOf (s .waiting)) (h .front .marked) (λ j d. refl) (h .count) new) _ (c .before .before .before .before .before .before .before .before .before .before .before .before .before .before .before .before .before .before .rows .given .1) _ _ _ _ _ (with-size _ _ _ _ _ _ _ _ _ _ _ _ _ _ (c .before .before .before .before .before .before .before .before .before .before .before .before .size .ensures) (c .before .before .before .before .before .before .before .before .before .before .before .wait-around .ensures)) _ (c .before .held .given .1)
+    let at-wait-around = c .before .before .before .before .before .before .before .before .before .before .before in
+    let at-size = at-wait-around .before in
+    let at-rows = at-size .before .before .before .before .before .before in
+    let at-store = at-rows .before .before .before .before .before .before in
+    let a = c .before .before .before .before .before .before .before .before .before .before .before .before .before
+    .before .before .before .before .before .before .before .before .before .before .before .before .before
+    .before .before .before .before .before .args in
+    λ s h new.
+    both-done _ _ s (a .waiting) (a .estimates .now) (a .cells .now) (h .front .heap) _ _ _
+    (at-store .store .ensures s (cellsOf (s .waiting)) (cellsOf (s .waiting)) (h .front .marked) (λ j d. refl)
+    (h .count) new) _ (at-rows .rows .given .1) _ _ _ _ _
+    (with-size _ _ _ _ _ _ _ _ _ _ _ _ _ _ (at-size .size .ensures) (at-wait-around .wait-around .ensures)) _
+    (c .before .held .given .1)
 
 pub sow-spec : {M : Type 1} → statement M
 sow-spec =

@@ -16,18 +16,35 @@ use Rattle.fronts.proofs.sow_all.Statement.{statement}
 use Rattle.fronts.proofs.sow_all.Tie as tie
 
 abbrev Inv-loop : tie.InvT-loop
-Inv-loop fused-keys fused-distances fused-weights fused-count threshold keys₀ distances₀ estimates₀ cells₀ rows₀ held₀ i₀ keys distances estimates cells rows held i =
-    (i ≤ fused-count) × (length keys ≡ length keys₀) × (length distances ≡ length distances₀) × (length estimates ≡ length estimates₀) × (length cells ≡ length cells₀) × SowAt threshold (roomsOf keys₀ cells₀) (rowsOf fused-keys fused-distances fused-weights fused-count) i rows keys distances held estimates cells
+Inv-loop fused-keys fused-distances fused-weights fused-count threshold keys₀ distances₀ estimates₀ cells₀ rows₀ held₀
+    i₀ keys distances estimates cells rows held i =
+    (i ≤ fused-count)
+    × (length keys ≡ length keys₀)
+    × (length distances ≡ length distances₀)
+    × (length estimates ≡ length estimates₀)
+    × (length cells ≡ length cells₀)
+    × SowAt threshold (roomsOf keys₀ cells₀) (rowsOf fused-keys fused-distances fused-weights fused-count) i rows keys
+    distances held estimates cells
 
 abbrev μ-loop : tie.MeasureT-loop
-μ-loop fused-keys fused-distances fused-weights fused-count threshold keys₀ distances₀ estimates₀ cells₀ rows₀ held₀ i₀ keys distances estimates cells rows held i =
+μ-loop fused-keys fused-distances fused-weights fused-count threshold keys₀ distances₀ estimates₀ cells₀ rows₀ held₀ i₀
+    keys distances estimates cells rows held i =
     fused-count - i
 
 loop-holds : tie.Need-loop-holds Inv-loop μ-loop
 loop-holds c =
     let a = c .before .before .before .before .before .before .before .args in
-    let p = c .before .before .before .before .before .before .before .pre in
-    (search needs, refl, refl, refl, refl, sow-start (a .threshold) (roomsOf (a .keys .now) (a .cells .now)) (rowsOf (a .fused-keys .now) (a .fused-distances .now) (a .fused-weights .now) (a .fused-count)) (a .keys .now) (a .distances .now) (a .estimates .now) (a .cells .now) (rows-ascend _ _ _ _ (p .0)) (blank-held _ _ _ _ (p .1)))
+    let p = c .before .before .before .before .before .before .before .pre in (
+      search needs,
+      refl,
+      refl,
+      refl,
+      refl,
+      sow-start (a .threshold) (roomsOf (a .keys .now) (a .cells .now))
+          (rowsOf (a .fused-keys .now) (a .fused-distances .now) (a .fused-weights .now) (a .fused-count)) (a .keys .now)
+          (a .distances .now) (a .estimates .now) (a .cells .now) (rows-ascend _ _ _ _ (p .0))
+          (blank-held _ _ _ _ (p .1)),
+    )
 
 mul-sow-if : tie.Need-mul-sow-if Inv-loop μ-loop
 mul-sow-if c = search needs
@@ -71,11 +88,23 @@ same-length-4 c = search needs
 
 returns : tie.Need-returns Inv-loop μ-loop
 returns c =
-    let a = c .before .before .before .before .before .before .before .before .before .before .before .before .before .before .before .before .before .before .before .before .before .before .before .before .before .before .before .before .args in
-    let p = c .before .before .before .before .before .before .before .before .before .before .before .before .before .before .before .before .before .before .before .before .before .before .before .before .before .before .before .before .pre .0 in
-    let l = c .before .before .before .before .before .before .before .before .before .before .before .before .before .before .before .before .before .before .before .before .loop in
-    let here = row-at (a .fused-keys .now) (a .fused-distances .now) (a .fused-weights .now) (a .fused-count) (l .i) (p .distances) (p .weights) (c .before .before .before .before .before .before .before .before .before .before .before .before .before .before .before .before .before .before .before .loop-test .taken) (p .fits) in
-    sow-stop (a .threshold) (roomsOf (a .keys .now) (a .cells .now)) (rowsOf (a .fused-keys .now) (a .fused-distances .now) (a .fused-weights .now) (a .fused-count)) (l .i) (l .rows) (l .keys) (l .distances) (l .held) (l .estimates) (l .cells) (l .inv .5) _ here (l .inv .1) (l .inv .4) _ _ _ _ _ (c .before .before .before .before .before .before .before .before .before .before .before .sow-if .ensures) _ (c .before .why .given .1)
+    let at-sow-if = c .before .before .before .before .before .before .before .before .before .before .before in
+    let at-loop-test = at-sow-if .before .before .before .before .before .before .before .before in
+    let a = c .before .before .before .before .before .before .before .before .before .before .before .before .before
+    .before .before .before .before .before .before .before .before .before .before .before .before .before
+    .before .before .args in
+    let p = c .before .before .before .before .before .before .before .before .before .before .before .before .before
+    .before .before .before .before .before .before .before .before .before .before .before .before .before
+    .before .before .pre .0 in
+    let l = c .before .before .before .before .before .before .before .before .before .before .before .before .before
+    .before .before .before .before .before .before .before .loop in
+    let here =
+    row-at (a .fused-keys .now) (a .fused-distances .now) (a .fused-weights .now) (a .fused-count) (l .i)
+    (p .distances) (p .weights) (at-loop-test .loop-test .taken) (p .fits) in
+    sow-stop (a .threshold) (roomsOf (a .keys .now) (a .cells .now))
+    (rowsOf (a .fused-keys .now) (a .fused-distances .now) (a .fused-weights .now) (a .fused-count)) (l .i) (l .rows)
+    (l .keys) (l .distances) (l .held) (l .estimates) (l .cells) (l .inv .5) _ here (l .inv .1) (l .inv .4) _ _ _ _ _
+    (at-sow-if .sow-if .ensures) _ (c .before .why .given .1)
 
 enum-known-n : tie.Need-enum-known-n Inv-loop μ-loop
 enum-known-n c = search needs
@@ -88,18 +117,30 @@ loop-less c = search needs
 
 loop-again : tie.Need-loop-again Inv-loop μ-loop
 loop-again c =
-    let a = c .before .before .before .before .before .before .before .before .before .before .before .before .before .before .before .before .before .before .before .before .before .before .before .before .before .before .before .before .args in
-    let p = c .before .before .before .before .before .before .before .before .before .before .before .before .before .before .before .before .before .before .before .before .before .before .before .before .before .before .before .before .pre .0 in
-    let l = c .before .before .before .before .before .before .before .before .before .before .before .before .before .before .before .before .before .before .before .before .loop in
-    let here = row-at (a .fused-keys .now) (a .fused-distances .now) (a .fused-weights .now) (a .fused-count) (l .i) (p .distances) (p .weights) (c .before .before .before .before .before .before .before .before .before .before .before .before .before .before .before .before .before .before .before .loop-test .taken) (p .fits) in
+    let at-sow-if = c .before .before .before .before .before .before .before .before .before .before .before in
+    let at-loop-test = at-sow-if .before .before .before .before .before .before .before .before in
+    let a = c .before .before .before .before .before .before .before .before .before .before .before .before .before
+    .before .before .before .before .before .before .before .before .before .before .before .before .before
+    .before .before .args in
+    let p = c .before .before .before .before .before .before .before .before .before .before .before .before .before
+    .before .before .before .before .before .before .before .before .before .before .before .before .before
+    .before .before .pre .0 in
+    let l = c .before .before .before .before .before .before .before .before .before .before .before .before .before
+    .before .before .before .before .before .before .before .loop in
+    let here =
+    row-at (a .fused-keys .now) (a .fused-distances .now) (a .fused-weights .now) (a .fused-count) (l .i)
+    (p .distances) (p .weights) (at-loop-test .loop-test .taken) (p .fits) in
     let k = c .before .before .before .before .before .before .before .before .before .before .before .sow-if .kept in
     let i = l .inv in (
-      omega (arith, c .before .before .before .before .before .before .before .before .before .before .before .before .before .before .before .before .before .before .before .loop-test .taken),
+      omega (arith, at-loop-test .loop-test .taken),
       k .1 .0 ∙ i .1,
       k .1 .1 .0 ∙ i .2,
       k .1 .1 .1 .1 .0 ∙ i .3,
       k .1 .1 .1 .1 .1 .0 ∙ i .4,
-      sow-more (a .threshold) (roomsOf (a .keys .now) (a .cells .now)) (rowsOf (a .fused-keys .now) (a .fused-distances .now) (a .fused-weights .now) (a .fused-count)) (l .i) (l .rows) (l .keys) (l .distances) (l .held) (l .estimates) (l .cells) (l .inv .5) _ here (i .1) (i .4) _ _ _ _ _ (c .before .before .before .before .before .before .before .before .before .before .before .sow-if .ensures) _ _ (c .before .n .given .1),
+      sow-more (a .threshold) (roomsOf (a .keys .now) (a .cells .now))
+          (rowsOf (a .fused-keys .now) (a .fused-distances .now) (a .fused-weights .now) (a .fused-count)) (l .i)
+          (l .rows) (l .keys) (l .distances) (l .held) (l .estimates) (l .cells) (l .inv .5) _ here (i .1) (i .4) _ _ _ _
+          _ (at-sow-if .sow-if .ensures) _ _ (c .before .n .given .1),
     )
 
 same-length-5 : tie.Need-same-length-5 Inv-loop μ-loop
@@ -118,7 +159,10 @@ returns-2 : tie.Need-returns-2 Inv-loop μ-loop
 returns-2 c =
     let a = c .before .before .before .before .before .before .before .before .before .args in
     let l = c .before .loop in
-    sow-finish (a .threshold) (roomsOf (a .keys .now) (a .cells .now)) (rowsOf (a .fused-keys .now) (a .fused-distances .now) (a .fused-weights .now) (a .fused-count)) (l .i) (l .rows) (l .keys) (l .distances) (l .held) (l .estimates) (l .cells) (l .inv .5) (front-end (row 0 nan nan) _ _ _ (c .loop-test .left))
+    sow-finish (a .threshold) (roomsOf (a .keys .now) (a .cells .now))
+    (rowsOf (a .fused-keys .now) (a .fused-distances .now) (a .fused-weights .now) (a .fused-count)) (l .i) (l .rows)
+    (l .keys) (l .distances) (l .held) (l .estimates) (l .cells) (l .inv .5)
+    (front-end (row 0 nan nan) _ _ _ (c .loop-test .left))
 
 pub sow-all-spec : {M : Type 1} → statement M
 sow-all-spec =

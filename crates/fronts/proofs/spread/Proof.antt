@@ -35,14 +35,21 @@ same-length-4 c = search needs
 returns : tie.Need-returns
 unfolding ofBits
 returns c =
-    let a = c .before .before .before .before .before .before .before .before .before .before .before .before .before .before .before .before .before .before .before .args in
-    spread-waits (lattice (a .size) (a .most)) (marchedRow (a .key) (a .distance)) (a .keys .now) (a .distances .now) (a .waiting) (a .estimates .now) (a .cells .now) _ (rw (c .before .before .before .before .before .before .before .before .before .before .before .before .before .before .size .ensures)) (c .before .before .before .before .before .before .before .before .before .before .before .before .before .if1 .taken) _ _ _ _ _ (c .before .before .before .before .before .before .before .before .wait-around .ensures)
+    let at-wait-around = c .before .before .before .before .before .before .before .before in
+    let at-if1 = at-wait-around .before .before .before .before .before in
+    let at-size = at-if1 .before in
+    let a = c .before .before .before .before .before .before .before .before .before .before .before .before .before
+    .before .before .before .before .before .before .args in
+    spread-waits (lattice (a .size) (a .most)) (marchedRow (a .key) (a .distance)) (a .keys .now) (a .distances .now)
+    (a .waiting) (a .estimates .now) (a .cells .now) _ (rw (at-size .size .ensures)) (at-if1 .if1 .taken) _ _ _ _ _
+    (at-wait-around .wait-around .ensures)
 
 returns-2 : tie.Need-returns-2
 unfolding ofBits
 returns-2 c =
     let a = c .before .before .before .before .before .before .args in
-    spread-stays (lattice (a .size) (a .most)) (marchedRow (a .key) (a .distance)) (a .keys .now) (a .distances .now) (a .waiting) (a .estimates .now) (a .cells .now) _ (rw (c .before .size .ensures)) (c .if1 .left)
+    spread-stays (lattice (a .size) (a .most)) (marchedRow (a .key) (a .distance)) (a .keys .now) (a .distances .now)
+    (a .waiting) (a .estimates .now) (a .cells .now) _ (rw (c .before .size .ensures)) (c .if1 .left)
 
 pub spread-spec : {M : Type 1} → statement M
 spread-spec =

@@ -34,13 +34,15 @@ enum-known-place c = search needs
 
 mul-distances : tie.Need-mul-distances
 mul-distances c =
+    let at-pre = c .before .before .before .before .before .before .before .before .before .before in
     let q = at-right _ _ _ (sym (c .before .before .before .find .ensures) ∙ c .before .place .given .1) in
-    omega (arith, q .0, c .before .before .before .before .before .before .before .before .before .before .pre)
+    omega (arith, q .0, at-pre .pre)
 
 slice-write-distances : tie.Need-slice-write-distances
 slice-write-distances c =
+    let at-pre = c .before .before .before .before .before .before .before .before .before .before in
     let q = at-right _ _ _ (sym (c .before .before .before .find .ensures) ∙ c .before .place .given .1) in
-    omega (arith, q .0, c .before .before .before .before .before .before .before .before .before .before .pre)
+    omega (arith, q .0, at-pre .pre)
 
 add-t18 : tie.Need-add-t18
 add-t18 c = search needs
@@ -58,23 +60,27 @@ returns-3 c =
 
 mul-keys : tie.Need-mul-keys
 mul-keys c =
+    let at-pre = c .before .before .before .before .before .before .before .before .before .before .before in
     let q = free-right _ _ _ (sym (c .before .before .before .before .find .ensures) ∙ c .before .before .place2 .given .1) in
-    omega (arith, q .0, c .before .before .before .before .before .before .before .before .before .before .before .pre)
+    omega (arith, q .0, at-pre .pre)
 
 slice-write-keys : tie.Need-slice-write-keys
 slice-write-keys c =
+    let at-pre = c .before .before .before .before .before .before .before .before .before .before .before in
     let q = free-right _ _ _ (sym (c .before .before .before .before .find .ensures) ∙ c .before .before .place2 .given .1) in
-    omega (arith, q .0, c .before .before .before .before .before .before .before .before .before .before .before .pre)
+    omega (arith, q .0, at-pre .pre)
 
 mul-distances-2 : tie.Need-mul-distances-2
 mul-distances-2 c =
+    let at-pre = c .before .before .before .before .before .before .before .before .before .before .before in
     let q = free-right _ _ _ (sym (c .before .before .before .before .find .ensures) ∙ c .before .before .place2 .given .1) in
-    omega (arith, q .0, c .before .before .before .before .before .before .before .before .before .before .before .pre)
+    omega (arith, q .0, at-pre .pre)
 
 slice-write-distances-2 : tie.Need-slice-write-distances-2
 slice-write-distances-2 c =
+    let at-pre = c .before .before .before .before .before .before .before .before .before .before .before in
     let q = free-right _ _ _ (sym (c .before .before .before .before .find .ensures) ∙ c .before .before .place2 .given .1) in
-    omega (arith, q .0, c .before .before .before .before .before .before .before .before .before .before .before .pre)
+    omega (arith, q .0, at-pre .pre)
 
 add-t22 : tie.Need-add-t22
 add-t22 c = search needs
@@ -97,7 +103,11 @@ returns-5 : tie.Need-returns-5
 returns-5 c =
     let a = c .before .before .before .before .before .before .before .before .before .before .args in
     λ s ws vs h same n o.
-    store-at (a .key) (a .distance) s ws vs (a .count) (a .keys .now) (a .distances .now) h same n o (c .before .before .before .before .before .before .before .if1 .left) (yes (c .before .before .before .before .before .before .is-finite .ensures) (c .before .before .before .before .before .if2 .left)) _ (sym (c .before .before .before .find .ensures) ∙ c .before .place .given .1)
+    store-at (a .key) (a .distance) s ws vs (a .count) (a .keys .now) (a .distances .now) h same n o
+    (c .before .before .before .before .before .before .before .if1 .left)
+    (yes (c .before .before .before .before .before .before .is-finite .ensures)
+    (c .before .before .before .before .before .if2 .left)) _
+    (sym (c .before .before .before .find .ensures) ∙ c .before .place .given .1)
 
 same-length-5 : tie.Need-same-length-5
 same-length-5 c = search needs
@@ -107,9 +117,14 @@ same-length-6 c = search needs
 
 returns-6 : tie.Need-returns-6
 returns-6 c =
+    let at-if1 = c .before .before .before .before .before .before .before .before in
     let a = c .before .before .before .before .before .before .before .before .before .before .before .args in
     λ s ws vs h same n o.
-    store-put (a .key) (a .distance) s ws vs (a .count) (a .keys .now) (a .distances .now) h same n o (c .before .before .before .before .before .before .before .before .if1 .left) (yes (c .before .before .before .before .before .before .before .is-finite .ensures) (c .before .before .before .before .before .before .if2 .left)) _ (sym (c .before .before .before .before .find .ensures) ∙ c .before .before .place2 .given .1) (c .if3 .left)
+    store-put (a .key) (a .distance) s ws vs (a .count) (a .keys .now) (a .distances .now) h same n o
+    (at-if1 .if1 .left)
+    (yes (c .before .before .before .before .before .before .before .is-finite .ensures)
+    (c .before .before .before .before .before .before .if2 .left)) _
+    (sym (c .before .before .before .before .find .ensures) ∙ c .before .before .place2 .given .1) (c .if3 .left)
 
 pub store-spec : {M : Type 1} → statement M
 store-spec =

@@ -23,7 +23,8 @@ sub-left c = search needs
 
 known-requires : tie.Need-known-requires
 known-requires c κs =
-    c .before .before .before .before .before .before .before .before .before .before .before .before .before .before .pre .0 .0
+    let at-pre = c .before .before .before .before .before .before .before .before .before .before .before .before .before .before in
+    at-pre .pre .0 .0
 
 is-finite-requires : tie.Need-is-finite-requires
 is-finite-requires c κs = search needs
@@ -43,12 +44,19 @@ same-length-4 c = search needs
 returns : tie.Need-returns
 unfolding ofBits
 returns c =
+    let at-pop = c .before .before .before .before .before .before .before .before .before in
+    let at-pre = at-pop .before .before .before .before .before .before .before .before in
     let a = c .before .before .before .before .before .before .before .before .before .before .before .before .before .before .before .before .before .args in
-    λ s h. take-skips (lattice (a .size) (a .most)) s (a .count) (a .keys .now) (a .distances .now) (a .waiting) (a .estimates .now) (a .cells .now) h (c .before .before .before .before .before .before .before .before .before .before .before .before .before .before .before .before .before .pre .1 .0) _ _ (c .before .before .before .before .before .before .before .before .before .pop .ensures) (c .before .before .before .before .before .before .before .before .before .pop .kept .1 .0) (c .before .before .known .result) (c .before .before .known .ensures) (sym (c .before .is-finite .ensures) ∙ c .if1 .taken)
+    λ s h.
+    take-skips (lattice (a .size) (a .most)) s (a .count) (a .keys .now) (a .distances .now) (a .waiting)
+    (a .estimates .now) (a .cells .now) h (at-pre .pre .1 .0) _ _ (at-pop .pop .ensures) (at-pop .pop .kept .1 .0)
+    (c .before .before .known .result) (c .before .before .known .ensures)
+    (sym (c .before .is-finite .ensures) ∙ c .if1 .taken)
 
 settle-requires : tie.Need-settle-requires
 settle-requires c κs =
-    let p = c .before .before .before .before .before .before .before .before .before .before .before .before .before .before .before .before .before .before .before .before .before .pre .0 in
+    let p = c .before .before .before .before .before .before .before .before .before .before .before .before .before
+    .before .before .before .before .before .before .before .before .pre .0 in
     let k = c .before .before .before .before .before .before .before .before .before .before .before .before .before .pop .kept in
     (p .0, k .0 ∙ p .1 ∙ sym (k .1 .0))
 
@@ -67,8 +75,20 @@ same-length-8 c = search needs
 returns-2 : tie.Need-returns-2
 unfolding ofBits
 returns-2 c =
-    let a = c .before .before .before .before .before .before .before .before .before .before .before .before .before .before .before .before .before .before .before .before .before .before .before .before .before .before .before .before .before .before .args in
-    λ s h. take-settles (lattice (a .size) (a .most)) s (a .count) (a .keys .now) (a .distances .now) (a .waiting) (a .estimates .now) (a .cells .now) h (c .before .before .before .before .before .before .before .before .before .before .before .before .before .before .before .before .before .before .before .before .before .before .before .before .before .before .before .before .before .before .pre .1 .0) _ _ (c .before .before .before .before .before .before .before .before .before .before .before .before .before .before .before .before .before .before .before .before .before .before .pop .ensures) (c .before .before .before .before .before .before .before .before .before .before .before .before .before .before .before .before .before .before .before .before .before .before .pop .kept .1 .0) (c .before .before .before .before .before .before .before .before .before .before .before .before .before .before .before .known .result) (c .before .before .before .before .before .before .before .before .before .before .before .before .before .before .before .known .ensures) (sym (c .before .before .before .before .before .before .before .before .before .before .before .before .before .before .is-finite .ensures) ∙ c .before .before .before .before .before .before .before .before .before .before .before .before .before .if1 .left) _ _ _ _ _ (c .before .before .before .before .before .before .before .before .settle .ensures)
+    let at-settle = c .before .before .before .before .before .before .before .before in
+    let at-if1 = at-settle .before .before .before .before .before in
+    let at-is-finite = at-if1 .before in
+    let at-known = at-is-finite .before in
+    let at-pop = at-known .before .before .before .before .before .before .before in
+    let at-pre = at-pop .before .before .before .before .before .before .before .before in
+    let a = c .before .before .before .before .before .before .before .before .before .before .before .before .before
+    .before .before .before .before .before .before .before .before .before .before .before .before .before
+    .before .before .before .before .args in
+    λ s h.
+    take-settles (lattice (a .size) (a .most)) s (a .count) (a .keys .now) (a .distances .now) (a .waiting)
+    (a .estimates .now) (a .cells .now) h (at-pre .pre .1 .0) _ _ (at-pop .pop .ensures) (at-pop .pop .kept .1 .0)
+    (at-known .known .result) (at-known .known .ensures)
+    (sym (at-is-finite .is-finite .ensures) ∙ at-if1 .if1 .left) _ _ _ _ _ (at-settle .settle .ensures)
 
 pub take-spec : {M : Type 1} → statement M
 take-spec =

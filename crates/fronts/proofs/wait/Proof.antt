@@ -36,17 +36,23 @@ same-length-2 c = search needs
 returns-2 : tie.Need-returns-2
 returns-2 c =
     let a = c .before .before .before .before .before .before .before .before .before .before .before .before .args in
-    λ s h. wait-full (a .estimate) (a .key) s (a .waiting) (a .keys .now) (a .distances .now) (a .estimates .now) (a .cells .now) h _ (sym (c .before .before .before .before .before .before .find .ensures) ∙ c .before .before .before .before .place .given .1) (c .if3 .taken)
+    λ s h.
+    wait-full (a .estimate) (a .key) s (a .waiting) (a .keys .now) (a .distances .now) (a .estimates .now)
+    (a .cells .now) h _
+    (sym (c .before .before .before .before .before .before .find .ensures)
+    ∙ c .before .before .before .before .place .given .1) (c .if3 .taken)
 
 mul-keys : tie.Need-mul-keys
 mul-keys c =
+    let at-pre = c .before .before .before .before .before .before .before .before .before .before .before .before in
     let q = free-right _ _ _ (sym (c .before .before .before .before .before .before .find .ensures) ∙ c .before .before .before .before .place .given .1) in
-    omega (arith, q .0, c .before .before .before .before .before .before .before .before .before .before .before .before .pre .0)
+    omega (arith, q .0, at-pre .pre .0)
 
 slice-write-keys : tie.Need-slice-write-keys
 slice-write-keys c =
+    let at-pre = c .before .before .before .before .before .before .before .before .before .before .before .before in
     let q = free-right _ _ _ (sym (c .before .before .before .before .before .before .find .ensures) ∙ c .before .before .before .before .place .given .1) in
-    omega (arith, q .0, c .before .before .before .before .before .before .before .before .before .before .before .before .pre .0)
+    omega (arith, q .0, at-pre .pre .0)
 
 float-from-bits-distances : tie.Need-float-from-bits-distances
 unfolding nanBits
@@ -55,13 +61,15 @@ float-from-bits-distances c =
 
 mul-distances : tie.Need-mul-distances
 mul-distances c =
+    let at-pre = c .before .before .before .before .before .before .before .before .before .before .before .before in
     let q = free-right _ _ _ (sym (c .before .before .before .before .before .before .find .ensures) ∙ c .before .before .before .before .place .given .1) in
-    omega (arith, q .0, c .before .before .before .before .before .before .before .before .before .before .before .before .pre .0)
+    omega (arith, q .0, at-pre .pre .0)
 
 slice-write-distances : tie.Need-slice-write-distances
 slice-write-distances c =
+    let at-pre = c .before .before .before .before .before .before .before .before .before .before .before .before in
     let q = free-right _ _ _ (sym (c .before .before .before .before .before .before .find .ensures) ∙ c .before .before .before .before .place .given .1) in
-    omega (arith, q .0, c .before .before .before .before .before .before .before .before .before .before .before .before .pre .0)
+    omega (arith, q .0, at-pre .pre .0)
 
 push-requires : tie.Need-push-requires
 push-requires c κs = search needs
@@ -84,9 +92,17 @@ same-length-6 c = search needs
 returns-3 : tie.Need-returns-3
 unfolding ofBits
 returns-3 c =
-    let a = c .before .before .before .before .before .before .before .before .before .before .before .before .before .before .before .before .before .before .before .args in
+    let at-if2 = c .before .before .before .before .before .before .before .before in
+    let at-if1 = at-if2 .before in
+    let at-place = at-if1 .before .before in
+    let at-find = at-place .before .before in
+    let a = c .before .before .before .before .before .before .before .before .before .before .before .before .before
+    .before .before .before .before .before .before .args in
     λ s h.
-    wait-placed (a .estimate) (a .key) s (a .waiting) (a .keys .now) (a .distances .now) (a .estimates .now) (a .cells .now) h _ (sym (c .before .before .before .before .before .before .before .before .before .before .before .before .before .find .ensures) ∙ c .before .before .before .before .before .before .before .before .before .before .before .place .given .1) (c .before .before .before .before .before .before .before .before .before .if1 .left) (c .before .before .before .before .before .before .before .if3 .left) (c .before .before .before .before .before .before .before .before .if2 .taken) _ _ (c .before .before .before .before .push .ensures)
+    wait-placed (a .estimate) (a .key) s (a .waiting) (a .keys .now) (a .distances .now) (a .estimates .now)
+    (a .cells .now) h _ (sym (at-find .find .ensures) ∙ at-place .place .given .1) (at-if1 .if1 .left)
+    (c .before .before .before .before .before .before .before .if3 .left) (at-if2 .if2 .taken) _ _
+    (c .before .before .before .before .push .ensures)
 
 same-length-7 : tie.Need-same-length-7
 same-length-7 c = search needs
@@ -94,7 +110,9 @@ same-length-7 c = search needs
 returns-4 : tie.Need-returns-4
 returns-4 c =
     let a = c .before .before .before .before .before .before .before .before .args in
-    λ s h. wait-marked (a .estimate) (a .key) s (a .waiting) (a .keys .now) (a .distances .now) (a .estimates .now) (a .cells .now) h _ (sym (c .before .before .find .ensures) ∙ c .enum-told .given .1)
+    λ s h.
+    wait-marked (a .estimate) (a .key) s (a .waiting) (a .keys .now) (a .distances .now) (a .estimates .now)
+    (a .cells .now) h _ (sym (c .before .before .find .ensures) ∙ c .enum-told .given .1)
 
 same-length-8 : tie.Need-same-length-8
 same-length-8 c = search needs

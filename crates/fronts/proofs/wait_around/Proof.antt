@@ -13,7 +13,15 @@ use Rattle.fronts.proofs.wait_around.Tie as tie
 
 abbrev Inv-loop : tie.InvT-loop
 Inv-loop keys₀ distances₀ estimates₀ cells₀ waiting estimate key list n held₀ i₀ keys distances estimates cells held i =
-    (list ≡ padded 0 14 (neighbours key)) × (n ≡ length (neighbours key)) × (n ≤ 14) × (i ≤ n) × (length keys ≡ length keys₀) × (length distances ≡ length distances₀) × (length estimates ≡ length estimates₀) × (length cells ≡ length cells₀) × Rest estimate (neighbours key) keys₀ distances₀ waiting estimates₀ cells₀ i keys distances held estimates cells
+    (list ≡ padded 0 14 (neighbours key))
+    × (n ≡ length (neighbours key))
+    × (n ≤ 14)
+    × (i ≤ n)
+    × (length keys ≡ length keys₀)
+    × (length distances ≡ length distances₀)
+    × (length estimates ≡ length estimates₀)
+    × (length cells ≡ length cells₀)
+    × Rest estimate (neighbours key) keys₀ distances₀ waiting estimates₀ cells₀ i keys distances held estimates cells
 
 abbrev μ-loop : tie.MeasureT-loop
 μ-loop keys₀ distances₀ estimates₀ cells₀ waiting estimate key list n held₀ i₀ keys distances estimates cells held i =
@@ -25,8 +33,18 @@ around-requires c κs = search needs
 loop-holds : tie.Need-loop-holds Inv-loop μ-loop
 loop-holds c =
     let a = c .before .before .before .before .before .before .args in
-    let f = near-list (a .key) _ (c .before .around .ensures) in
-    (f .0, f .1, f .2, search needs, refl, refl, refl, refl, rest-all (a .estimate) (neighbours (a .key)) _ (f .0) (a .keys .now) (a .distances .now) (a .waiting) (a .estimates .now) (a .cells .now))
+    let f = near-list (a .key) _ (c .before .around .ensures) in (
+      f .0,
+      f .1,
+      f .2,
+      search needs,
+      refl,
+      refl,
+      refl,
+      refl,
+      rest-all (a .estimate) (neighbours (a .key)) _ (f .0) (a .keys .now) (a .distances .now) (a .waiting)
+          (a .estimates .now) (a .cells .now),
+    )
 
 mul-wait : tie.Need-mul-wait Inv-loop μ-loop
 mul-wait c = search needs
@@ -57,9 +75,16 @@ same-length-4 c = search needs
 
 returns : tie.Need-returns Inv-loop μ-loop
 returns c =
+    let at-wait = c .before .before .before .before .before .before .before .before .before .before .before in
+    let at-loop-test = at-wait .before .before .before .before .before in
     let l = c .before .before .before .before .before .before .before .before .before .before .before .before .before .before .before .before .before in
-    let a = c .before .before .before .before .before .before .before .before .before .before .before .before .before .before .before .before .before .before .before .before .before .before .before .before .args in
-    rest-stop (a .estimate) (neighbours (a .key)) _ (l .loop .inv .0) (a .keys .now) (a .distances .now) (a .waiting) (a .estimates .now) (a .cells .now) (l .loop .i) (l .loop .keys) (l .loop .distances) (l .loop .held) (l .loop .estimates) (l .loop .cells) (l .loop .inv .8) (l .loop .inv .7) (lt-of-lt-of-eq _ _ _ (c .before .before .before .before .before .before .before .before .before .before .before .before .before .before .before .before .loop-test .taken) (l .loop .inv .1)) _ _ _ _ _ (c .before .before .before .before .before .before .before .before .before .before .before .wait .ensures) _ (c .before .why .given .1)
+    let a = c .before .before .before .before .before .before .before .before .before .before .before .before .before
+    .before .before .before .before .before .before .before .before .before .before .before .args in
+    rest-stop (a .estimate) (neighbours (a .key)) _ (l .loop .inv .0) (a .keys .now) (a .distances .now) (a .waiting)
+    (a .estimates .now) (a .cells .now) (l .loop .i) (l .loop .keys) (l .loop .distances) (l .loop .held)
+    (l .loop .estimates) (l .loop .cells) (l .loop .inv .8) (l .loop .inv .7)
+    (lt-of-lt-of-eq _ _ _ (at-loop-test .loop-test .taken) (l .loop .inv .1)) _ _ _ _ _ (at-wait .wait .ensures) _
+    (c .before .why .given .1)
 
 enum-known-more : tie.Need-enum-known-more Inv-loop μ-loop
 enum-known-more c = search needs
@@ -72,19 +97,27 @@ loop-less c = search needs
 
 loop-again : tie.Need-loop-again Inv-loop μ-loop
 loop-again c =
+    let at-wait = c .before .before .before .before .before .before .before .before .before .before .before in
+    let at-loop-test = at-wait .before .before .before .before .before in
     let l = c .before .before .before .before .before .before .before .before .before .before .before .before .before .before .before .before .before in
-    let i = c .before .before .before .before .before .before .before .before .before .before .before .before .before .before .before .before .before .loop .inv in
+    let i = c .before .before .before .before .before .before .before .before .before .before .before .before .before
+    .before .before .before .before .loop .inv in
     let k = c .before .before .before .before .before .before .before .before .before .before .before .wait .kept in
-    let a = c .before .before .before .before .before .before .before .before .before .before .before .before .before .before .before .before .before .before .before .before .before .before .before .before .args in (
+    let a = c .before .before .before .before .before .before .before .before .before .before .before .before .before
+    .before .before .before .before .before .before .before .before .before .before .before .args in (
       i .0,
       i .1,
       i .2,
-      omega (arith, c .before .before .before .before .before .before .before .before .before .before .before .before .before .before .before .before .loop-test .taken),
+      omega (arith, at-loop-test .loop-test .taken),
       k .0 ∙ i .4,
       k .1 .0 ∙ i .5,
       k .1 .1 .0 ∙ i .6,
       k .1 .1 .1 .0 ∙ i .7,
-      rest-more (a .estimate) (neighbours (a .key)) _ (l .loop .inv .0) (a .keys .now) (a .distances .now) (a .waiting) (a .estimates .now) (a .cells .now) (l .loop .i) (l .loop .keys) (l .loop .distances) (l .loop .held) (l .loop .estimates) (l .loop .cells) (l .loop .inv .8) (i .7) (lt-of-lt-of-eq _ _ _ (c .before .before .before .before .before .before .before .before .before .before .before .before .before .before .before .before .loop-test .taken) (i .1)) _ _ _ _ _ (c .before .before .before .before .before .before .before .before .before .before .before .wait .ensures) _ (c .before .more .given .1),
+      rest-more (a .estimate) (neighbours (a .key)) _ (l .loop .inv .0) (a .keys .now) (a .distances .now) (a .waiting)
+          (a .estimates .now) (a .cells .now) (l .loop .i) (l .loop .keys) (l .loop .distances) (l .loop .held)
+          (l .loop .estimates) (l .loop .cells) (l .loop .inv .8) (i .7)
+          (lt-of-lt-of-eq _ _ _ (at-loop-test .loop-test .taken) (i .1)) _ _ _ _ _ (at-wait .wait .ensures) _
+          (c .before .more .given .1),
     )
 
 same-length-5 : tie.Need-same-length-5 Inv-loop μ-loop
@@ -103,7 +136,9 @@ returns-2 : tie.Need-returns-2 Inv-loop μ-loop
 returns-2 c =
     let l = c .before in
     let a = c .before .before .before .before .before .before .before .before .args in
-    rest-none (a .estimate) (neighbours (a .key)) _ (l .loop .inv .0) (a .keys .now) (a .distances .now) (a .waiting) (a .estimates .now) (a .cells .now) (l .loop .i) (l .loop .keys) (l .loop .distances) (l .loop .held) (l .loop .estimates) (l .loop .cells) (l .loop .inv .8) (omega (arith, l .loop .inv .1, c .loop-test .left))
+    rest-none (a .estimate) (neighbours (a .key)) _ (l .loop .inv .0) (a .keys .now) (a .distances .now) (a .waiting)
+    (a .estimates .now) (a .cells .now) (l .loop .i) (l .loop .keys) (l .loop .distances) (l .loop .held)
+    (l .loop .estimates) (l .loop .cells) (l .loop .inv .8) (omega (arith, l .loop .inv .1, c .loop-test .left))
 
 pub wait-around-spec : {M : Type 1} → statement M
 wait-around-spec =

@@ -18,7 +18,8 @@ within-requires c κs = search needs
 returns-2 : tie.Need-returns-2
 returns-2 c =
     let at-start = c .before .before .before .before .before .before .before .before in
-    too-large-new _ _ _ _ _ _ _ (at-start .pre .1 .1) (c .before .before .before .if1 .left) _ (c .before .before .fused-voxel .ensures) (no (c .before .within .ensures) (c .if2 .taken))
+    too-large-new _ _ _ _ _ _ _ (at-start .pre .1 .1) (c .before .before .before .if1 .left) _
+    (c .before .before .fused-voxel .ensures) (no (c .before .within .ensures) (c .if2 .taken))
 
 place-of-requires : tie.Need-place-of-requires
 place-of-requires c κs = search needs
@@ -51,7 +52,9 @@ returns-3 c =
     let placed = c .before .before .before .before .before .before .before .before .before .before .before .before in
     let fit = placed .before .before in
     let s = fit .before .before .before .before .before .before .before .before in
-    added _ _ _ _ _ _ _ (s .pre .1 .1) (fit .before .before .before .if1 .left) _ (fit .before .before .fused-voxel .ensures) (yes (fit .before .within .ensures) (fit .if2 .left)) (s .pre .0) (s .pre .1 .0)
+    added _ _ _ _ _ _ _ (s .pre .1 .1) (fit .before .before .before .if1 .left) _
+    (fit .before .before .fused-voxel .ensures) (yes (fit .before .within .ensures) (fit .if2 .left)) (s .pre .0)
+    (s .pre .1 .0)
     _ (placed .place-of .ensures) _ _ _ (at-insert-u64 .insert-u64 .ensures) (at-insert-f32 .insert-f32 .ensures) (c .before .before .insert-f322 .ensures)
 
 pub add-row-spec : {M : Type 1} → statement M

@@ -17,7 +17,9 @@ use Rattle.fusing.proofs.fuse_near.Tie as tie
 -- what the search told, where it found the key
 told :
     (c : tie.After-i)
-    → find (c .before .before .before .before .before .before .before .before .args .key) (take (c .before .before .before .before .before .before .before .before .args .count .now) (c .before .before .before .before .before .before .before .before .args .keys .now)) ≡ At (c .i .given .0 .0)
+    → find (c .before .before .before .before .before .before .before .before .args .key)
+    (take (c .before .before .before .before .before .before .before .before .args .count .now)
+    (c .before .before .before .before .before .before .before .before .args .keys .now)) ≡ At (c .i .given .0 .0)
 told c =
     let at-start = c .before .before .before .before .before .before .before .before in
     sym (findBy-find _ _ (at-start .pre .1)) ∙ sym (c .before .before .find-row .ensures) ∙ c .i .given .1
@@ -117,7 +119,8 @@ returns-3 : tie.Need-returns-3
 returns-3 c =
     let at-place = c .before .before .before .before .before .before in
     let s = c .before .before .before .before .before .before .before .before .before .before .before .before .before .before in
-    changed _ _ _ _ _ _ _ _ (told (at-place)) _ (c .before .before .fused-voxel .ensures) (yes (c .before .within .ensures) (c .if1 .left)) (s .pre .0) (s .pre .1)
+    changed _ _ _ _ _ _ _ _ (told (at-place)) _ (c .before .before .fused-voxel .ensures)
+    (yes (c .before .within .ensures) (c .if1 .left)) (s .pre .0) (s .pre .1)
 
 pub fuse-near-spec : {M : Type 1} → statement M
 fuse-near-spec =

@@ -37,12 +37,22 @@ shared-slice-read-if4 c = search needs
 returns-3 : tie.Need-returns-3
 unfolding turnOf
 returns-3 c =
-    rw (lt-ltb _ _ (c .before .before .before .before .before .before .if1 .taken), le-ltb _ _ (c .before .before .before .before .if2 .left), yes (c .before .before .before .between .ensures) (c .before .before .if3 .left), eq-eqb _ _ (c .if4 .taken))
+    rw (
+      lt-ltb _ _ (c .before .before .before .before .before .before .if1 .taken),
+      le-ltb _ _ (c .before .before .before .before .if2 .left),
+      yes (c .before .before .before .between .ensures) (c .before .before .if3 .left),
+      eq-eqb _ _ (c .if4 .taken),
+    )
 
 returns-4 : tie.Need-returns-4
 unfolding turnOf
 returns-4 c =
-    rw (lt-ltb _ _ (c .before .before .before .before .before .before .if1 .taken), le-ltb _ _ (c .before .before .before .before .if2 .left), yes (c .before .before .before .between .ensures) (c .before .before .if3 .left), ne-eqb _ _ (c .if4 .left))
+    rw (
+      lt-ltb _ _ (c .before .before .before .before .before .before .if1 .taken),
+      le-ltb _ _ (c .before .before .before .before .if2 .left),
+      yes (c .before .before .before .between .ensures) (c .before .before .if3 .left),
+      ne-eqb _ _ (c .if4 .left),
+    )
 
 between-requires-2 : tie.Need-between-requires-2
 between-requires-2 c κs = search needs

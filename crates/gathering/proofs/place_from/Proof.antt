@@ -30,7 +30,8 @@ shared-slice-read-if1 c = search needs
 returns : tie.Need-returns Inv-loop μ-loop
 returns c =
     let s = c .before .before .before .before .before .before in
-    stops (s .args .key) (s .args .keys .now) (s .args .count) (s .pre .0) (s .pre .1) _ (c .before .before .loop-test .taken) (c .if1 .taken) (c .before .before .before .loop .inv)
+    stops (s .args .key) (s .args .keys .now) (s .args .count) (s .pre .0) (s .pre .1) _
+    (c .before .before .loop-test .taken) (c .if1 .taken) (c .before .before .before .loop .inv)
 
 add-place : tie.Need-add-place Inv-loop μ-loop
 add-place c = search needs
@@ -41,7 +42,11 @@ loop-less c = search needs
 loop-again : tie.Need-loop-again Inv-loop μ-loop
 loop-again c =
     let s = c .before .before .before .before .before .before in
-    omega (arith, goes (s .args .key) (s .args .keys .now) (s .args .count) (s .pre .0) (s .pre .1) (c .before .before .before .loop .place) (c .before .before .loop-test .taken) (omega (arith, c .if1 .left)))
+    omega (
+      arith,
+      goes (s .args .key) (s .args .keys .now) (s .args .count) (s .pre .0) (s .pre .1)
+          (c .before .before .before .loop .place) (c .before .before .loop-test .taken) (omega (arith, c .if1 .left)),
+    )
 
 returns-2 : tie.Need-returns-2 Inv-loop μ-loop
 returns-2 c =

@@ -12,7 +12,11 @@ use borrow.Author.Needs.{needs}
 use Rattle.gathering.proofs.values_at.Statement.{statement}
 use Rattle.gathering.proofs.values_at.Tie as tie
 
-fit : (s : tie.Start) → (s .args .count ≤ length (s .args .keys .now)) × (length (s .args .distances .now) ≡ length (s .args .keys .now)) × (length (s .args .weights .now) ≡ length (s .args .keys .now)) × (length (s .args .keys .now) ≤ 65536)
+fit : (s : tie.Start)
+    → (s .args .count ≤ length (s .args .keys .now))
+    × (length (s .args .distances .now) ≡ length (s .args .keys .now))
+    × (length (s .args .weights .now) ≡ length (s .args .keys .now))
+    × (length (s .args .keys .now) ≤ 65536)
 fit s = lengths-known (length (s .args .keys .now)) (length (s .args .distances .now)) (length (s .args .weights .now)) (s .args .count) (s .pre .0)
 
 float-from-bits-t8 : tie.Need-float-from-bits-t8
@@ -35,7 +39,8 @@ returns-2 : tie.Need-returns-2
 unfolding valuesAt ofBits
 returns-2 c =
     let s = c .before .before .before in
-    rw (← found-other (s .args .key) (s .args .keys .now) (s .args .count) (fit s .0) (s .pre .1 .0) (s .args .place) (s .pre .1 .1) (c .before .before .if1 .left) (c .if2 .taken))
+    rw (← found-other (s .args .key) (s .args .keys .now) (s .args .count) (fit s .0) (s .pre .1 .0) (s .args .place)
+    (s .pre .1 .1) (c .before .before .if1 .left) (c .if2 .taken))
 
 mul-t10 : tie.Need-mul-t10
 mul-t10 c = omega (arith, fit (c .before .before .before))
@@ -53,7 +58,8 @@ returns-3 : tie.Need-returns-3
 unfolding valuesAt
 returns-3 c =
     let s = c .before .before .before .before .before in
-    rw (← found-at (s .args .key) (s .args .keys .now) (s .args .count) (fit s .0) (s .pre .1 .0) (s .args .place) (s .pre .1 .1) (c .before .before .before .before .if1 .left) (c .before .before .if2 .left))
+    rw (← found-at (s .args .key) (s .args .keys .now) (s .args .count) (fit s .0) (s .pre .1 .0) (s .args .place)
+    (s .pre .1 .1) (c .before .before .before .before .if1 .left) (c .before .before .if2 .left))
 
 pub values-at-spec : {M : Type 1} → statement M
 values-at-spec =

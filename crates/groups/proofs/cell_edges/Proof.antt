@@ -17,8 +17,11 @@ cell-span-requires c κs = search needs
 known : (c : tie.After-cell-span) →
     let a = c .before .before .before .before .args in
     (c .cell-span .result .start ≤ c .cell-span .result .end) × (c .cell-span .result .end ≤ length (a .groups .now))
-    × (take (c .cell-span .result .end - c .cell-span .result .start) (drop (c .cell-span .result .start) (a .groups .now)) ≡ cellEdges (a .groups .now) (a .first .now) (a .second .now) (a .count) (a .cell))
-known c = let a = c .before .before .before .before .args in rw (c .cell-span .ensures) (cell-of (a .groups .now) (a .first .now) (a .second .now) (a .count) (a .cell))
+    × (take (c .cell-span .result .end - c .cell-span .result .start)
+    (drop (c .cell-span .result .start) (a .groups .now))
+    ≡ cellEdges (a .groups .now) (a .first .now) (a .second .now) (a .count) (a .cell))
+known c = let a = c .before .before .before .before .args in
+    rw (c .cell-span .ensures) (cell-of (a .groups .now) (a .first .now) (a .second .now) (a .count) (a .cell))
 
 mul-result : tie.Need-mul-result
 mul-result c = let k = known c in omega arith

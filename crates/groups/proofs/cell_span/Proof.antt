@@ -23,11 +23,17 @@ is-on-lattice-requires c κs = search needs
 
 returns-2 : tie.Need-returns-2
 unfolding cellSpan
-returns-2 c = rw (yes (c .before .before .before .edge-lists-ok .ensures) (c .before .before .if1 .left), no (c .before .is-on-lattice .ensures) (c .if2 .taken))
+returns-2 c =
+    rw (
+      yes (c .before .before .before .edge-lists-ok .ensures) (c .before .before .if1 .left),
+      no (c .before .is-on-lattice .ensures) (c .if2 .taken),
+    )
 
 -- the lengths that passed
 known : (c : tie.Else2) → let a = c .before .before .before .before .before .before .args in Pairs (a .first .now) (a .second .now) (a .count)
-known c = let a = c .before .before .before .before .before .before .args in lists-known (a .groups) (a .first .now) (a .second .now) (a .count) (yes (c .before .before .before .edge-lists-ok .ensures) (c .before .before .if1 .left))
+known c = let a = c .before .before .before .before .before .before .args in
+    lists-known (a .groups) (a .first .now) (a .second .now) (a .count)
+    (yes (c .before .before .before .edge-lists-ok .ensures) (c .before .before .if1 .left))
 
 count-ends-requires : tie.Need-count-ends-requires
 count-ends-requires c κs = known c
@@ -43,7 +49,9 @@ unfolding cellSpan
 returns-3 c =
     let e = c .before .before in
     rw (yes (e .before .before .before .edge-lists-ok .ensures) (e .before .before .if1 .left), yes (e .before .is-on-lattice .ensures) (e .if2 .left))
-    (c .span-in .ensures ∙ ap (λ (x : Ends). spanIn (x .below) (x .here) (e .before .before .before .before .before .before .args .groups)) (c .before .count-ends .ensures))
+    (c .span-in .ensures
+    ∙ ap (λ (x : Ends). spanIn (x .below) (x .here) (e .before .before .before .before .before .before .args .groups))
+    (c .before .count-ends .ensures))
 
 pub cell-span-spec : {M : Type 1} → statement M
 cell-span-spec =

@@ -34,8 +34,12 @@ returns c =
     let l = c .before .before .before in
     let s = l .before in
     let a = s .args in
-    let t = c .before .before .loop-test .taken in
-    (number-gone (a .first .now) (a .second .now) (a .count) (a .a) (a .b) (s .pre .0 .equal) (s .pre .0 .fits) (l .loop .i) t (c .if1 .taken) ∙ sym (l .loop .inv), tt)
+    let t = c .before .before .loop-test .taken in (
+      number-gone (a .first .now) (a .second .now) (a .count) (a .a) (a .b) (s .pre .0 .equal) (s .pre .0 .fits)
+          (l .loop .i) t (c .if1 .taken)
+          ∙ sym (l .loop .inv),
+      tt,
+    )
 
 mul-if2 : tie.Need-mul-if2 Inv-loop μ-loop
 mul-if2 c = search needs
@@ -48,8 +52,12 @@ returns-2 c =
     let l = c .before .before .before .before .before in
     let s = l .before in
     let a = s .args in
-    let t = c .before .before .before .before .loop-test .taken in
-    (number-here (a .first .now) (a .second .now) (a .count) (a .a) (a .b) (s .pre .0 .equal) (s .pre .0 .fits) (l .loop .i) t (c .before .before .if1 .left) (c .if2 .taken) ∙ sym (l .loop .inv), t)
+    let t = c .before .before .before .before .loop-test .taken in (
+      number-here (a .first .now) (a .second .now) (a .count) (a .a) (a .b) (s .pre .0 .equal) (s .pre .0 .fits)
+          (l .loop .i) t (c .before .before .if1 .left) (c .if2 .taken)
+          ∙ sym (l .loop .inv),
+      t,
+    )
 
 add-i : tie.Need-add-i Inv-loop μ-loop
 add-i c = search needs
@@ -63,7 +71,9 @@ loop-again c =
     let s = l .before in
     let a = s .args in
     let t = c .before .before .before .before .loop-test .taken in
-    l .loop .inv ∙ number-next (a .first .now) (a .second .now) (a .count) (a .a) (a .b) (s .pre .0 .equal) (s .pre .0 .fits) (l .loop .i) t (c .before .before .if1 .left) (c .if2 .left)
+    l .loop .inv
+    ∙ number-next (a .first .now) (a .second .now) (a .count) (a .a) (a .b) (s .pre .0 .equal) (s .pre .0 .fits)
+    (l .loop .i) t (c .before .before .if1 .left) (c .if2 .left)
 
 returns-3 : tie.Need-returns-3 Inv-loop μ-loop
 returns-3 c =

@@ -31,7 +31,8 @@ gather-requires : tie.Need-gather-requires
 gather-requires c κs =
     let s = c .before .before .before .before .before .before in
     let e = c .before .around .ensures in (
-      pairs-known (s .args .first .now) (s .args .second .now) (s .args .count) (yes (c .before .before .before .pairs-ok .ensures) (c .before .before .if1 .left)),
+      pairs-known (s .args .first .now) (s .args .second .now) (s .args .count)
+          (yes (c .before .before .before .pairs-ok .ensures) (c .before .before .if1 .left)),
       rw e (at-most-14 (s .args .cell)),
       rw e (padded-length 0 14 (neighbours (s .args .cell)) (at-most-14 (s .args .cell))),
     )

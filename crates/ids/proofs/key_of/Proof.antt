@@ -23,7 +23,8 @@ add-key : tie.Need-add-key
 add-key c = let a = c .before .before .before .args in omega (arith, c .morton-encode .ensures, morton-small 16 (a .x) (a .y) (a .z))
 
 returns-3 : tie.Need-returns-3
-returns-3 c = let a = c .before .before .before .args in rw (on-xyz (a .x) (a .y) (a .z) (c .before .before .if1 .left) (c .before .if2 .left), c .morton-encode .ensures)
+returns-3 c = let a = c .before .before .before .args in
+    rw (on-xyz (a .x) (a .y) (a .z) (c .before .before .if1 .left) (c .before .if2 .left), c .morton-encode .ensures)
 
 pub key-of-spec : {M : Type 1} → statement M
 key-of-spec = tie.close (tie.spec returns returns-2 mul-key morton-encode-requires add-key returns-3)

@@ -28,7 +28,10 @@ same-length-4 : tie.Need-same-length-4
 same-length-4 c = search needs
 
 returns : tie.Need-returns
-returns c = line-moved _ _ _ _ _ _ (c .before .before .before .before .before .before .before .before .before .before .before .before .before .before .before .before .before .before .before .before .before .before .before .args .run .number) _ (c .before .before .before .before .before .before .before .before .before .before .take-line .ensures) (c .before .next-number .ensures)
+returns c =
+    let at-take-line = c .before .before .before .before .before .before .before .before .before .before in
+    let at-args = at-take-line .before .before .before .before .before .before .before .before .before .before .before .before .before in
+    line-moved _ _ _ _ _ _ (at-args .args .run .number) _ (at-take-line .take-line .ensures) (c .before .next-number .ensures)
 
 pub end-line-spec : {M : Type 1} → statement M
 end-line-spec =

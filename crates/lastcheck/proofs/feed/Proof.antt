@@ -1,4 +1,5 @@
--- `lastcheck::feed` meets its contract. The loop's invariant: the bytes before `i` are taken in turn, or the run ended where it could not write. Assumes nothing.
+-- `lastcheck::feed` meets its contract. The loop's invariant: the bytes before `i` are taken in turn, or the run ended
+-- where it could not write. Assumes nothing.
 use Prim.Native.Nat.{_≤_, _-_}
 use native.Mathlib.Omega.{arith}
 use mathlib.Core.Path.{_≡_, refl, _∙_}
@@ -39,22 +40,44 @@ take-byte-requires c κs = search needs
 
 written-requires : tie.Need-written-requires Inv-loop μ-loop
 written-requires c κs =
+    let at-pre = c .before .before .before .before .before .before .before .before .before .before .before .before
+    .before .before .before .before .before .before .before .before .before .before .before .before .before
+    .before .before in
     let b = c .before .before .before .before .before .before .before .before .before .before .before in
-    let l = c .before .before .before .before .before .before .before .before .before .before .before .before .before .before .before .before .before .before .before .before in
-    fits-out _ _ _ _ (b .take-byte .ensures .short) (b .take-byte .kept .1 .1 .1 .1 .1 .1 .1 .0) (l .loop .inv .5) (c .before .before .before .before .before .before .before .before .before .before .before .before .before .before .before .before .before .before .before .before .before .before .before .before .before .before .before .pre .1)
+    let l = c .before .before .before .before .before .before .before .before .before .before .before .before .before
+    .before .before .before .before .before .before .before in
+    fits-out _ _ _ _ (b .take-byte .ensures .short) (b .take-byte .kept .1 .1 .1 .1 .1 .1 .1 .0) (l .loop .inv .5) (at-pre .pre .1)
 
 add-i : tie.Need-add-i Inv-loop μ-loop
-add-i c = omega (arith, c .before .before .before .before .before .before .before .before .before .before .before .before .before .before .before .before .before .before .before .before, c .before .before .before .before .before .before .before .before .before .before .before .before .before .before .before .before .before .before .before .before .before .before .before .before .before .before .before .before .good .1 .0)
+add-i c =
+    let at-good = c .before .before .before .before .before .before .before .before .before .before .before .before
+    .before .before .before .before .before .before .before .before .before .before .before .before .before
+    .before .before .before in
+    omega (
+      arith,
+      c .before .before .before .before .before .before .before .before .before .before .before .before .before
+          .before .before .before .before .before .before .before,
+      at-good .good .1 .0,
+    )
 
 loop-less : tie.Need-loop-less Inv-loop μ-loop
-loop-less c = omega (arith, c .before .before .before .before .before .before .before .before .before .before .before .before .before .before .before .before .before .before .before .before)
+loop-less c =
+    omega (
+      arith,
+      c .before .before .before .before .before .before .before .before .before .before .before .before .before .before
+          .before .before .before .before .before .before,
+    )
 
 loop-again : tie.Need-loop-again Inv-loop μ-loop
 loop-again c =
     let b = c .before .before .before .before .before .before .before .before .before .before .before .before in
-    let t = c .before .before .before .before .before .before .before .before .before .before .before .before .before .before .before .before .before .before .before .before in
-    let l = c .before .before .before .before .before .before .before .before .before .before .before .before .before .before .before .before .before .before .before .before .before in
-    let a = c .before .before .before .before .before .before .before .before .before .before .before .before .before .before .before .before .before .before .before .before .before .before .before .before .before .before .before .before .args in
+    let t = c .before .before .before .before .before .before .before .before .before .before .before .before .before
+    .before .before .before .before .before .before .before in
+    let l = c .before .before .before .before .before .before .before .before .before .before .before .before .before
+    .before .before .before .before .before .before .before .before in
+    let a = c .before .before .before .before .before .before .before .before .before .before .before .before .before
+    .before .before .before .before .before .before .before .before .before .before .before .before .before
+    .before .before .args in
     let w = l .loop in (
       omega (arith, t),
       b .take-byte .kept .1 .1 .0 ∙ w .inv .1,
@@ -63,7 +86,12 @@ loop-again c =
       b .take-byte .kept .1 .1 .1 .1 .1 .0 ∙ w .inv .4,
       b .take-byte .kept .1 .1 .1 .1 .1 .1 .1 .0 ∙ w .inv .5,
       kept-fits _ _ _ _ (written-kept _ _ (c .written .ensures)) (b .take-byte .ensures .within) (b .take-byte .kept .1 .1 .0),
-      fed-more (length (a .line .now)) (stateOf (a .begin) (a .line .now) (table (a .keys .now) (a .distances .now) (a .weights .now) (a .count .now))) (a .bytes .now) (w .i) (length (w .line)) (stateOf (w .run) (w .line) (table (w .keys) (w .distances) (w .weights) (w .count))) _ _ (t .loop-test .taken) (w .inv .1) (w .inv .7) (b .take-byte .ensures .next) (written-state (b .take-byte .result) _ _ _ (c .written .ensures)),
+      fed-more (length (a .line .now))
+          (stateOf (a .begin) (a .line .now) (table (a .keys .now) (a .distances .now) (a .weights .now) (a .count .now)))
+          (a .bytes .now) (w .i) (length (w .line))
+          (stateOf (w .run) (w .line) (table (w .keys) (w .distances) (w .weights) (w .count))) _ _ (t .loop-test .taken)
+          (w .inv .1) (w .inv .7) (b .take-byte .ensures .next)
+          (written-state (b .take-byte .result) _ _ _ (c .written .ensures)),
     )
 
 same-length : tie.Need-same-length Inv-loop μ-loop
@@ -84,8 +112,12 @@ same-length-5 c = search needs
 returns : tie.Need-returns Inv-loop μ-loop
 returns c =
     let w = c .before .loop in
-    let a = c .before .before .before .before .before .before .before .before .args in
-    (omega (arith, w .inv .1, w .inv .6), fed-all (length (a .line .now)) (stateOf (a .begin) (a .line .now) (table (a .keys .now) (a .distances .now) (a .weights .now) (a .count .now))) (a .bytes .now) (w .i) _ (c .loop-test .left) (w .inv .7))
+    let a = c .before .before .before .before .before .before .before .before .args in (
+      omega (arith, w .inv .1, w .inv .6),
+      fed-all (length (a .line .now))
+          (stateOf (a .begin) (a .line .now) (table (a .keys .now) (a .distances .now) (a .weights .now) (a .count .now)))
+          (a .bytes .now) (w .i) _ (c .loop-test .left) (w .inv .7),
+    )
 
 pub feed-spec : {M : Type 1} → statement M
 feed-spec =

@@ -28,13 +28,22 @@ same-length-4 c = search needs
 
 returns-2 : tie.Need-returns-2
 returns-2 c =
-    let a = c .before .before .before .before .before .before .before .before .before .before .before .before .before .before .before .before .before .before .before .before .before .before .before .args in
-    line-left (a .run) (a .line .now) (table (a .keys .now) (a .distances .now) (a .weights .now) (a .count .now)) _ _ _ _ (not-false (a .run .going) (c .before .before .before .before .before .before .before .before .before .before .before .before .before .before .before .before .if1 .left)) (c .before .before .before .before .before .before .before .before .before .before .before .before .before .before .if2 .taken) (c .before .before .before .before .before .before .before .before .before .before .before .before .before .before .before .before .before .before .before .before .before .before .before .pre) (c .before .before .before .before .before .before .before .before .end-line .ensures)
+    let at-end-line = c .before .before .before .before .before .before .before .before in
+    let at-if2 = at-end-line .before .before .before .before .before .before in
+    let at-if1 = at-if2 .before .before in
+    let at-pre = at-if1 .before .before .before .before .before .before .before in
+    let a = c .before .before .before .before .before .before .before .before .before .before .before .before .before
+    .before .before .before .before .before .before .before .before .before .before .args in
+    line-left (a .run) (a .line .now) (table (a .keys .now) (a .distances .now) (a .weights .now) (a .count .now)) _ _ _
+    _ (not-false (a .run .going) (at-if1 .if1 .left)) (at-if2 .if2 .taken) (at-pre .pre)
+    (at-end-line .end-line .ensures)
 
 returns-3 : tie.Need-returns-3
 returns-3 c =
+    let at-pre = c .before .before .before .before .before .before .before .before .before in
     let a = c .before .before .before .before .before .before .before .before .before .args in
-    nothing-kept (a .run) (a .line .now) (table (a .keys .now) (a .distances .now) (a .weights .now) (a .count .now)) _ (not-false (a .run .going) (c .before .before .if1 .left)) (c .if2 .left) (c .before .before .before .before .before .before .before .before .before .pre)
+    nothing-kept (a .run) (a .line .now) (table (a .keys .now) (a .distances .now) (a .weights .now) (a .count .now)) _
+    (not-false (a .run .going) (c .before .before .if1 .left)) (c .if2 .left) (at-pre .pre)
 
 pub finish-spec : {M : Type 1} → statement M
 finish-spec =

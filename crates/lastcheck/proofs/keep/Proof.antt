@@ -23,7 +23,12 @@ returns c = ((λ t. rw (kept-more _ _ _ (c .if1 .taken))), (omega arith, refl))
 
 returns-2 : tie.Need-returns-2
 returns-2 c =
-    rw (c .silent .ensures) ((λ t. rw (← kept-full _ _ (c .before .before .before .before .args .byte) (c .before .before .before .before .pre) (c .before .if1 .left))), (c .before .before .before .before .pre, refl))
+    rw (c .silent .ensures) (
+      (λ t.
+          rw (← kept-full _ _ (c .before .before .before .before .args .byte) (c .before .before .before .before .pre)
+          (c .before .if1 .left))),
+      (c .before .before .before .before .pre, refl),
+    )
 
 pub keep-spec : {M : Type 1} → statement M
 keep-spec =

@@ -11,8 +11,11 @@ silent-requires c κs = search needs
 
 returns : tie.Need-returns
 returns c =
+    let at-pre = c .before .before .before .before .before .before .before .before in
     let a = c .before .before .before .before .before .before .before .before .args in
-    byte-none (a .run) (a .byte) (a .line .now) (table (a .keys .now) (a .distances .now) (a .weights .now) (a .count .now)) (c .before .before .before .before .before .before .before .before .pre) _ _ (not-true (a .run .going) (c .before .if1 .taken)) (c .silent .ensures)
+    byte-none (a .run) (a .byte) (a .line .now)
+    (table (a .keys .now) (a .distances .now) (a .weights .now) (a .count .now)) (at-pre .pre) _ _
+    (not-true (a .run .going) (c .before .if1 .taken)) (c .silent .ensures)
 
 end-line-requires : tie.Need-end-line-requires
 end-line-requires c κs = search needs
@@ -37,16 +40,28 @@ same-length-5 c = search needs
 
 returns-2 : tie.Need-returns-2
 returns-2 c =
-    let a = c .before .before .before .before .before .before .before .before .before .before .before .before .before .before .before .before .before .before .before .before .before .before .before .args in
-    byte-newline (a .run) (a .byte) (a .line .now) (table (a .keys .now) (a .distances .now) (a .weights .now) (a .count .now)) (c .before .before .before .before .before .before .before .before .before .before .before .before .before .before .before .before .before .before .before .before .before .before .before .pre) (not-false (a .run .going) (c .before .before .before .before .before .before .before .before .before .before .before .before .before .before .before .before .if1 .left)) _ _ _ _ (c .before .before .before .before .before .before .before .before .before .before .before .before .before .before .before .if2 .taken) (c .before .before .before .before .before .before .before .before .end-line .ensures)
+    let at-end-line = c .before .before .before .before .before .before .before .before in
+    let at-if2 = at-end-line .before .before .before .before .before .before .before in
+    let at-if1 = at-if2 .before in
+    let at-pre = at-if1 .before .before .before .before .before .before .before in
+    let a = c .before .before .before .before .before .before .before .before .before .before .before .before .before
+    .before .before .before .before .before .before .before .before .before .before .args in
+    byte-newline (a .run) (a .byte) (a .line .now)
+    (table (a .keys .now) (a .distances .now) (a .weights .now) (a .count .now)) (at-pre .pre)
+    (not-false (a .run .going) (at-if1 .if1 .left)) _ _ _ _ (at-if2 .if2 .taken) (at-end-line .end-line .ensures)
 
 same-length-6 : tie.Need-same-length-6
 same-length-6 c = search needs
 
 returns-3 : tie.Need-returns-3
 returns-3 c =
+    let at-pre = c .before .before .before .before .before .before .before .before .before .before .before .before in
     let a = c .before .before .before .before .before .before .before .before .before .before .before .before .args in
-    byte-kept (a .run) (a .byte) (a .line .now) (table (a .keys .now) (a .distances .now) (a .weights .now) (a .count .now)) (c .before .before .before .before .before .before .before .before .before .before .before .before .pre) (not-false (a .run .going) (c .before .before .before .before .before .if1 .left)) _ _ _ (c .before .before .before .before .if2 .left) (c .before .before .keep .ensures .0 _) (c .before .before .keep .ensures .1 .0) (c .before .before .keep .ensures .1 .1)
+    byte-kept (a .run) (a .byte) (a .line .now)
+    (table (a .keys .now) (a .distances .now) (a .weights .now) (a .count .now)) (at-pre .pre)
+    (not-false (a .run .going) (c .before .before .before .before .before .if1 .left)) _ _ _
+    (c .before .before .before .before .if2 .left) (c .before .before .keep .ensures .0 _)
+    (c .before .before .keep .ensures .1 .0) (c .before .before .keep .ensures .1 .1)
 
 pub take-byte-spec : {M : Type 1} → statement M
 take-byte-spec =

@@ -14,20 +14,25 @@ counts-line-requires c κs = search needs
 
 vertex-lines-requires : tie.Need-vertex-lines-requires
 vertex-lines-requires c κs =
-    let few = edges-few (c .before .before .before .before .before .before .meshed .given .1) (c .before .before .before .before .before .before .before .before .before .before .before .before .pre .0) in
+    let at-pre = c .before .before .before .before .before .before .before .before .before .before .before .before in
+    let few = edges-few (c .before .before .before .before .before .before .meshed .given .1) (at-pre .pre .0) in
     let fit = counts-fit _ _ _ (c .before .before .before .counts-line .ensures .0) in
     let long = c .before .before .before .before .before .before .before .before .before .before .before .before .pre in
     (omega arith, (few, omega arith, omega arith, omega arith))
 
 mul-t22 : tie.Need-mul-t22
 mul-t22 c =
-    let few = edges-few (c .before .before .before .before .before .before .before .before .before .meshed .given .1) (c .before .before .before .before .before .before .before .before .before .before .before .before .before .before .before .pre .0) in
+    let at-meshed = c .before .before .before .before .before .before .before .before .before in
+    let at-pre = at-meshed .before .before .before .before .before .before in
+    let few = edges-few (at-meshed .meshed .given .1) (at-pre .pre .0) in
     let fit = counts-fit _ _ _ (c .before .before .before .before .before .before .counts-line .ensures .0) in
     omega arith
 
 add-t23 : tie.Need-add-t23
 add-t23 c =
-    let few = edges-few (c .before .before .before .before .before .before .before .before .before .meshed .given .1) (c .before .before .before .before .before .before .before .before .before .before .before .before .before .before .before .pre .0) in
+    let at-meshed = c .before .before .before .before .before .before .before .before .before in
+    let at-pre = at-meshed .before .before .before .before .before .before in
+    let few = edges-few (at-meshed .meshed .given .1) (at-pre .pre .0) in
     let fit = counts-fit _ _ _ (c .before .before .before .before .before .before .counts-line .ensures .0) in
     omega arith
 
@@ -41,7 +46,13 @@ same-length : tie.Need-same-length
 same-length c = search needs
 
 returns : tie.Need-returns
-returns c = λ t. print-done _ _ t _ _ _ _ _ _ _ (c .before .before .before .before .before .before .before .before .before .meshed .given .1) (c .before .before .before .before .before .before .counts-line .ensures .0) (c .before .before .before .before .before .before .counts-line .ensures .1) (c .before .before .vertex-lines .ensures)
+returns c =
+    let at-meshed = c .before .before .before .before .before .before .before .before .before in
+    λ t.
+    print-done _ _ t _ _ _ _ _ _ _ (at-meshed .meshed .given .1)
+    (c .before .before .before .before .before .before .counts-line .ensures .0)
+    (c .before .before .before .before .before .before .counts-line .ensures .1)
+    (c .before .before .vertex-lines .ensures)
 
 same-length-2 : tie.Need-same-length-2
 same-length-2 c = search needs

@@ -54,13 +54,26 @@ slice-aggregate-print-mesh-3 : tie.Need-slice-aggregate-print-mesh-3
 slice-aggregate-print-mesh-3 c = search needs
 
 print-mesh-requires : tie.Need-print-mesh-requires
-print-mesh-requires c κs = (edges-in _ _ (c .before .before .before .before .before .before .before .before .before .before .before .before .before .before .before .before .extract-mesh-from-tsdf .ensures .answer), c .before .before .before .before .before .before .before .before .before .before .before .before .before .before .before .before .extract-mesh-from-tsdf .kept .1 .1 .1 .1 .1 .1 .1 .0, c .before .before .before .before .before .before .before .before .before .before .before .before .before .before .before .before .extract-mesh-from-tsdf .kept .1 .1 .1 .1 .1 .1 .1 .1 .0, c .before .before .before .before .before .before .before .before .before .before .before .before .before .before .before .before .extract-mesh-from-tsdf .kept .1 .1 .1 .1 .1 .1 .1 .1 .1 .0)
+print-mesh-requires c κs =
+    let at-extract-mesh-from-tsdf = c .before .before .before .before .before .before .before .before .before .before
+    .before .before .before .before .before .before in (
+      edges-in _ _ (at-extract-mesh-from-tsdf .extract-mesh-from-tsdf .ensures .answer),
+      at-extract-mesh-from-tsdf .extract-mesh-from-tsdf .kept .1 .1 .1 .1 .1 .1 .1 .0,
+      at-extract-mesh-from-tsdf .extract-mesh-from-tsdf .kept .1 .1 .1 .1 .1 .1 .1 .1 .0,
+      at-extract-mesh-from-tsdf .extract-mesh-from-tsdf .kept .1 .1 .1 .1 .1 .1 .1 .1 .1 .0,
+    )
 
 same-length : tie.Need-same-length
 same-length c = search needs
 
 returns : tie.Need-returns
-returns c = surface _ _ _ _ (c .before .before .before .before .before .before .before .before .before .before .before .before .before .before .before .before .before .before .before .extract-mesh-from-tsdf .ensures .answer) (c .before .before .before .before .before .before .before .before .before .before .before .before .before .before .before .before .before .before .before .extract-mesh-from-tsdf .ensures .px) (c .before .before .before .before .before .before .before .before .before .before .before .before .before .before .before .before .before .before .before .extract-mesh-from-tsdf .ensures .py) (c .before .before .before .before .before .before .before .before .before .before .before .before .before .before .before .before .before .before .before .extract-mesh-from-tsdf .ensures .pz) (c .before .before .print-mesh .ensures _)
+returns c =
+    let at-extract-mesh-from-tsdf = c .before .before .before .before .before .before .before .before .before .before
+    .before .before .before .before .before .before .before .before .before in
+    surface _ _ _ _ (at-extract-mesh-from-tsdf .extract-mesh-from-tsdf .ensures .answer)
+    (at-extract-mesh-from-tsdf .extract-mesh-from-tsdf .ensures .px)
+    (at-extract-mesh-from-tsdf .extract-mesh-from-tsdf .ensures .py)
+    (at-extract-mesh-from-tsdf .extract-mesh-from-tsdf .ensures .pz) (c .before .before .print-mesh .ensures _)
 
 pub print-surface-spec : {M : Type 1} → statement M
 print-surface-spec =

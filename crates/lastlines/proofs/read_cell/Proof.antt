@@ -28,7 +28,10 @@ enum-told-2 : tie.Need-enum-told-2
 enum-told-2 c = search needs
 
 returns-2 : tie.Need-returns-2
-returns-2 c = sym (cell-distance _ _ _ _ _ (c .before .before .before .before .before .before .new .ensures) (c .before .before .before .before .key .given .1) (c .before .before .number-of .ensures) (c .enum-told2 .given .1))
+returns-2 c =
+    sym (cell-distance _ _ _ _ _ (c .before .before .before .before .before .before .new .ensures)
+    (c .before .before .before .before .key .given .1) (c .before .before .number-of .ensures)
+    (c .enum-told2 .given .1))
 
 number-of-requires-2 : tie.Need-number-of-requires-2
 number-of-requires-2 c κs = search needs
@@ -40,10 +43,22 @@ enum-told-3 : tie.Need-enum-told-3
 enum-told-3 c = search needs
 
 returns-3 : tie.Need-returns-3
-returns-3 c = sym (cell-confidence _ _ _ _ _ (c .before .before .before .before .before .before .before .before .before .before .new .ensures) (c .before .before .before .before .before .before .before .before .key .given .1) (c .before .before .before .before .before .before .number-of .ensures) (c .before .before .before .before .d .given .1) (c .before .before .number-of2 .ensures) (c .enum-told3 .given .1))
+returns-3 c =
+    let at-key = c .before .before .before .before .before .before .before .before in
+    let at-new = at-key .before .before in
+    sym (cell-confidence _ _ _ _ _ (at-new .new .ensures) (at-key .key .given .1)
+    (c .before .before .before .before .before .before .number-of .ensures)
+    (c .before .before .before .before .d .given .1) (c .before .before .number-of2 .ensures)
+    (c .enum-told3 .given .1))
 
 returns-4 : tie.Need-returns-4
-returns-4 c = sym (cell-read _ _ _ _ _ (c .before .before .before .before .before .before .before .before .before .before .before .new .ensures) (c .before .before .before .before .before .before .before .before .before .key .given .1) (c .before .before .before .before .before .before .before .number-of .ensures) (c .before .before .before .before .before .d .given .1) (c .before .before .before .number-of2 .ensures) (c .before .c .given .1))
+returns-4 c =
+    let at-key = c .before .before .before .before .before .before .before .before .before in
+    let at-new = at-key .before .before in
+    sym (cell-read _ _ _ _ _ (at-new .new .ensures) (at-key .key .given .1)
+    (c .before .before .before .before .before .before .before .number-of .ensures)
+    (c .before .before .before .before .before .d .given .1) (c .before .before .before .number-of2 .ensures)
+    (c .before .c .given .1))
 
 pub read-cell-spec : {M : Type 1} → statement M
 read-cell-spec =

@@ -28,7 +28,10 @@ enum-told-2 : tie.Need-enum-told-2
 enum-told-2 c = search needs
 
 returns-2 : tie.Need-returns-2
-returns-2 c = sym (setup-second _ _ _ (c .before .before .before .before .before .before .number-of .ensures) (c .before .before .before .before .t .given .1) (c .before .before .number-of2 .ensures) (c .enum-told2 .given .1))
+returns-2 c =
+    sym (setup-second _ _ _ (c .before .before .before .before .before .before .number-of .ensures)
+    (c .before .before .before .before .t .given .1) (c .before .before .number-of2 .ensures)
+    (c .enum-told2 .given .1))
 
 number-of-requires-3 : tie.Need-number-of-requires-3
 number-of-requires-3 c κs = search needs
@@ -40,13 +43,26 @@ enum-told-3 : tie.Need-enum-told-3
 enum-told-3 c = search needs
 
 returns-3 : tie.Need-returns-3
-returns-3 c = sym (setup-third _ _ _ (c .before .before .before .before .before .before .before .before .before .before .number-of .ensures) (c .before .before .before .before .before .before .before .before .t .given .1) (c .before .before .before .before .before .before .number-of2 .ensures) (c .before .before .before .before .w .given .1) (c .before .before .number-of3 .ensures) (c .enum-told3 .given .1))
+returns-3 c =
+    let at-t = c .before .before .before .before .before .before .before .before in
+    let at-number-of = at-t .before .before in
+    sym (setup-third _ _ _ (at-number-of .number-of .ensures) (at-t .t .given .1)
+    (c .before .before .before .before .before .before .number-of2 .ensures)
+    (c .before .before .before .before .w .given .1) (c .before .before .number-of3 .ensures)
+    (c .enum-told3 .given .1))
 
 tested-requires : tie.Need-tested-requires
 tested-requires c κs = search needs
 
 returns-4 : tie.Need-returns-4
-returns-4 c = c .tested .ensures ∙ sym (setup-read _ _ _ (c .before .before .before .before .before .before .before .before .before .before .before .before .number-of .ensures) (c .before .before .before .before .before .before .before .before .before .before .t .given .1) (c .before .before .before .before .before .before .before .before .number-of2 .ensures) (c .before .before .before .before .before .before .w .given .1) (c .before .before .before .before .number-of3 .ensures) (c .before .before .s .given .1))
+returns-4 c =
+    let at-number-of2 = c .before .before .before .before .before .before .before .before in
+    let at-t = at-number-of2 .before .before in
+    let at-number-of = at-t .before .before in
+    c .tested .ensures
+    ∙ sym (setup-read _ _ _ (at-number-of .number-of .ensures) (at-t .t .given .1)
+    (at-number-of2 .number-of2 .ensures) (c .before .before .before .before .before .before .w .given .1)
+    (c .before .before .before .before .number-of3 .ensures) (c .before .before .s .given .1))
 
 pub set-up-spec : {M : Type 1} → statement M
 set-up-spec =

@@ -45,7 +45,12 @@ same-length : tie.Need-same-length
 same-length c = search needs
 
 returns : tie.Need-returns
-returns c = step-settings _ _ _ _ _ _ (c .before .before .before .before .before .before .before .before .before .line-of .ensures) (c .before .before .before .before .before .before .before .before .placed .ensures) (c .before .before .before .before .before .before .truncation .given .1) (c .before .before .before .before .set-up .ensures) (c .before .before .after-setup .ensures _)
+returns c =
+    let at-placed = c .before .before .before .before .before .before .before .before in
+    let at-line-of = at-placed .before in
+    step-settings _ _ _ _ _ _ (at-line-of .line-of .ensures) (at-placed .placed .ensures)
+    (c .before .before .before .before .before .before .truncation .given .1)
+    (c .before .before .before .before .set-up .ensures) (c .before .before .after-setup .ensures _)
 
 same-length-2 : tie.Need-same-length-2
 same-length-2 c = search needs
@@ -60,7 +65,13 @@ same-length-5 : tie.Need-same-length-5
 same-length-5 c = search needs
 
 returns-2 : tie.Need-returns-2
-returns-2 c = step-reading _ _ _ _ _ _ (c .before .before .before .before .before .before .before .before .before .before .before .before .before .before .before .before .before .before .before .line-of .ensures) (c .before .before .before .before .before .before .before .before .before .before .before .before .before .before .before .before .before .before .placed .ensures) (c .before .before .before .before .before .before .before .before .before .before .before .before .before .before .before .before .x .given .1) (c .before .before .before .before .before .before .before .before .before .before .take-reading .ensures) (c .before .before .after-reading .ensures _)
+returns-2 c =
+    let at-take-reading = c .before .before .before .before .before .before .before .before .before .before in
+    let at-x = at-take-reading .before .before .before .before .before .before in
+    let at-placed = at-x .before .before in
+    let at-line-of = at-placed .before in
+    step-reading _ _ _ _ _ _ (at-line-of .line-of .ensures) (at-placed .placed .ensures) (at-x .x .given .1)
+    (at-take-reading .take-reading .ensures) (c .before .before .after-reading .ensures _)
 
 same-length-6 : tie.Need-same-length-6
 same-length-6 c = search needs
@@ -75,13 +86,21 @@ same-length-9 : tie.Need-same-length-9
 same-length-9 c = search needs
 
 returns-3 : tie.Need-returns-3
-returns-3 c = step-mesh _ _ _ _ _ _ (c .before .before .before .before .before .before .before .before .before .before .before .line-of .ensures) (c .before .before .before .before .before .before .before .before .before .before .placed .ensures) (c .before .before .before .before .before .before .before .before .enum-told .given .1) (c .before .before .print-surface .ensures)
+returns-3 c =
+    let at-enum-told = c .before .before .before .before .before .before .before .before in
+    let at-placed = at-enum-told .before .before in
+    let at-line-of = at-placed .before in
+    step-mesh _ _ _ _ _ _ (at-line-of .line-of .ensures) (at-placed .placed .ensures)
+    (at-enum-told .enum-told .given .1) (c .before .before .print-surface .ensures)
 
 same-length-10 : tie.Need-same-length-10
 same-length-10 c = search needs
 
 returns-4 : tie.Need-returns-4
-returns-4 c = step-bad _ _ _ _ _ _ (c .before .before .before .before .before .before .before .line-of .ensures) (c .before .before .before .before .before .before .placed .ensures) (c .before .before .before .before .enum-told2 .given .1) (c .before .before .reject .ensures _)
+returns-4 c =
+    step-bad _ _ _ _ _ _ (c .before .before .before .before .before .before .before .line-of .ensures)
+    (c .before .before .before .before .before .before .placed .ensures)
+    (c .before .before .before .before .enum-told2 .given .1) (c .before .before .reject .ensures _)
 
 pub take-line-spec : {M : Type 1} → statement M
 take-line-spec =

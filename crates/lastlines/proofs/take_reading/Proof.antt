@@ -31,7 +31,11 @@ same-length-3 : tie.Need-same-length-3
 same-length-3 c = search needs
 
 returns-2 : tie.Need-returns-2
-returns-2 c = c .before .before .before .before .before .before .update-from-depth .ensures ∙ sym (reading-direct _ _ _ _ _ _ _ (c .before .before .before .before .before .before .before .before .before .before .before .before .before .before .read-cell .ensures) _ _ _ (c .before .before .before .before .before .before .before .before .before .before .before .before .key .given .1))
+returns-2 c =
+    let at-key = c .before .before .before .before .before .before .before .before .before .before .before .before in
+    let at-read-cell = at-key .before .before in
+    c .before .before .before .before .before .before .update-from-depth .ensures
+    ∙ sym (reading-direct _ _ _ _ _ _ _ (at-read-cell .read-cell .ensures) _ _ _ (at-key .key .given .1))
 
 pub take-reading-spec : {M : Type 1} → statement M
 take-reading-spec =

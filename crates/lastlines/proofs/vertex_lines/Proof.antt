@@ -55,7 +55,9 @@ loop-less : tie.Need-loop-less Inv-loop μ-loop
 loop-less c = search needs
 
 loop-again : tie.Need-loop-again Inv-loop μ-loop
-loop-again c = (omega arith, lines-more _ _ _ _ _ _ (c .before .before .before .before .before .before .before .before .loop .inv .1) (c .before .before .vertex-line .ensures))
+loop-again c =
+    let at-loop = c .before .before .before .before .before .before .before .before in
+    (omega arith, lines-more _ _ _ _ _ _ (at-loop .loop .inv .1) (c .before .before .vertex-line .ensures))
 
 same-length : tie.Need-same-length Inv-loop μ-loop
 same-length c = ap length (c .before .loop .inv .1) ∙ simp length-sets

@@ -35,8 +35,12 @@ add-t9 c = search needs
 
 returns : tie.Need-returns Inv-loop μ-loop
 returns c =
-    let b = c .before .before .before .before in
-    (sym (b .loop .inv .2 ∙ digits-none 5 _ _ (b .loop .i) (b .loop .value) _ (c .before .before .before .loop-test .taken) (c .before .digit-value .ensures .0 ∙ ap digitValue (c .before .before .byte-at .ensures)) (c .if1 .taken)), search needs)
+    let b = c .before .before .before .before in (
+      sym (b .loop .inv .2
+          ∙ digits-none 5 _ _ (b .loop .i) (b .loop .value) _ (c .before .before .before .loop-test .taken)
+          (c .before .digit-value .ensures .0 ∙ ap digitValue (c .before .before .byte-at .ensures)) (c .if1 .taken)),
+      search needs,
+    )
 
 mul-value : tie.Need-mul-value Inv-loop μ-loop
 mul-value c =
@@ -59,7 +63,9 @@ loop-again c =
     let b = c .before .before .before .before in (
       search needs,
       rw add-one (more-decimal (b .loop .i) (b .loop .inv .1) (c .if1 .left)),
-      b .loop .inv .2 ∙ digits-more 5 _ _ (b .loop .i) (b .loop .value) _ (c .before .before .before .loop-test .taken) (c .before .digit-value .ensures .0 ∙ ap digitValue (c .before .before .byte-at .ensures)) (c .if1 .left),
+      b .loop .inv .2
+          ∙ digits-more 5 _ _ (b .loop .i) (b .loop .value) _ (c .before .before .before .loop-test .taken)
+          (c .before .digit-value .ensures .0 ∙ ap digitValue (c .before .before .byte-at .ensures)) (c .if1 .left),
     )
 
 add-t11 : tie.Need-add-t11 Inv-loop μ-loop

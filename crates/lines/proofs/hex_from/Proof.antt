@@ -33,7 +33,9 @@ hex-value-requires c κs = search needs
 returns : tie.Need-returns Inv-loop μ-loop
 returns c =
     let b = c .before .before .before .before in
-    sym (b .loop .inv .2 ∙ hex-none 8 _ _ (b .loop .i) (b .loop .bits) _ (c .before .before .before .loop-test .taken) (c .before .hex-value .ensures .0 ∙ ap hexValue (c .before .before .byte-at .ensures)) (c .if1 .taken))
+    sym (b .loop .inv .2
+    ∙ hex-none 8 _ _ (b .loop .i) (b .loop .bits) _ (c .before .before .before .loop-test .taken)
+    (c .before .hex-value .ensures .0 ∙ ap hexValue (c .before .before .byte-at .ensures)) (c .if1 .taken))
 
 mul-bits : tie.Need-mul-bits Inv-loop μ-loop
 mul-bits c =
@@ -56,7 +58,9 @@ loop-again c =
     let b = c .before .before .before .before in (
       search needs,
       rw add-one (more-hex (b .loop .i) (b .loop .inv .1) (c .if1 .left)),
-      b .loop .inv .2 ∙ hex-more 8 _ _ (b .loop .i) (b .loop .bits) _ (c .before .before .before .loop-test .taken) (c .before .hex-value .ensures .0 ∙ ap hexValue (c .before .before .byte-at .ensures)) (c .if1 .left),
+      b .loop .inv .2
+          ∙ hex-more 8 _ _ (b .loop .i) (b .loop .bits) _ (c .before .before .before .loop-test .taken)
+          (c .before .hex-value .ensures .0 ∙ ap hexValue (c .before .before .byte-at .ensures)) (c .if1 .left),
     )
 
 returns-2 : tie.Need-returns-2 Inv-loop μ-loop

@@ -30,11 +30,27 @@ sub-result-2 c = search needs
 
 returns-4 : tie.Need-returns-4
 unfolding hexValue
-returns-4 c = (simp (le-leb 48 _ (c .before .before .before .if1 .left), lt-leb _ 57 (c .before .before .if2 .left), le-leb 97 _ (c .before .if3 .left), le-leb _ 102 (c .if4 .taken)), search needs)
+returns-4 c = (
+  simp (
+    le-leb 48 _ (c .before .before .before .if1 .left),
+    lt-leb _ 57 (c .before .before .if2 .left),
+    le-leb 97 _ (c .before .if3 .left),
+    le-leb _ 102 (c .if4 .taken),
+  ),
+  search needs,
+)
 
 returns-5 : tie.Need-returns-5
 unfolding hexValue
-returns-5 c = (simp (le-leb 48 _ (c .before .before .before .if1 .left), lt-leb _ 57 (c .before .before .if2 .left), le-leb 97 _ (c .before .if3 .left), lt-leb _ 102 (c .if4 .left)), search needs)
+returns-5 c = (
+  simp (
+    le-leb 48 _ (c .before .before .before .if1 .left),
+    lt-leb _ 57 (c .before .before .if2 .left),
+    le-leb 97 _ (c .before .if3 .left),
+    lt-leb _ 102 (c .if4 .left),
+  ),
+  search needs,
+)
 
 pub hex-value-spec : {M : Type 1} → statement M
 hex-value-spec = tie.close (tie.spec returns sub-result returns-2 returns-3 sub-result-2 returns-4 returns-5)

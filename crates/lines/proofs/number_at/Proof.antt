@@ -15,7 +15,10 @@ space : (c : tie.Else1) → getD (c .before .before .before .args .line .now) (c
 space c = sym (c .before .byte-at .ensures) ∙ c .if1 .left
 
 -- the digit after it is not 0
-not-zero : (c : tie.Else2) → getD (c .before .before .before .before .before .args .line .now) (c .before .before .before .before .before .args .at + 1) 0 ≡ 48 → ⊥
+not-zero : (c : tie.Else2)
+    → getD (c .before .before .before .before .before .args .line .now)
+    (c .before .before .before .before .before .args .at + 1) 0 ≡ 48
+    → ⊥
 not-zero c h = c .if2 .left (c .before .byte-at2 .ensures ∙ h)
 
 byte-at-requires : tie.Need-byte-at-requires
@@ -42,7 +45,8 @@ digit-value-requires c κs = search needs
 returns-3 : tie.Need-returns-3
 returns-3 c =
     let b = c .before .before in (
-      sym (number-none _ _ (space (b .before .before)) (not-zero b) (omega (arith, c .before .digit-value .ensures .0, ap digitValue (b .before .byte-at2 .ensures)))),
+      sym (number-none _ _ (space (b .before .before)) (not-zero b)
+          (omega (arith, c .before .digit-value .ensures .0, ap digitValue (b .before .byte-at2 .ensures)))),
       search needs,
     )
 
@@ -55,14 +59,28 @@ cast-t12 c = search needs
 returns-4 : tie.Need-returns-4
 returns-4 c =
     let b = c .before .before .before .before in (
-      sym (number-there _ _ (space (b .before .before)) (not-zero b) (omega (arith, c .before .before .before .digit-value .ensures .0, ap digitValue (b .before .byte-at2 .ensures))) ∙ ap coordinate (sym (c .before .digits-from .ensures .0)) ∙ coordinate-there _ (c .if4 .taken)),
+      sym (number-there _ _ (space (b .before .before)) (not-zero b)
+          (omega (
+            arith,
+            c .before .before .before .digit-value .ensures .0,
+            ap digitValue (b .before .byte-at2 .ensures),
+          ))
+          ∙ ap coordinate (sym (c .before .digits-from .ensures .0))
+          ∙ coordinate-there _ (c .if4 .taken)),
       search needs,
     )
 
 returns-5 : tie.Need-returns-5
 returns-5 c =
     let b = c .before .before .before .before in (
-      sym (number-there _ _ (space (b .before .before)) (not-zero b) (omega (arith, c .before .before .before .digit-value .ensures .0, ap digitValue (b .before .byte-at2 .ensures))) ∙ ap coordinate (sym (c .before .digits-from .ensures .0)) ∙ coordinate-missing _ (c .if4 .left)),
+      sym (number-there _ _ (space (b .before .before)) (not-zero b)
+          (omega (
+            arith,
+            c .before .before .before .digit-value .ensures .0,
+            ap digitValue (b .before .byte-at2 .ensures),
+          ))
+          ∙ ap coordinate (sym (c .before .digits-from .ensures .0))
+          ∙ coordinate-missing _ (c .if4 .left)),
       search needs,
     )
 

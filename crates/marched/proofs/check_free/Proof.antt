@@ -24,19 +24,24 @@ returns : tie.Need-returns
 returns c =
     let at-start = c .before .before .before .before .before .before in
     let a = at-start .args in
-    refuses-after (marchedTable (a .keys .now) (a .distances .now) (a .count)) _ (a .key) _ (c .before .before .before .check-key .ensures) (c .before .why .given .1)
+    refuses-after (marchedTable (a .keys .now) (a .distances .now) (a .count)) _ (a .key) _
+    (c .before .before .before .check-key .ensures) (c .before .why .given .1)
 
 returns-2 : tie.Need-returns-2
 returns-2 c =
     let at-start = c .before .before .before .before .before .before .before in
     let a = at-start .args in
-    free-passes (marchedTable (a .keys .now) (a .distances .now) (a .count)) (a .key) _ (a .threshold) (c .before .before .before .before .check-key .ensures) (c .before .before .enum-told .given .1) (sym (c .before .is-finite .ensures) ∙ c .if1 .taken)
+    free-passes (marchedTable (a .keys .now) (a .distances .now) (a .count)) (a .key) _ (a .threshold)
+    (c .before .before .before .before .check-key .ensures) (c .before .before .enum-told .given .1)
+    (sym (c .before .is-finite .ensures) ∙ c .if1 .taken)
 
 returns-3 : tie.Need-returns-3
 returns-3 c =
     let at-start = c .before .before .before .before .before .before .before in
     let a = at-start .args in
-    free-fails (marchedTable (a .keys .now) (a .distances .now) (a .count)) (a .key) _ (a .threshold) (c .before .before .before .before .check-key .ensures) (c .before .before .enum-told .given .1) (sym (c .before .is-finite .ensures) ∙ c .if1 .left)
+    free-fails (marchedTable (a .keys .now) (a .distances .now) (a .count)) (a .key) _ (a .threshold)
+    (c .before .before .before .before .check-key .ensures) (c .before .before .enum-told .given .1)
+    (sym (c .before .is-finite .ensures) ∙ c .if1 .left)
 
 pub check-free-spec : {M : Type 1} → statement M
 check-free-spec =

@@ -30,13 +30,17 @@ returns-2 : tie.Need-returns-2
 returns-2 c =
     let at-start = c .before .before .before .before .before .before .before in
     let a = at-start .args in
-    key-passes (marchedTable (a .keys .now) (a .distances .now) (a .count)) (a .key) _ (c .before .before .before .before .check .ensures) (c .before .before .enum-told .given .1) (sym (c .before .is-on-lattice .ensures) ∙ c .if1 .taken)
+    key-passes (marchedTable (a .keys .now) (a .distances .now) (a .count)) (a .key) _
+    (c .before .before .before .before .check .ensures) (c .before .before .enum-told .given .1)
+    (sym (c .before .is-on-lattice .ensures) ∙ c .if1 .taken)
 
 returns-3 : tie.Need-returns-3
 returns-3 c =
     let at-start = c .before .before .before .before .before .before .before in
     let a = at-start .args in
-    key-fails (marchedTable (a .keys .now) (a .distances .now) (a .count)) (a .key) _ (c .before .before .before .before .check .ensures) (c .before .before .enum-told .given .1) (sym (c .before .is-on-lattice .ensures) ∙ c .if1 .left)
+    key-fails (marchedTable (a .keys .now) (a .distances .now) (a .count)) (a .key) _
+    (c .before .before .before .before .check .ensures) (c .before .before .enum-told .given .1)
+    (sym (c .before .is-on-lattice .ensures) ∙ c .if1 .left)
 
 pub check-key-spec : {M : Type 1} → statement M
 check-key-spec =

@@ -18,7 +18,11 @@ returns c = rw (no (c .before .lengths-ok .ensures) (c .if1 .taken))
 
 returns-2 : tie.Need-returns-2
 unfolding listCheck need
-returns-2 c = rw (yes (c .before .before .lengths-ok .ensures) (c .before .if1 .left), no {a = c .before .before .before .before .before .args .fit} refl (c .if2 .taken))
+returns-2 c =
+    rw (
+      yes (c .before .before .lengths-ok .ensures) (c .before .if1 .left),
+      no {a = c .before .before .before .before .before .args .fit} refl (c .if2 .taken),
+    )
 
 table-ok-requires : tie.Need-table-ok-requires
 table-ok-requires c κs =
@@ -29,7 +33,11 @@ returns-3 : tie.Need-returns-3
 unfolding listCheck need
 returns-3 c =
     let at-start = c .before .before .before .before .before .before .before in
-    rw (yes (c .before .before .before .before .lengths-ok .ensures) (c .before .before .before .if1 .left), yes {a = at-start .args .fit} refl (c .before .before .if2 .left), no (c .before .table-ok .ensures) (c .if3 .taken))
+    rw (
+      yes (c .before .before .before .before .lengths-ok .ensures) (c .before .before .before .if1 .left),
+      yes {a = at-start .args .fit} refl (c .before .before .if2 .left),
+      no (c .before .table-ok .ensures) (c .if3 .taken),
+    )
 
 is-finite-requires : tie.Need-is-finite-requires
 is-finite-requires c κs = search needs
@@ -39,14 +47,24 @@ unfolding listCheck need
 returns-4 c =
     let at-lengths-ok = c .before .before .before .before .before .before in
     let at-start = at-lengths-ok .before .before .before in
-    rw (yes (at-lengths-ok .lengths-ok .ensures) (c .before .before .before .before .before .if1 .left), yes {a = at-start .args .fit} refl (c .before .before .before .before .if2 .left), yes (c .before .before .before .table-ok .ensures) (c .before .before .if3 .left), no (c .before .is-finite .ensures) (c .if4 .taken))
+    rw (
+      yes (at-lengths-ok .lengths-ok .ensures) (c .before .before .before .before .before .if1 .left),
+      yes {a = at-start .args .fit} refl (c .before .before .before .before .if2 .left),
+      yes (c .before .before .before .table-ok .ensures) (c .before .before .if3 .left),
+      no (c .before .is-finite .ensures) (c .if4 .taken),
+    )
 
 returns-5 : tie.Need-returns-5
 unfolding listCheck need
 returns-5 c =
     let at-lengths-ok = c .before .before .before .before .before .before in
     let at-start = at-lengths-ok .before .before .before in
-    rw (yes (at-lengths-ok .lengths-ok .ensures) (c .before .before .before .before .before .if1 .left), yes {a = at-start .args .fit} refl (c .before .before .before .before .if2 .left), yes (c .before .before .before .table-ok .ensures) (c .before .before .if3 .left), yes (c .before .is-finite .ensures) (c .if4 .left))
+    rw (
+      yes (at-lengths-ok .lengths-ok .ensures) (c .before .before .before .before .before .if1 .left),
+      yes {a = at-start .args .fit} refl (c .before .before .before .before .if2 .left),
+      yes (c .before .before .before .table-ok .ensures) (c .before .before .if3 .left),
+      yes (c .before .is-finite .ensures) (c .if4 .left),
+    )
 
 pub check-list-spec : {M : Type 1} → statement M
 check-list-spec =

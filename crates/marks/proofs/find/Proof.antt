@@ -30,7 +30,9 @@ returns-2 : tie.Need-returns-2
 returns-2 c = spot-free _ _ _ _ (c .before .before .before .before .home .ensures) (c .before .before .before .seek .ensures) _ (c .before .i2 .given .1)
 
 returns-3 : tie.Need-returns-3
-returns-3 c = spot-again _ _ _ _ (c .before .before .before .before .home .ensures) (c .before .before .before .seek .ensures) _ (c .before .enum-told .given .1) (c .seek2 .ensures)
+returns-3 c =
+    spot-again _ _ _ _ (c .before .before .before .before .home .ensures) (c .before .before .before .seek .ensures) _
+    (c .before .enum-told .given .1) (c .seek2 .ensures)
 
 pub find-spec : {M : Type 1} → statement M
 find-spec =

@@ -35,14 +35,24 @@ unfolding admitted admitIf
 returns-3 c =
     let n = c .before .before .before in
     let e = n .before .before in
-    rw (yes (e .before .is-on-lattice .ensures) (e .if1 .left), yes (n .before .reading-ok .ensures) (n .if2 .left), ← c .before .before .measure .ensures, sym (c .before .beyond .ensures) ∙ c .if3 .taken)
+    rw (
+      yes (e .before .is-on-lattice .ensures) (e .if1 .left),
+      yes (n .before .reading-ok .ensures) (n .if2 .left),
+      ← c .before .before .measure .ensures,
+      sym (c .before .beyond .ensures) ∙ c .if3 .taken,
+    )
 
 returns-4 : tie.Need-returns-4
 unfolding admitted admitIf
 returns-4 c =
     let n = c .before .before .before in
     let e = n .before .before in
-    rw (yes (e .before .is-on-lattice .ensures) (e .if1 .left), yes (n .before .reading-ok .ensures) (n .if2 .left), ← c .before .before .measure .ensures, sym (c .before .beyond .ensures) ∙ c .if3 .left)
+    rw (
+      yes (e .before .is-on-lattice .ensures) (e .if1 .left),
+      yes (n .before .reading-ok .ensures) (n .if2 .left),
+      ← c .before .before .measure .ensures,
+      sym (c .before .beyond .ensures) ∙ c .if3 .left,
+    )
 
 pub admit-spec : {M : Type 1} → statement M
 admit-spec =

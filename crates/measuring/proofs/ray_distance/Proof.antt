@@ -35,7 +35,11 @@ returns c =
     let s = m .before in
     let a = s .args in
     root-taken (a .size .0) (a .key) (a .x) (a .y) (a .z) (a .depth) (a .confidence) (s .pre .0) (s .pre .1) _ _
-    (r .root .ensures ∙ ap rootAnswer (squares-is (a .size .0) (a .key) (a .x) (a .y) (a .z) _ _ _ _ (m .morton-decode .ensures) (r .before .before .before .apart .ensures) (r .before .before .apart2 .ensures) (r .before .apart3 .ensures)))
+    (r .root .ensures
+    ∙ ap rootAnswer
+    (squares-is (a .size .0) (a .key) (a .x) (a .y) (a .z) _ _ _ _ (m .morton-decode .ensures)
+    (r .before .before .before .apart .ensures) (r .before .before .apart2 .ensures)
+    (r .before .apart3 .ensures)))
     (c .before .before .length .given .1)
 
 returns-2 : tie.Need-returns-2
@@ -45,7 +49,11 @@ returns-2 c =
     let s = m .before in
     let a = s .args in
     absurd (root-not-refused (a .size .0) (a .key) (a .x) (a .y) (a .z) (a .depth) (a .confidence) (s .pre .0) (s .pre .1) _ _
-    (r .root .ensures ∙ ap rootAnswer (squares-is (a .size .0) (a .key) (a .x) (a .y) (a .z) _ _ _ _ (m .morton-decode .ensures) (r .before .before .before .apart .ensures) (r .before .before .apart2 .ensures) (r .before .apart3 .ensures)))
+    (r .root .ensures
+    ∙ ap rootAnswer
+    (squares-is (a .size .0) (a .key) (a .x) (a .y) (a .z) _ _ _ _ (m .morton-decode .ensures)
+    (r .before .before .before .apart .ensures) (r .before .before .apart2 .ensures)
+    (r .before .apart3 .ensures)))
     (c .enum-told .given .1))
 
 pub ray-distance-spec : {M : Type 1} → statement M

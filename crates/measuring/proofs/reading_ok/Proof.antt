@@ -40,7 +40,10 @@ returns c = and-eq (c .before .is-finite .ensures) (c .between .ensures) ∙ sym
 returns-2 : tie.Need-returns-2
 returns-2 c =
     let b = c .before .before .before .before in
-    and-eq (b .is-finite2 .ensures) (and-eq (c .before .before .before .is-finite3 .ensures) (and-eq (c .before .before .is-finite4 .ensures) (and-eq (c .before .is-finite5 .ensures) (c .between2 .ensures))))
+    and-eq (b .is-finite2 .ensures)
+    (and-eq (c .before .before .before .is-finite3 .ensures)
+    (and-eq (c .before .before .is-finite4 .ensures)
+    (and-eq (c .before .is-finite5 .ensures) (c .between2 .ensures))))
     ∙ sym (ap readingOk (b .before .before .reading2 .given .1))
 
 pub reading-ok-spec : {M : Type 1} → statement M

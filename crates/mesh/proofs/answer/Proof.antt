@@ -18,7 +18,9 @@ enum-known-verdict c = search needs
 
 returns : tie.Need-returns
 unfolding answerFor
-returns c = let a = c .before .before .before .args in c .with-edges .ensures ∙ sym (ap (λ (v : Checked). answerFor v (a .edges) (a .room) (a .built)) (c .before .enum-told .given .1))
+returns c = let a = c .before .before .before .args in
+    c .with-edges .ensures
+    ∙ sym (ap (λ (v : Checked). answerFor v (a .edges) (a .room) (a .built)) (c .before .enum-told .given .1))
 
 returns-2 : tie.Need-returns-2
 unfolding answerFor

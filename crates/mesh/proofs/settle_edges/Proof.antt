@@ -27,9 +27,11 @@ same-length-2 c = search needs
 
 returns : tie.Need-returns
 returns c =
+    let at-kept2 = c .before .before .before .before .before .before .before .before in
+    let at-kept = at-kept2 .before in
     let a = c .before .before .before .before .before .before .before .before .before .before .before .before .args in (
-      c .before .before .before .before .before .before .clear-from-u64 .ensures ∙ ap (λ (k : ℕ). clearedFrom 0 k (a .first .now)) (c .before .before .before .before .before .before .before .before .before .kept .ensures),
-      c .before .before .clear-from-u642 .ensures ∙ ap (λ (k : ℕ). clearedFrom 0 k (a .second .now)) (c .before .before .before .before .before .before .before .before .kept2 .ensures),
+      c .before .before .before .before .before .before .clear-from-u64 .ensures ∙ ap (λ (k : ℕ). clearedFrom 0 k (a .first .now)) (at-kept .kept .ensures),
+      c .before .before .clear-from-u642 .ensures ∙ ap (λ (k : ℕ). clearedFrom 0 k (a .second .now)) (at-kept2 .kept2 .ensures),
     )
 
 pub settle-edges-spec : {M : Type 1} → statement M

@@ -30,9 +30,10 @@ same-length-3 c = search needs
 
 returns : tie.Need-returns
 returns c =
+    let at-clear-from-f32 = c .before .before .before .before .before .before .before .before .before .before in
     let a = c .before .before .before .before .before .before .before .before .before .before .before .before .before .before .before .before .args in
     let e = c .before .before .before .before .before .before .before .before .before .before .before .before .kept .ensures in (
-      c .before .before .before .before .before .before .before .before .before .before .clear-from-f32 .ensures ∙ ap (λ (k : ℕ). clearedFrom zeroF k (a .x .now)) e,
+      at-clear-from-f32 .clear-from-f32 .ensures ∙ ap (λ (k : ℕ). clearedFrom zeroF k (a .x .now)) e,
       (
         c .before .before .before .before .before .before .clear-from-f322 .ensures ∙ ap (λ (k : ℕ). clearedFrom zeroF k (a .y .now)) e,
         c .before .before .clear-from-f323 .ensures ∙ ap (λ (k : ℕ). clearedFrom zeroF k (a .z .now)) e,

@@ -45,13 +45,20 @@ same-length-4 c = search needs
 
 returns : tie.Need-returns
 returns c =
-    let a = c .before .before .before .before .before .before .before .before .before .before .before .before .before .before .before .before .before .before .before .before .before .before .before .before .args in (
-      c .before .before .before .before .before .before .before .before .before .before .before .before .before .before .clear-from-u32 .ensures ∙ ap (λ (k : ℕ). clearedFrom 0 k (a .groups .now)) (c .before .before .before .before .before .before .before .before .before .before .before .before .before .before .before .before .before .before .before .kept .ensures),
+    let at-clear-from-u322 = c .before .before .before .before .before .before .before .before .before .before in
+    let at-clear-from-u32 = at-clear-from-u322 .before .before .before .before in
+    let at-kept4 = at-clear-from-u32 .before .before in
+    let at-kept3 = at-kept4 .before in
+    let at-kept2 = at-kept3 .before in
+    let at-kept = at-kept2 .before in
+    let a = c .before .before .before .before .before .before .before .before .before .before .before .before .before
+    .before .before .before .before .before .before .before .before .before .before .before .args in (
+      at-clear-from-u32 .clear-from-u32 .ensures ∙ ap (λ (k : ℕ). clearedFrom 0 k (a .groups .now)) (at-kept .kept .ensures),
       (
-        c .before .before .before .before .before .before .before .before .before .before .clear-from-u322 .ensures ∙ ap (λ (k : ℕ). clearedFrom 0 k (a .t0 .now)) (c .before .before .before .before .before .before .before .before .before .before .before .before .before .before .before .before .before .before .kept2 .ensures),
+        at-clear-from-u322 .clear-from-u322 .ensures ∙ ap (λ (k : ℕ). clearedFrom 0 k (a .t0 .now)) (at-kept2 .kept2 .ensures),
         (
-          c .before .before .before .before .before .before .clear-from-u323 .ensures ∙ ap (λ (k : ℕ). clearedFrom 0 k (a .t1 .now)) (c .before .before .before .before .before .before .before .before .before .before .before .before .before .before .before .before .before .kept3 .ensures),
-          c .before .before .clear-from-u324 .ensures ∙ ap (λ (k : ℕ). clearedFrom 0 k (a .t2 .now)) (c .before .before .before .before .before .before .before .before .before .before .before .before .before .before .before .before .kept4 .ensures),
+          c .before .before .before .before .before .before .clear-from-u323 .ensures ∙ ap (λ (k : ℕ). clearedFrom 0 k (a .t1 .now)) (at-kept3 .kept3 .ensures),
+          c .before .before .clear-from-u324 .ensures ∙ ap (λ (k : ℕ). clearedFrom 0 k (a .t2 .now)) (at-kept4 .kept4 .ensures),
         ),
       ),
     )

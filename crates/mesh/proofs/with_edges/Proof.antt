@@ -17,7 +17,9 @@ enum-known-edges-2 : tie.Need-enum-known-edges-2
 enum-known-edges-2 c = search needs
 
 returns : tie.Need-returns
-returns c = let a = c .before .before .before .before .args in c .with-vertices .ensures ∙ sym (ap (λ (e : Listed). withEdges e (a .room) (a .built)) (c .before .before .edges .given .1))
+returns c = let a = c .before .before .before .before .args in
+    c .with-vertices .ensures
+    ∙ sym (ap (λ (e : Listed). withEdges e (a .room) (a .built)) (c .before .before .edges .given .1))
 
 returns-2 : tie.Need-returns-2
 returns-2 c = let a = c .before .before .before .args in sym (ap (λ (e : Listed). withEdges e (a .room) (a .built)) (c .before .edges2 .given .1))

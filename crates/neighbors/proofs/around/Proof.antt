@@ -58,7 +58,9 @@ loop-less : tie.Need-loop-less Inv-loop μ-loop
 loop-less c = search needs
 
 -- the cell that was reached is that by the key's offset
-here : (c : tie.After-cell-of Inv-loop μ-loop) → c .cell-of .result ≡ reached (c .before .before .before .before .args .key) (offsetAt (c .before .before .loop .place))
+here : (c : tie.After-cell-of Inv-loop μ-loop)
+    → c .cell-of .result ≡ reached (c .before .before .before .before .args .key)
+    (offsetAt (c .before .before .loop .place))
 here c =
     let l = c .before .before in
     rw (c .cell-of .ensures, l .before .lower-parts .ensures) (cell-reached _ _ (c .before .loop-test .taken))

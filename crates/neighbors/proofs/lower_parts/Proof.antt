@@ -79,7 +79,25 @@ returns c =
     let j2 = j3 .before in
     let j1 = j2 .before in
     let s = j1 .before in
-    rw (c .join14 .ensures, j13 .join13 .ensures, j12 .join12 .ensures, j11 .join11 .ensures, j10 .join10 .ensures, j9 .join9 .ensures, j8 .join8 .ensures, j7 .join7 .ensures, j6 .join6 .ensures, j5 .join5 .ensures, j4 .join4 .ensures, j3 .join3 .ensures, j2 .join2 .ensures, j1 .join .ensures, s .steps-along3 .ensures .0, s .before .steps-along2 .ensures .0, s .before .before .steps-along .ensures .0)
+    rw (
+      c .join14 .ensures,
+      j13 .join13 .ensures,
+      j12 .join12 .ensures,
+      j11 .join11 .ensures,
+      j10 .join10 .ensures,
+      j9 .join9 .ensures,
+      j8 .join8 .ensures,
+      j7 .join7 .ensures,
+      j6 .join6 .ensures,
+      j5 .join5 .ensures,
+      j4 .join4 .ensures,
+      j3 .join3 .ensures,
+      j2 .join2 .ensures,
+      j1 .join .ensures,
+      s .steps-along3 .ensures .0,
+      s .before .steps-along2 .ensures .0,
+      s .before .before .steps-along .ensures .0,
+    )
 
 pub lower-parts-spec : {M : Type 1} → statement M
 lower-parts-spec =

@@ -41,7 +41,9 @@ loop-less : tie.Need-loop-less Inv-loop μ-loop
 loop-less c = search needs
 
 -- what is stored at i
-value : (c : tie.Joined1 Inv-loop μ-loop) → c .if1 .v ≡ getD (take (c .before .before .before .args .n) (c .before .before .before .args .t1)) (c .before .before .loop .i) 0
+value : (c : tie.Joined1 Inv-loop μ-loop)
+    → c .if1 .v ≡ getD (take (c .before .before .before .args .n) (c .before .before .before .args .t1))
+    (c .before .before .loop .i) 0
 value c =
     let l = c .before .before in
     let n = l .before .args .n in

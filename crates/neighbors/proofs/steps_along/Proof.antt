@@ -26,8 +26,21 @@ returns c =
     let x = gather 16 m in
     let s = bitAnd m 0x249249249249 in
     let small = and-le-r m 0x249249249249 in (
-      rw (stay-along m, add-along x 131070 _ (sums .0), add-along x 131071 _ (sums .1), add-along x 131073 _ (sums .2), add-along x 131074 _ (sums .3), moved-stay x),
-      omega (arith, and-le-r (s + 0x7fffffffffffe) 0x1249249249249, and-le-r (s + 0x7ffffffffffff) 0x1249249249249, and-le-r (s + 0x6db6db6db6db7) 0x1249249249249, and-le-r (s + 0x6db6db6db6dbe) 0x1249249249249),
+      rw (
+        stay-along m,
+        add-along x 131070 _ (sums .0),
+        add-along x 131071 _ (sums .1),
+        add-along x 131073 _ (sums .2),
+        add-along x 131074 _ (sums .3),
+        moved-stay x,
+      ),
+      omega (
+        arith,
+        and-le-r (s + 0x7fffffffffffe) 0x1249249249249,
+        and-le-r (s + 0x7ffffffffffff) 0x1249249249249,
+        and-le-r (s + 0x6db6db6db6db7) 0x1249249249249,
+        and-le-r (s + 0x6db6db6db6dbe) 0x1249249249249,
+      ),
     )
 
 pub steps-along-spec : {M : Type 1} → statement M

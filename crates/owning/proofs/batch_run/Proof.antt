@@ -18,8 +18,14 @@ slice-aggregate-own-rows : tie.Need-slice-aggregate-own-rows
 slice-aggregate-own-rows c = search needs
 
 own-rows-requires : tie.Need-own-rows-requires
-own-rows-requires c κs =
-    ((c .before .before .before .end-of .ensures .0, c .before .before .before .end-of .ensures .2, c .before .before .before .end-of .ensures .1), search needs)
+own-rows-requires c κs = (
+  (
+    c .before .before .before .end-of .ensures .0,
+    c .before .before .before .end-of .ensures .2,
+    c .before .before .before .end-of .ensures .1,
+  ),
+  search needs,
+)
 
 slice-aggregate-load : tie.Need-slice-aggregate-load
 slice-aggregate-load c = search needs
@@ -35,7 +41,9 @@ load-requires c κs =
     let at-own-rows = c .before .before .before .before .before .before .before in
     let s = c .before .before .before .before .before .before .before .before .before .before .before .before .before .before .before .before .before .before in
     let k = sound (s .args .settings) (table (s .args .keys .now) (s .args .distances .now) (s .args .weights .now) (s .args .count .now)) (s .pre .0) in
-    let f = lengths-known (length (s .args .keys .now)) (length (s .args .distances .now)) (length (s .args .weights .now)) (s .args .count .now) (k .lengths) in
+    let f =
+    lengths-known (length (s .args .keys .now)) (length (s .args .distances .now)) (length (s .args .weights .now))
+    (s .args .count .now) (k .lengths) in
     (k .lengths, (k .order, simp (at-own-rows .own-rows .kept .0, length-replicate, le-leb _ _ (at-own-rows .own-rows .ensures .0))))
 
 slice-aggregate-fuse-run : tie.Need-slice-aggregate-fuse-run
@@ -49,9 +57,12 @@ slice-aggregate-fuse-run-3 c = search needs
 
 sub-fuse-run : tie.Need-sub-fuse-run
 sub-fuse-run c =
-    let s = c .before .before .before .before .before .before .before .before .before .before .before .before .before .before .before .before .before .before .before .before .before .before .before .before .before in
+    let s = c .before .before .before .before .before .before .before .before .before .before .before .before .before
+    .before .before .before .before .before .before .before .before .before .before .before .before in
     let k = sound (s .args .settings) (table (s .args .keys .now) (s .args .distances .now) (s .args .weights .now) (s .args .count .now)) (s .pre .0) in
-    let f = lengths-known (length (s .args .keys .now)) (length (s .args .distances .now)) (length (s .args .weights .now)) (s .args .count .now) (k .lengths) in
+    let f =
+    lengths-known (length (s .args .keys .now)) (length (s .args .distances .now)) (length (s .args .weights .now))
+    (s .args .count .now) (k .lengths) in
     omega (arith, f)
 
 fuse-run-requires : tie.Need-fuse-run-requires
@@ -59,19 +70,45 @@ fuse-run-requires c κs =
     let at-load = c .before .before .before .before .before .before in
     let at-own-rows = at-load .before .before .before .before .before .before .before .before in
     let at-end-of = at-own-rows .before .before .before .before in
-    let s = c .before .before .before .before .before .before .before .before .before .before .before .before .before .before .before .before .before .before .before .before .before .before .before .before .before in
+    let s = c .before .before .before .before .before .before .before .before .before .before .before .before .before
+    .before .before .before .before .before .before .before .before .before .before .before .before in
     let k = sound (s .args .settings) (table (s .args .keys .now) (s .args .distances .now) (s .args .weights .now) (s .args .count .now)) (s .pre .0) in
-    let f = lengths-known (length (s .args .keys .now)) (length (s .args .distances .now)) (length (s .args .weights .now)) (s .args .count .now) (k .lengths) in
-    (k .settings, (simp (at-own-rows .own-rows .kept .0, at-load .load .kept .1 .1 .1 .1 .1 .0, at-load .load .kept .1 .1 .1 .1 .1 .1 .0, length-replicate, le-leb _ _ (at-own-rows .own-rows .ensures .0)), ((at-end-of .end-of .ensures .0, at-end-of .end-of .ensures .2, at-end-of .end-of .ensures .1), s .pre .1 .1)))
+    let f =
+    lengths-known (length (s .args .keys .now)) (length (s .args .distances .now)) (length (s .args .weights .now))
+    (s .args .count .now) (k .lengths) in (
+      k .settings,
+      (
+        simp (
+          at-own-rows .own-rows .kept .0,
+          at-load .load .kept .1 .1 .1 .1 .1 .0,
+          at-load .load .kept .1 .1 .1 .1 .1 .1 .0,
+          length-replicate,
+          le-leb _ _ (at-own-rows .own-rows .ensures .0),
+        ),
+        ((at-end-of .end-of .ensures .0, at-end-of .end-of .ensures .2, at-end-of .end-of .ensures .1), s .pre .1 .1),
+      ),
+    )
 
 add-total : tie.Need-add-total
 add-total c =
     let at-load = c .before .before .before .before .before .before .before .before .before .before in
     let at-own-rows = at-load .before .before .before .before .before .before .before .before in
-    let s = c .before .before .before .before .before .before .before .before .before .before .before .before .before .before .before .before .before .before .before .before .before .before .before .before .before .before .before .before .before in
+    let s = c .before .before .before .before .before .before .before .before .before .before .before .before .before
+    .before .before .before .before .before .before .before .before .before .before .before .before .before
+    .before .before .before in
     let k = sound (s .args .settings) (table (s .args .keys .now) (s .args .distances .now) (s .args .weights .now) (s .args .count .now)) (s .pre .0) in
-    let f = lengths-known (length (s .args .keys .now)) (length (s .args .distances .now)) (length (s .args .weights .now)) (s .args .count .now) (k .lengths) in
-    omega (arith, counted (s .args .settings) (s .args .keys .now) (s .args .distances .now) (s .args .weights .now) (s .args .count .now) (s .pre .0) _ _ _ _ (at-own-rows .own-rows .kept .0) (at-load .load .kept .1 .1 .1 .1 .1 .0) (at-load .load .kept .1 .1 .1 .1 .1 .1 .0) (at-own-rows .own-rows .ensures .0) (at-own-rows .own-rows .ensures .1) (at-load .load .ensures) _ _ _ _ _ _ (c .before .before .before .fuse-run .ensures) (omega (arith, f)) .1, f)
+    let f =
+    lengths-known (length (s .args .keys .now)) (length (s .args .distances .now)) (length (s .args .weights .now))
+    (s .args .count .now) (k .lengths) in
+    omega (
+      arith,
+      counted (s .args .settings) (s .args .keys .now) (s .args .distances .now) (s .args .weights .now)
+          (s .args .count .now) (s .pre .0) _ _ _ _ (at-own-rows .own-rows .kept .0)
+          (at-load .load .kept .1 .1 .1 .1 .1 .0) (at-load .load .kept .1 .1 .1 .1 .1 .1 .0)
+          (at-own-rows .own-rows .ensures .0) (at-own-rows .own-rows .ensures .1) (at-load .load .ensures) _ _ _ _ _ _
+          (c .before .before .before .fuse-run .ensures) (omega (arith, f)) .1,
+      f,
+    )
 
 slice-aggregate-settle : tie.Need-slice-aggregate-settle
 slice-aggregate-settle c = search needs
@@ -87,10 +124,34 @@ settle-requires c κs =
     let at-fuse-run = c .before .before .before .before .before .before .before .before .before in
     let at-load = at-fuse-run .before .before .before .before .before .before .before in
     let at-own-rows = at-load .before .before .before .before .before .before .before .before in
-    let s = c .before .before .before .before .before .before .before .before .before .before .before .before .before .before .before .before .before .before .before .before .before .before .before .before .before .before .before .before .before .before .before .before .before .before .before in
+    let s = c .before .before .before .before .before .before .before .before .before .before .before .before .before
+    .before .before .before .before .before .before .before .before .before .before .before .before .before
+    .before .before .before .before .before .before .before .before .before in
     let k = sound (s .args .settings) (table (s .args .keys .now) (s .args .distances .now) (s .args .weights .now) (s .args .count .now)) (s .pre .0) in
-    let f = lengths-known (length (s .args .keys .now)) (length (s .args .distances .now)) (length (s .args .weights .now)) (s .args .count .now) (k .lengths) in
-    (k .lengths, (simp (at-own-rows .own-rows .kept .0, at-fuse-run .fuse-run .kept .1 .1 .0, at-fuse-run .fuse-run .kept .1 .1 .1 .0, at-load .load .kept .1 .1 .1 .1 .1 .0, at-load .load .kept .1 .1 .1 .1 .1 .1 .0, length-replicate, le-leb _ _ (at-own-rows .own-rows .ensures .0)), ((k .order, at-own-rows .own-rows .ensures .1), counted (s .args .settings) (s .args .keys .now) (s .args .distances .now) (s .args .weights .now) (s .args .count .now) (s .pre .0) _ _ _ _ (at-own-rows .own-rows .kept .0) (at-load .load .kept .1 .1 .1 .1 .1 .0) (at-load .load .kept .1 .1 .1 .1 .1 .1 .0) (at-own-rows .own-rows .ensures .0) (at-own-rows .own-rows .ensures .1) (at-load .load .ensures) _ _ _ _ _ _ (at-fuse-run .fuse-run .ensures) (omega (arith, f)))))
+    let f =
+    lengths-known (length (s .args .keys .now)) (length (s .args .distances .now)) (length (s .args .weights .now))
+    (s .args .count .now) (k .lengths) in (
+      k .lengths,
+      (
+        simp (
+          at-own-rows .own-rows .kept .0,
+          at-fuse-run .fuse-run .kept .1 .1 .0,
+          at-fuse-run .fuse-run .kept .1 .1 .1 .0,
+          at-load .load .kept .1 .1 .1 .1 .1 .0,
+          at-load .load .kept .1 .1 .1 .1 .1 .1 .0,
+          length-replicate,
+          le-leb _ _ (at-own-rows .own-rows .ensures .0),
+        ),
+        (
+          (k .order, at-own-rows .own-rows .ensures .1),
+          counted (s .args .settings) (s .args .keys .now) (s .args .distances .now) (s .args .weights .now)
+              (s .args .count .now) (s .pre .0) _ _ _ _ (at-own-rows .own-rows .kept .0)
+              (at-load .load .kept .1 .1 .1 .1 .1 .0) (at-load .load .kept .1 .1 .1 .1 .1 .1 .0)
+              (at-own-rows .own-rows .ensures .0) (at-own-rows .own-rows .ensures .1) (at-load .load .ensures) _ _ _ _ _ _
+              (at-fuse-run .fuse-run .ensures) (omega (arith, f)),
+        ),
+      ),
+    )
 
 same-length : tie.Need-same-length
 same-length c = search needs
@@ -107,10 +168,19 @@ returns c =
     let at-fuse-run = at-settle .before .before .before .before .before .before .before .before .before .before in
     let at-load = at-fuse-run .before .before .before .before .before .before .before in
     let at-own-rows = at-load .before .before .before .before .before .before .before .before in
-    let s = c .before .before .before .before .before .before .before .before .before .before .before .before .before .before .before .before .before .before .before .before .before .before .before .before .before .before .before .before .before .before .before .before .before .before .before .before .before .before .before .before .before .before in
+    let s = c .before .before .before .before .before .before .before .before .before .before .before .before .before
+    .before .before .before .before .before .before .before .before .before .before .before .before .before
+    .before .before .before .before .before .before .before .before .before .before .before .before .before
+    .before .before .before in
     let k = sound (s .args .settings) (table (s .args .keys .now) (s .args .distances .now) (s .args .weights .now) (s .args .count .now)) (s .pre .0) in
-    let f = lengths-known (length (s .args .keys .now)) (length (s .args .distances .now)) (length (s .args .weights .now)) (s .args .count .now) (k .lengths) in
-    settled (s .args .settings) (s .args .keys .now) (s .args .distances .now) (s .args .weights .now) (s .args .count .now) (s .pre .0) _ _ _ _ (at-own-rows .own-rows .kept .0) (at-load .load .kept .1 .1 .1 .1 .1 .0) (at-load .load .kept .1 .1 .1 .1 .1 .1 .0) (at-own-rows .own-rows .ensures .0) (at-own-rows .own-rows .ensures .1) (at-load .load .ensures) _ _ _ _ _ _ (at-fuse-run .fuse-run .ensures) (omega (arith, f)) _ _ _ (at-settle .settle .ensures)
+    let f =
+    lengths-known (length (s .args .keys .now)) (length (s .args .distances .now)) (length (s .args .weights .now))
+    (s .args .count .now) (k .lengths) in
+    settled (s .args .settings) (s .args .keys .now) (s .args .distances .now) (s .args .weights .now)
+    (s .args .count .now) (s .pre .0) _ _ _ _ (at-own-rows .own-rows .kept .0) (at-load .load .kept .1 .1 .1 .1 .1 .0)
+    (at-load .load .kept .1 .1 .1 .1 .1 .1 .0) (at-own-rows .own-rows .ensures .0) (at-own-rows .own-rows .ensures .1)
+    (at-load .load .ensures) _ _ _ _ _ _ (at-fuse-run .fuse-run .ensures) (omega (arith, f)) _ _ _
+    (at-settle .settle .ensures)
 
 pub batch-run-spec : {M : Type 1} → statement M
 batch-run-spec =

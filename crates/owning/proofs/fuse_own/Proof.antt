@@ -40,7 +40,9 @@ fuse-place-requires : tie.Need-fuse-place-requires
 fuse-place-requires c κs =
     let s = c .before .before .before .before .before .before .before .before .before .before .before .before .before in
     let o = own-told _ _ _ _ _ (c .before .before .before .before .before .own-place .ensures) (c .before .before .before .place .given .1) in
-    let f = (lengths-known (length (s .args .own-keys .now)) (length (s .args .own-distances .now)) (length (s .args .own-weights .now)) (s .args .own) (s .pre .1)) in
+    let f =
+    (lengths-known (length (s .args .own-keys .now)) (length (s .args .own-distances .now))
+    (length (s .args .own-weights .now)) (s .args .own) (s .pre .1)) in
     (omega (arith, o .0, f), omega (arith, f))
 
 returns : tie.Need-returns
@@ -72,7 +74,10 @@ returns-4 c =
     let o = own-told _ _ _ _ _ (at-own-place .own-place .ensures) (at-place .place .given .1) in
     let n = sym (at-admit .admit .ensures) ∙ at-near .near .given .1 in
     λ t added ready room.
-    near-left (s .args .settings) t (s .args .own-keys .now) (s .args .own-distances .now) (s .args .own-weights .now) (s .args .own) added ready _ (s .args .key) (o .0) (o .1) _ (near-known _ _ _ _ n .1) (row (s .args .key) (s .args .distance) (s .args .confidence)) refl n (s .args .spare) room _ _ _ (c .before .before .before .before .fuse-place .ensures)
+    near-left (s .args .settings) t (s .args .own-keys .now) (s .args .own-distances .now) (s .args .own-weights .now)
+    (s .args .own) added ready _ (s .args .key) (o .0) (o .1) _ (near-known _ _ _ _ n .1)
+    (row (s .args .key) (s .args .distance) (s .args .confidence)) refl n (s .args .spare) room _ _ _
+    (c .before .before .before .before .fuse-place .ensures)
 
 pub fuse-own-spec : {M : Type 1} → statement M
 fuse-own-spec =

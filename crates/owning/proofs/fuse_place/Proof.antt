@@ -43,8 +43,16 @@ within-requires c κs = search needs
 returns-2 : tie.Need-returns-2
 unfolding Placed
 returns-2 c =
-    let e = after _ _ _ _ _ _ _ (c .before .before .before .before .before .between .ensures) (c .before .before .before .old-voxel .ensures) (c .before .before .fused-voxel .ensures) in
-    (refl, refl, refl, ap (λ (v : Voxel). within million (v .distance)) (sym e) ∙ no (c .before .within .ensures) (c .if2 .taken), either _ _ _ (c .before .before .before .before .before .between .ensures) (c .before .before .before .before .if1 .left))
+    let e =
+    after _ _ _ _ _ _ _ (c .before .before .before .before .before .between .ensures)
+    (c .before .before .before .old-voxel .ensures) (c .before .before .fused-voxel .ensures) in (
+      refl,
+      refl,
+      refl,
+      ap (λ (v : Voxel). within million (v .distance)) (sym e) ∙ no (c .before .within .ensures) (c .if2 .taken),
+      either _ _ _ (c .before .before .before .before .before .between .ensures)
+          (c .before .before .before .before .if1 .left),
+    )
 
 mul-own-distances : tie.Need-mul-own-distances
 mul-own-distances c = search needs
@@ -69,8 +77,17 @@ unfolding Placed
 returns-3 c =
     let at-between = c .before .before .before .before .before .before in
     let s = c .before .before .before .before .before .before .before .before .before .before .before in
-    let e = after _ _ _ _ _ _ _ (at-between .between .ensures) (c .before .before .before .before .old-voxel .ensures) (c .before .before .before .fused-voxel .ensures) in
-    (sym (at-between .between .ensures) ∙ c .if3 .taken, (ap (λ (v : Voxel). within million (v .distance)) (sym e) ∙ yes (c .before .before .within .ensures) (c .before .if2 .left), ap (λ (v : Voxel). set (s .args .own-distances .now) (s .args .place) (v .distance)) e, ap (λ (v : Voxel). set (s .args .own-weights .now) (s .args .place) (v .weight)) e))
+    let e =
+    after _ _ _ _ _ _ _ (at-between .between .ensures) (c .before .before .before .before .old-voxel .ensures)
+    (c .before .before .before .fused-voxel .ensures) in (
+      sym (at-between .between .ensures) ∙ c .if3 .taken,
+      (
+        ap (λ (v : Voxel). within million (v .distance)) (sym e)
+            ∙ yes (c .before .before .within .ensures) (c .before .if2 .left),
+        ap (λ (v : Voxel). set (s .args .own-distances .now) (s .args .place) (v .distance)) e,
+        ap (λ (v : Voxel). set (s .args .own-weights .now) (s .args .place) (v .weight)) e,
+      ),
+    )
 
 same-length-3 : tie.Need-same-length-3
 same-length-3 c = search needs
@@ -83,8 +100,18 @@ unfolding Placed
 returns-4 c =
     let at-between = c .before .before .before .before .before .before in
     let s = c .before .before .before .before .before .before .before .before .before .before .before in
-    let e = after _ _ _ _ _ _ _ (at-between .between .ensures) (c .before .before .before .before .old-voxel .ensures) (c .before .before .before .fused-voxel .ensures) in
-    (sym (at-between .between .ensures) ∙ c .if3 .left, other _ _ (c .before .before .before .before .before .if1 .left) (c .if3 .left), (ap (λ (v : Voxel). within million (v .distance)) (sym e) ∙ yes (c .before .before .within .ensures) (c .before .if2 .left), ap (λ (v : Voxel). set (s .args .own-distances .now) (s .args .place) (v .distance)) e, ap (λ (v : Voxel). set (s .args .own-weights .now) (s .args .place) (v .weight)) e))
+    let e =
+    after _ _ _ _ _ _ _ (at-between .between .ensures) (c .before .before .before .before .old-voxel .ensures)
+    (c .before .before .before .fused-voxel .ensures) in (
+      sym (at-between .between .ensures) ∙ c .if3 .left,
+      other _ _ (c .before .before .before .before .before .if1 .left) (c .if3 .left),
+      (
+        ap (λ (v : Voxel). within million (v .distance)) (sym e)
+            ∙ yes (c .before .before .within .ensures) (c .before .if2 .left),
+        ap (λ (v : Voxel). set (s .args .own-distances .now) (s .args .place) (v .distance)) e,
+        ap (λ (v : Voxel). set (s .args .own-weights .now) (s .args .place) (v .weight)) e,
+      ),
+    )
 
 pub fuse-place-spec : {M : Type 1} → statement M
 fuse-place-spec =

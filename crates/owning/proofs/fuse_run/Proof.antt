@@ -16,10 +16,19 @@ use Rattle.owning.proofs.fuse_run.Statement.{statement}
 use Rattle.owning.proofs.fuse_run.Tie as tie
 
 abbrev Inv-loop : tie.InvT-loop
-Inv-loop settings own-keys own-distances₀ own-weights₀ own slots room batch-keys batch-distances batch-confidences from to added₀ i₀ own-distances own-weights added i = (from ≤ i) × (i ≤ to) × (added ≤ i) × (length own-distances ≡ length own-distances₀) × (length own-weights ≡ length own-weights₀) × Running settings own-keys own-distances₀ own-weights₀ own room (beside batch-keys batch-distances batch-confidences) from i added own-distances own-weights
+Inv-loop settings own-keys own-distances₀ own-weights₀ own slots room batch-keys batch-distances batch-confidences from
+    to added₀ i₀ own-distances own-weights added i =
+    (from ≤ i)
+    × (i ≤ to)
+    × (added ≤ i)
+    × (length own-distances ≡ length own-distances₀)
+    × (length own-weights ≡ length own-weights₀)
+    × Running settings own-keys own-distances₀ own-weights₀ own room
+    (beside batch-keys batch-distances batch-confidences) from i added own-distances own-weights
 
 abbrev μ-loop : tie.MeasureT-loop
-μ-loop settings own-keys own-distances₀ own-weights₀ own slots room batch-keys batch-distances batch-confidences from to added₀ i₀ own-distances own-weights added i = to - i
+μ-loop settings own-keys own-distances₀ own-weights₀ own slots room batch-keys batch-distances batch-confidences from to
+    added₀ i₀ own-distances own-weights added i = to - i
 
 loop-holds : tie.Need-loop-holds Inv-loop μ-loop
 loop-holds c =
@@ -83,10 +92,26 @@ loop-again c =
     let at-fuse-own = c .before .before .before .before .before .before in
     let at-loop-test = at-fuse-own .before .before .before .before .before .before .before in
     let at-loop = at-loop-test .before in
-    let s = c .before .before .before .before .before .before .before .before .before .before .before .before .before .before .before .before .before .before .before .before .before in
+    let s = c .before .before .before .before .before .before .before .before .before .before .before .before .before
+    .before .before .before .before .before .before .before .before in
     let l = at-loop .loop in
-    let h : l .i < length (s .args .batch-keys .now) = omega (arith, at-loop-test .loop-test .taken) in
-    (omega arith, omega (arith, at-loop-test .loop-test .taken), omega arith, at-fuse-own .fuse-own .kept .1 .1 .0 ∙ l .inv .3, at-fuse-own .fuse-own .kept .1 .1 .1 .0 ∙ l .inv .4, keeps (s .args .settings) (s .args .own-keys .now) (s .args .own-distances .now) (s .args .own-weights .now) (s .args .own) (s .args .room) (beside (s .args .batch-keys .now) (s .args .batch-distances .now) (s .args .batch-confidences .now)) (s .args .from) (l .i) (l .added) (l .own-distances) (l .own-weights) (l .inv .5) (row (getD (s .args .batch-keys .now) (l .i) 0) (getD (s .args .batch-distances .now) (l .i) nan) (getD (s .args .batch-confidences .now) (l .i) nan)) (beside-at (s .args .batch-keys .now) (s .args .batch-distances .now) (s .args .batch-confidences .now) (l .i) (s .pre .1 .1 .1 .0) (s .pre .1 .1 .1 .1) h) (ltb (l .added) (s .args .room)) (λ b. ltb-true (l .added) (s .args .room) b) _ _ (rw (c .enum-told .given .1) at (at-fuse-own .fuse-own .ensures)))
+    let h : l .i < length (s .args .batch-keys .now) = omega (arith, at-loop-test .loop-test .taken) in (
+      omega arith,
+      omega (arith, at-loop-test .loop-test .taken),
+      omega arith,
+      at-fuse-own .fuse-own .kept .1 .1 .0 ∙ l .inv .3,
+      at-fuse-own .fuse-own .kept .1 .1 .1 .0 ∙ l .inv .4,
+      keeps (s .args .settings) (s .args .own-keys .now) (s .args .own-distances .now) (s .args .own-weights .now)
+          (s .args .own) (s .args .room)
+          (beside (s .args .batch-keys .now) (s .args .batch-distances .now) (s .args .batch-confidences .now))
+          (s .args .from) (l .i) (l .added) (l .own-distances) (l .own-weights) (l .inv .5)
+          (row (getD (s .args .batch-keys .now) (l .i) 0) (getD (s .args .batch-distances .now) (l .i) nan)
+          (getD (s .args .batch-confidences .now) (l .i) nan))
+          (beside-at (s .args .batch-keys .now) (s .args .batch-distances .now) (s .args .batch-confidences .now) (l .i)
+          (s .pre .1 .1 .1 .0) (s .pre .1 .1 .1 .1) h) (ltb (l .added) (s .args .room))
+          (λ b. ltb-true (l .added) (s .args .room) b) _ _
+          (rw (c .enum-told .given .1) at (at-fuse-own .fuse-own .ensures)),
+    )
 
 enum-told-2 : tie.Need-enum-told-2 Inv-loop μ-loop
 enum-told-2 c = search needs
@@ -108,10 +133,26 @@ loop-again-2 c =
     let at-fuse-own = c .before .before .before .before .before .before in
     let at-loop-test = at-fuse-own .before .before .before .before .before .before .before in
     let at-loop = at-loop-test .before in
-    let s = c .before .before .before .before .before .before .before .before .before .before .before .before .before .before .before .before .before .before .before .before .before in
+    let s = c .before .before .before .before .before .before .before .before .before .before .before .before .before
+    .before .before .before .before .before .before .before .before in
     let l = at-loop .loop in
-    let h : l .i < length (s .args .batch-keys .now) = omega (arith, at-loop-test .loop-test .taken) in
-    (omega arith, omega (arith, at-loop-test .loop-test .taken), omega arith, at-fuse-own .fuse-own .kept .1 .1 .0 ∙ l .inv .3, at-fuse-own .fuse-own .kept .1 .1 .1 .0 ∙ l .inv .4, adds (s .args .settings) (s .args .own-keys .now) (s .args .own-distances .now) (s .args .own-weights .now) (s .args .own) (s .args .room) (beside (s .args .batch-keys .now) (s .args .batch-distances .now) (s .args .batch-confidences .now)) (s .args .from) (l .i) (l .added) (l .own-distances) (l .own-weights) (l .inv .5) (row (getD (s .args .batch-keys .now) (l .i) 0) (getD (s .args .batch-distances .now) (l .i) nan) (getD (s .args .batch-confidences .now) (l .i) nan)) (beside-at (s .args .batch-keys .now) (s .args .batch-distances .now) (s .args .batch-confidences .now) (l .i) (s .pre .1 .1 .1 .0) (s .pre .1 .1 .1 .1) h) (ltb (l .added) (s .args .room)) (λ b. ltb-true (l .added) (s .args .room) b) _ _ (rw (c .enum-told2 .given .1) at (at-fuse-own .fuse-own .ensures)))
+    let h : l .i < length (s .args .batch-keys .now) = omega (arith, at-loop-test .loop-test .taken) in (
+      omega arith,
+      omega (arith, at-loop-test .loop-test .taken),
+      omega arith,
+      at-fuse-own .fuse-own .kept .1 .1 .0 ∙ l .inv .3,
+      at-fuse-own .fuse-own .kept .1 .1 .1 .0 ∙ l .inv .4,
+      adds (s .args .settings) (s .args .own-keys .now) (s .args .own-distances .now) (s .args .own-weights .now)
+          (s .args .own) (s .args .room)
+          (beside (s .args .batch-keys .now) (s .args .batch-distances .now) (s .args .batch-confidences .now))
+          (s .args .from) (l .i) (l .added) (l .own-distances) (l .own-weights) (l .inv .5)
+          (row (getD (s .args .batch-keys .now) (l .i) 0) (getD (s .args .batch-distances .now) (l .i) nan)
+          (getD (s .args .batch-confidences .now) (l .i) nan))
+          (beside-at (s .args .batch-keys .now) (s .args .batch-distances .now) (s .args .batch-confidences .now) (l .i)
+          (s .pre .1 .1 .1 .0) (s .pre .1 .1 .1 .1) h) (ltb (l .added) (s .args .room))
+          (λ b. ltb-true (l .added) (s .args .room) b) _ _
+          (rw (c .enum-told2 .given .1) at (at-fuse-own .fuse-own .ensures)),
+    )
 
 enum-told-3 : tie.Need-enum-told-3 Inv-loop μ-loop
 enum-told-3 c = search needs
@@ -135,10 +176,22 @@ returns c =
     let at-fuse-own = c .before .before .before .before .before .before in
     let at-loop-test = at-fuse-own .before .before .before .before .before .before .before in
     let at-loop = at-loop-test .before in
-    let s = c .before .before .before .before .before .before .before .before .before .before .before .before .before .before .before .before .before .before .before .before .before in
+    let s = c .before .before .before .before .before .before .before .before .before .before .before .before .before
+    .before .before .before .before .before .before .before .before in
     let l = at-loop .loop in
     let h : l .i < length (s .args .batch-keys .now) = omega (arith, at-loop-test .loop-test .taken) in
-    stays (s .args .settings) (s .args .own-keys .now) (s .args .own-distances .now) (s .args .own-weights .now) (s .args .own) (s .args .room) (beside (s .args .batch-keys .now) (s .args .batch-distances .now) (s .args .batch-confidences .now)) (s .args .from) (l .i) (l .added) (l .own-distances) (l .own-weights) (l .inv .5) (row (getD (s .args .batch-keys .now) (l .i) 0) (getD (s .args .batch-distances .now) (l .i) nan) (getD (s .args .batch-confidences .now) (l .i) nan)) (beside-at (s .args .batch-keys .now) (s .args .batch-distances .now) (s .args .batch-confidences .now) (l .i) (s .pre .1 .1 .1 .0) (s .pre .1 .1 .1 .1) h) (ltb (l .added) (s .args .room)) (λ b. ltb-true (l .added) (s .args .room) b) _ _ (omega arith) (rw (beside-length (s .args .batch-keys .now) (s .args .batch-distances .now) (s .args .batch-confidences .now) (s .pre .1 .1 .1 .0) (s .pre .1 .1 .1 .1)) (omega arith)) (rw (c .enum-told3 .given .1) at (at-fuse-own .fuse-own .ensures))
+    stays (s .args .settings) (s .args .own-keys .now) (s .args .own-distances .now) (s .args .own-weights .now)
+    (s .args .own) (s .args .room)
+    (beside (s .args .batch-keys .now) (s .args .batch-distances .now) (s .args .batch-confidences .now))
+    (s .args .from) (l .i) (l .added) (l .own-distances) (l .own-weights) (l .inv .5)
+    (row (getD (s .args .batch-keys .now) (l .i) 0) (getD (s .args .batch-distances .now) (l .i) nan)
+    (getD (s .args .batch-confidences .now) (l .i) nan))
+    (beside-at (s .args .batch-keys .now) (s .args .batch-distances .now) (s .args .batch-confidences .now) (l .i)
+    (s .pre .1 .1 .1 .0) (s .pre .1 .1 .1 .1) h) (ltb (l .added) (s .args .room))
+    (λ b. ltb-true (l .added) (s .args .room) b) _ _ (omega arith)
+    (rw (beside-length (s .args .batch-keys .now) (s .args .batch-distances .now) (s .args .batch-confidences .now)
+    (s .pre .1 .1 .1 .0) (s .pre .1 .1 .1 .1)) (omega arith))
+    (rw (c .enum-told3 .given .1) at (at-fuse-own .fuse-own .ensures))
 
 enum-known-step : tie.Need-enum-known-step Inv-loop μ-loop
 enum-known-step c = search needs
@@ -162,10 +215,20 @@ returns-2 c =
     let at-fuse-own = c .before .before .before .before .before .before .before in
     let at-loop-test = at-fuse-own .before .before .before .before .before .before .before in
     let at-loop = at-loop-test .before in
-    let s = c .before .before .before .before .before .before .before .before .before .before .before .before .before .before .before .before .before .before .before .before .before .before in
+    let s = c .before .before .before .before .before .before .before .before .before .before .before .before .before
+    .before .before .before .before .before .before .before .before .before in
     let l = at-loop .loop in
     let h : l .i < length (s .args .batch-keys .now) = omega (arith, at-loop-test .loop-test .taken) in
-    refuses (s .args .settings) (s .args .own-keys .now) (s .args .own-distances .now) (s .args .own-weights .now) (s .args .own) (s .args .room) (beside (s .args .batch-keys .now) (s .args .batch-distances .now) (s .args .batch-confidences .now)) (s .args .from) (l .i) (l .added) (l .own-distances) (l .own-weights) (l .inv .5) (row (getD (s .args .batch-keys .now) (l .i) 0) (getD (s .args .batch-distances .now) (l .i) nan) (getD (s .args .batch-confidences .now) (l .i) nan)) (beside-at (s .args .batch-keys .now) (s .args .batch-distances .now) (s .args .batch-confidences .now) (l .i) (s .pre .1 .1 .1 .0) (s .pre .1 .1 .1 .1) h) (ltb (l .added) (s .args .room)) (λ b. ltb-true (l .added) (s .args .room) b) _ _ _ (rw (c .before .step .given .1) at (at-fuse-own .fuse-own .ensures))
+    refuses (s .args .settings) (s .args .own-keys .now) (s .args .own-distances .now) (s .args .own-weights .now)
+    (s .args .own) (s .args .room)
+    (beside (s .args .batch-keys .now) (s .args .batch-distances .now) (s .args .batch-confidences .now))
+    (s .args .from) (l .i) (l .added) (l .own-distances) (l .own-weights) (l .inv .5)
+    (row (getD (s .args .batch-keys .now) (l .i) 0) (getD (s .args .batch-distances .now) (l .i) nan)
+    (getD (s .args .batch-confidences .now) (l .i) nan))
+    (beside-at (s .args .batch-keys .now) (s .args .batch-distances .now) (s .args .batch-confidences .now) (l .i)
+    (s .pre .1 .1 .1 .0) (s .pre .1 .1 .1 .1) h) (ltb (l .added) (s .args .room))
+    (λ b. ltb-true (l .added) (s .args .room) b) _ _ _
+    (rw (c .before .step .given .1) at (at-fuse-own .fuse-own .ensures))
 
 same-length-5 : tie.Need-same-length-5 Inv-loop μ-loop
 same-length-5 c =
@@ -179,7 +242,12 @@ returns-3 : tie.Need-returns-3 Inv-loop μ-loop
 returns-3 c =
     let s = c .before .before .before .before .before .before .before .before in
     let l = c .before .loop in
-    ends (s .args .settings) (s .args .own-keys .now) (s .args .own-distances .now) (s .args .own-weights .now) (s .args .own) (s .args .room) (beside (s .args .batch-keys .now) (s .args .batch-distances .now) (s .args .batch-confidences .now)) (s .args .from) (l .i) (l .added) (l .own-distances) (l .own-weights) (l .inv .5) (omega arith) (rw (beside-length (s .args .batch-keys .now) (s .args .batch-distances .now) (s .args .batch-confidences .now) (s .pre .1 .1 .1 .0) (s .pre .1 .1 .1 .1)) (omega arith))
+    ends (s .args .settings) (s .args .own-keys .now) (s .args .own-distances .now) (s .args .own-weights .now)
+    (s .args .own) (s .args .room)
+    (beside (s .args .batch-keys .now) (s .args .batch-distances .now) (s .args .batch-confidences .now))
+    (s .args .from) (l .i) (l .added) (l .own-distances) (l .own-weights) (l .inv .5) (omega arith)
+    (rw (beside-length (s .args .batch-keys .now) (s .args .batch-distances .now) (s .args .batch-confidences .now)
+    (s .pre .1 .1 .1 .0) (s .pre .1 .1 .1 .1)) (omega arith))
 
 pub fuse-run-spec : {M : Type 1} → statement M
 fuse-run-spec =

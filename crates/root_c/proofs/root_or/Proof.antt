@@ -16,10 +16,13 @@ enum-told : tie.Need-enum-told
 enum-told c = search needs
 
 returns : tie.Need-returns
-returns c = let s = c .before .before .before .before .args in sym (ap (λ (a : Rooted). rootOr a (s .other)) (sym (c .before .before .before .root .ensures) ∙ c .before .r .given .1))
+returns c = let s = c .before .before .before .before .args in
+    sym (ap (λ (a : Rooted). rootOr a (s .other))
+    (sym (c .before .before .before .root .ensures) ∙ c .before .r .given .1))
 
 returns-2 : tie.Need-returns-2
-returns-2 c = let s = c .before .before .before .args in sym (ap (λ (a : Rooted). rootOr a (s .other)) (sym (c .before .before .root .ensures) ∙ c .enum-told .given .1))
+returns-2 c = let s = c .before .before .before .args in
+    sym (ap (λ (a : Rooted). rootOr a (s .other)) (sym (c .before .before .root .ensures) ∙ c .enum-told .given .1))
 
 pub root-or-spec : {M : Type 1} → statement M
 root-or-spec = tie.close (tie.spec root-requires enum-known-r enum-told returns returns-2)

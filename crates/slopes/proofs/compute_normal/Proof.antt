@@ -16,7 +16,13 @@ use Rattle.slopes.proofs.compute_normal.Tie as tie
 
 abbrev Inv-loop : tie.InvT-loop
 Inv-loop keys distances count voxel-size key d list n sum₀ i₀ sum i =
-    (list ≡ padded 0 14 (neighbours key)) × (n ≡ length (neighbours key)) × (n ≤ 14) × (i ≤ n) × (sum .count ≤ i) × (slopesFrom (distanceBy keys distances count) (voxel-size .0) key d noSlopes (neighbours key) ≡ slopesFrom (distanceBy keys distances count) (voxel-size .0) key d sum (drop i (neighbours key)))
+    (list ≡ padded 0 14 (neighbours key))
+    × (n ≡ length (neighbours key))
+    × (n ≤ 14)
+    × (i ≤ n)
+    × (sum .count ≤ i)
+    × (slopesFrom (distanceBy keys distances count) (voxel-size .0) key d noSlopes (neighbours key)
+    ≡ slopesFrom (distanceBy keys distances count) (voxel-size .0) key d sum (drop i (neighbours key)))
 
 abbrev μ-loop : tie.MeasureT-loop
 μ-loop keys distances count voxel-size key d list n sum₀ i₀ sum i = n - i

@@ -38,7 +38,8 @@ returns-2 : tie.Need-returns-2
 returns-2 c =
     let at-step-of2 = c .before .before .before .before .before .before in
     let k = c .before .before .before .before .before .before .before .before .before in
-    slopes-stored _ _ _ _ _ _ _ _ _ _ _ _ (k .before .before .before .before .stored .given .1) (k .before .before .morton-decode .ensures) (k .before .morton-decode2 .ensures)
+    slopes-stored _ _ _ _ _ _ _ _ _ _ _ _ (k .before .before .before .before .stored .given .1)
+    (k .before .before .morton-decode .ensures) (k .before .morton-decode2 .ensures)
     (k .step-of .ensures) (at-step-of2 .step-of2 .ensures) (c .before .before .before .step-of3 .ensures)
 
 pub slopes-with-spec : {M : Type 1} → statement M

@@ -25,7 +25,13 @@ returns : tie.Need-returns
 unfolding vertexAt
 returns c =
     let d = c .before .before .before .before in
-    c .vertex-of .ensures ∙ rw (c .before .before .before .or-zero .ensures, c .before .or-zero2 .ensures, d .distance-of .ensures, c .before .before .distance-of2 .ensures)
+    c .vertex-of .ensures
+    ∙ rw (
+      c .before .before .before .or-zero .ensures,
+      c .before .or-zero2 .ensures,
+      d .distance-of .ensures,
+      c .before .before .distance-of2 .ensures,
+    )
 
 pub vertex-at-spec : {M : Type 1} → statement M
 vertex-at-spec =

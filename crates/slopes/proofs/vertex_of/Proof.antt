@@ -26,7 +26,8 @@ place-of-requires-3 c κs = search needs
 returns : tie.Need-returns
 returns c =
     let p = c .before .before .before .before .before in
-    vertex-is _ _ _ _ _ _ _ _ _ _ _ (p .part-of .ensures) (c .before .before .before .before .morton-decode .ensures) (c .before .before .before .morton-decode2 .ensures)
+    vertex-is _ _ _ _ _ _ _ _ _ _ _ (p .part-of .ensures) (c .before .before .before .before .morton-decode .ensures)
+    (c .before .before .before .morton-decode2 .ensures)
     (c .before .before .place-of .ensures) (c .before .place-of2 .ensures) (c .place-of3 .ensures)
 
 pub vertex-of-spec : {M : Type 1} → statement M

@@ -20,7 +20,9 @@ length-requires c κs = search needs
 
 returns : tie.Need-returns
 unfolding ofBits
-returns c = area-is _ _ _ _ _ _ _ (c .before .before .before .arrow-of .ensures) (c .before .before .arrow-of2 .ensures) (c .before .cross-of .ensures) (c .length .ensures)
+returns c =
+    area-is _ _ _ _ _ _ _ (c .before .before .before .arrow-of .ensures) (c .before .before .arrow-of2 .ensures)
+    (c .before .cross-of .ensures) (c .length .ensures)
 
 pub area-between-spec : {M : Type 1} → statement M
 area-between-spec =

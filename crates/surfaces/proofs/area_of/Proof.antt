@@ -123,7 +123,11 @@ loop-again c =
     let v = l .loop .inv in (
       omega arith,
       others-pass triangle 0 _ _ _ _ (s .pre .1 .0) _ (triangleOk (s .args .vertices)) h (v .1),
-      v .2 ∙ area-more _ _ _ _ (s .pre .0) _ _ _ _ (s .pre .1 .0) (l .loop .i) h (v .1) _ _ _ _ _ _ (c .before .before .before .before .before .vertex-at .ensures) (c .before .before .before .vertex-at2 .ensures) (c .before .vertex-at3 .ensures) (c .area-between .ensures) refl,
+      v .2
+          ∙ area-more _ _ _ _ (s .pre .0) _ _ _ _ (s .pre .1 .0) (l .loop .i) h (v .1) _ _ _ _ _ _
+          (c .before .before .before .before .before .vertex-at .ensures)
+          (c .before .before .before .vertex-at2 .ensures) (c .before .vertex-at3 .ensures) (c .area-between .ensures)
+          refl,
     )
 
 returns : tie.Need-returns Inv-loop μ-loop

@@ -26,7 +26,12 @@ box-of-requires c κs = lent _ _ _ _ (yes (c .before .before .before .set-ok .en
 
 returns-3 : tie.Need-returns-3
 unfolding boxAnswer
-returns-3 c = rw (yes (c .before .before .before .before .set-ok .ensures) (c .before .before .before .if1 .left), yes (c .before .before .vertices-ok .ensures) (c .before .if2 .left), c .box-of .ensures)
+returns-3 c =
+    rw (
+      yes (c .before .before .before .before .set-ok .ensures) (c .before .before .before .if1 .left),
+      yes (c .before .before .vertices-ok .ensures) (c .before .if2 .left),
+      c .box-of .ensures,
+    )
 
 pub bounding-box-spec : {M : Type 1} → statement M
 bounding-box-spec =

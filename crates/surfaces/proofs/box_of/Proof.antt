@@ -53,8 +53,12 @@ loop-less c = search needs
 loop-again : tie.Need-loop-again Inv-loop μ-loop
 loop-again c =
     let l = c .before .before .before .before in
-    let s = c .before .before .before .before .before .before .before .before .before .before in
-    (omega arith, l .loop .inv .1 ∙ box-more _ _ _ _ (s .pre) (l .loop .i) (c .before .before .before .loop-test .taken) _ _ _ _ _ (c .before .before .vertex-at2 .ensures) (c .before .lower-of .ensures) (c .upper-of .ensures))
+    let s = c .before .before .before .before .before .before .before .before .before .before in (
+      omega arith,
+      l .loop .inv .1
+          ∙ box-more _ _ _ _ (s .pre) (l .loop .i) (c .before .before .before .loop-test .taken) _ _ _ _ _
+          (c .before .before .vertex-at2 .ensures) (c .before .lower-of .ensures) (c .upper-of .ensures),
+    )
 
 returns-2 : tie.Need-returns-2 Inv-loop μ-loop
 returns-2 c =

@@ -37,7 +37,12 @@ triangles-ok-requires c κs = sets-lent (c .before) .1
 
 returns-2 : tie.Need-returns-2
 unfolding areaAnswer
-returns-2 c = rw (yes (and-eq (c .before .before .before .before .before .set-ok .ensures) (c .before .before .before .before .set-ok2 .ensures)) (c .before .before .before .if1 .left), no (and-eq (c .before .before .vertices-ok .ensures) (c .before .triangles-ok .ensures)) (c .if2 .taken))
+returns-2 c =
+    rw (
+      yes (and-eq (c .before .before .before .before .before .set-ok .ensures)
+          (c .before .before .before .before .set-ok2 .ensures)) (c .before .before .before .if1 .left),
+      no (and-eq (c .before .before .vertices-ok .ensures) (c .before .triangles-ok .ensures)) (c .if2 .taken),
+    )
 
 area-of-requires : tie.Need-area-of-requires
 area-of-requires c κs =
@@ -51,7 +56,13 @@ returns-3 : tie.Need-returns-3
 unfolding areaAnswer
 returns-3 c =
     let at-set-ok = c .before .before .before .before .before .before in
-    rw (yes (and-eq (at-set-ok .set-ok .ensures) (c .before .before .before .before .before .set-ok2 .ensures)) (c .before .before .before .before .if1 .left), yes (and-eq (c .before .before .before .vertices-ok .ensures) (c .before .before .triangles-ok .ensures)) (c .before .if2 .left), c .area-of .ensures)
+    rw (
+      yes (and-eq (at-set-ok .set-ok .ensures) (c .before .before .before .before .before .set-ok2 .ensures))
+          (c .before .before .before .before .if1 .left),
+      yes (and-eq (c .before .before .before .vertices-ok .ensures) (c .before .before .triangles-ok .ensures))
+          (c .before .if2 .left),
+      c .area-of .ensures,
+    )
 
 pub surface-area-spec : {M : Type 1} → statement M
 surface-area-spec =

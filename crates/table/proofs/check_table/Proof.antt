@@ -36,14 +36,22 @@ unfolding tableCheck need
 returns-3 c =
     let e = c .before .before .before in
     let b = e .before .before in
-    rw (yes (b .before .settings-ok .ensures) (b .if1 .left), yes (e .before .lengths-ok .ensures) (e .if2 .left), no (and-eq (c .before .before .rows-ok .ensures) (c .before .keys-ascend .ensures)) (c .if3 .taken))
+    rw (
+      yes (b .before .settings-ok .ensures) (b .if1 .left),
+      yes (e .before .lengths-ok .ensures) (e .if2 .left),
+      no (and-eq (c .before .before .rows-ok .ensures) (c .before .keys-ascend .ensures)) (c .if3 .taken),
+    )
 
 returns-4 : tie.Need-returns-4
 unfolding tableCheck need
 returns-4 c =
     let e = c .before .before .before in
     let b = e .before .before in
-    rw (yes (b .before .settings-ok .ensures) (b .if1 .left), yes (e .before .lengths-ok .ensures) (e .if2 .left), yes (and-eq (c .before .before .rows-ok .ensures) (c .before .keys-ascend .ensures)) (c .if3 .left))
+    rw (
+      yes (b .before .settings-ok .ensures) (b .if1 .left),
+      yes (e .before .lengths-ok .ensures) (e .if2 .left),
+      yes (and-eq (c .before .before .rows-ok .ensures) (c .before .keys-ascend .ensures)) (c .if3 .left),
+    )
 
 pub check-table-spec : {M : Type 1} → statement M
 check-table-spec =

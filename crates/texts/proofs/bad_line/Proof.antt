@@ -23,7 +23,11 @@ same-length c = search needs
 
 returns : tie.Need-returns
 unfolding badLine
-returns c = whole (more (c .before .before .before .before .before .before .before .before .before .before .put-text .ensures) (more (c .before .before .before .before .before .before .put-decimal .ensures .0) (c .before .before .put .ensures)))
+returns c =
+    let at-put-text = c .before .before .before .before .before .before .before .before .before .before in
+    whole (more (at-put-text .put-text .ensures)
+    (more (c .before .before .before .before .before .before .put-decimal .ensures .0)
+    (c .before .before .put .ensures)))
 
 pub bad-line-spec : {M : Type 1} → statement M
 bad-line-spec =

@@ -41,7 +41,19 @@ same-length c = search needs
 
 returns : tie.Need-returns
 unfolding countsLine
-returns c = whole (more (c .before .before .before .before .before .before .before .before .before .before .before .before .before .before .before .before .before .before .before .before .before .before .before .before .before .before .before .before .put-text .ensures) (more (c .before .before .before .before .before .before .before .before .before .before .before .before .before .before .before .before .before .before .before .before .before .before .before .before .put-decimal .ensures .0) (more (c .before .before .before .before .before .before .before .before .before .before .before .before .before .before .before .before .before .before .before .put-text2 .ensures) (more (c .before .before .before .before .before .before .before .before .before .before .before .before .before .before .before .put-decimal2 .ensures .0) (more (c .before .before .before .before .before .before .before .before .before .before .put-text3 .ensures) (more (c .before .before .before .before .before .before .put-decimal3 .ensures .0) (c .before .before .put .ensures)))))))
+returns c =
+    let at-put-text3 = c .before .before .before .before .before .before .before .before .before .before in
+    let at-put-decimal2 = at-put-text3 .before .before .before .before .before in
+    let at-put-text2 = at-put-decimal2 .before .before .before .before in
+    let at-put-decimal = at-put-text2 .before .before .before .before .before in
+    let at-put-text = at-put-decimal .before .before .before .before in
+    whole (more (at-put-text .put-text .ensures)
+    (more (at-put-decimal .put-decimal .ensures .0)
+    (more (at-put-text2 .put-text2 .ensures)
+    (more (at-put-decimal2 .put-decimal2 .ensures .0)
+    (more (at-put-text3 .put-text3 .ensures)
+    (more (c .before .before .before .before .before .before .put-decimal3 .ensures .0)
+    (c .before .before .put .ensures)))))))
 
 pub counts-line-spec : {M : Type 1} → statement M
 counts-line-spec =

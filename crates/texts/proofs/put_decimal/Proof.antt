@@ -67,7 +67,9 @@ same-length c = search needs
 returns : tie.Need-returns Inv-loop μ-loop
 returns c =
     let l = c .before .before .before .before .before .before .before in
-    digits-wrote (l .before .before .args .number) (l .loop .digits) (l .loop .start) (l .loop .rest) (c .before .before .before .before .before .before .loop-test .left) (l .loop .inv) (c .before .before .put-text .ensures)
+    digits-wrote (l .before .before .args .number) (l .loop .digits) (l .loop .start) (l .loop .rest)
+    (c .before .before .before .before .before .before .loop-test .left) (l .loop .inv)
+    (c .before .before .put-text .ensures)
 
 pub put-decimal-spec : {M : Type 1} → statement M
 put-decimal-spec =

@@ -36,8 +36,11 @@ loop-less c = search needs
 
 loop-again : tie.Need-loop-again Inv-loop μ-loop
 loop-again c =
-    let b = c .before .before .before .before .before .before in
-    (search needs, text-more _ _ _ (b .loop .i) (c .before .before .before .before .before .loop-test .taken) (b .loop .inv .1) (c .before .before .put .ensures))
+    let b = c .before .before .before .before .before .before in (
+      search needs,
+      text-more _ _ _ (b .loop .i) (c .before .before .before .before .before .loop-test .taken) (b .loop .inv .1)
+          (c .before .before .put .ensures),
+    )
 
 add-result : tie.Need-add-result Inv-loop μ-loop
 add-result c = search needs

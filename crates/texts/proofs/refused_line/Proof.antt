@@ -29,7 +29,12 @@ same-length c = search needs
 
 returns : tie.Need-returns
 unfolding refusedLine
-returns c = rw (← (c .before .before .before .before .before .before .before .number .ensures)) (whole (more (c .before .before .before .before .before .before .before .before .before .before .before .put-text .ensures) (more (c .before .before .before .before .before .before .put-decimal .ensures .0) (c .before .before .put .ensures))))
+returns c =
+    let at-put-text = c .before .before .before .before .before .before .before .before .before .before .before in
+    rw (← (c .before .before .before .before .before .before .before .number .ensures))
+    (whole (more (at-put-text .put-text .ensures)
+    (more (c .before .before .before .before .before .before .put-decimal .ensures .0)
+    (c .before .before .put .ensures))))
 
 pub refused-line-spec : {M : Type 1} → statement M
 refused-line-spec =

@@ -22,25 +22,66 @@ bits-of-requires-2 c κs = search needs
 
 put-word-requires-2 : tie.Need-put-word-requires-2
 unfolding hexField hexDigits
-put-word-requires-2 c κs = omega (arith, c .before .before .before .before .put-word .ensures .ends, c .before .before .before .before .before .before .before .before .before .put .ensures .ends, c .before .before .before .before .before .before .before .before .before .before .before .if1 .taken, c .before .before .before .before .before .before .before .before .before .before .before .before .before .good .0 .1)
+put-word-requires-2 c κs =
+    let at-put = c .before .before .before .before .before .before .before .before .before in
+    let at-if1 = at-put .before .before in
+    let at-good = at-if1 .before .before in
+    omega (arith, c .before .before .before .before .put-word .ensures .ends, at-put .put .ensures .ends, at-if1 .if1 .taken, at-good .good .0 .1)
 
 bits-of-requires-3 : tie.Need-bits-of-requires-3
 bits-of-requires-3 c κs = search needs
 
 put-word-requires-3 : tie.Need-put-word-requires-3
 unfolding hexField hexDigits
-put-word-requires-3 c κs = omega (arith, c .before .before .before .before .put-word2 .ensures .ends, c .before .before .before .before .before .before .before .before .before .put-word .ensures .ends, c .before .before .before .before .before .before .before .before .before .before .before .before .before .before .put .ensures .ends, c .before .before .before .before .before .before .before .before .before .before .before .before .before .before .before .before .if1 .taken, c .before .before .before .before .before .before .before .before .before .before .before .before .before .before .before .before .before .before .good .0 .1)
+put-word-requires-3 c κs =
+    let at-put-word = c .before .before .before .before .before .before .before .before .before in
+    let at-put = at-put-word .before .before .before .before .before in
+    let at-if1 = at-put .before .before in
+    let at-good = at-if1 .before .before in
+    omega (
+      arith,
+      c .before .before .before .before .put-word2 .ensures .ends,
+      at-put-word .put-word .ensures .ends,
+      at-put .put .ensures .ends,
+      at-if1 .if1 .taken,
+      at-good .good .0 .1,
+    )
 
 put-requires-2 : tie.Need-put-requires-2
 unfolding hexField hexDigits
-put-requires-2 c κs = omega (arith, c .before .before .before .put-word3 .ensures .ends, c .before .before .before .before .before .before .before .before .put-word2 .ensures .ends, c .before .before .before .before .before .before .before .before .before .before .before .before .before .put-word .ensures .ends, c .before .before .before .before .before .before .before .before .before .before .before .before .before .before .before .before .before .before .put .ensures .ends, c .before .before .before .before .before .before .before .before .before .before .before .before .before .before .before .before .before .before .before .before .if1 .taken, c .before .before .before .before .before .before .before .before .before .before .before .before .before .before .before .before .before .before .before .before .before .before .good .0 .1)
+put-requires-2 c κs =
+    let at-put-word2 = c .before .before .before .before .before .before .before .before in
+    let at-put-word = at-put-word2 .before .before .before .before .before in
+    let at-put = at-put-word .before .before .before .before .before in
+    let at-if1 = at-put .before .before in
+    let at-good = at-if1 .before .before in
+    omega (
+      arith,
+      c .before .before .before .put-word3 .ensures .ends,
+      at-put-word2 .put-word2 .ensures .ends,
+      at-put-word .put-word .ensures .ends,
+      at-put .put .ensures .ends,
+      at-if1 .if1 .taken,
+      at-good .good .0 .1,
+    )
 
 same-length : tie.Need-same-length
 same-length c = search needs
 
 returns : tie.Need-returns
 unfolding vertexLine
-returns c = (more (c .before .before .before .before .before .before .before .before .before .before .before .before .before .before .before .before .before .before .before .before .before .put .ensures) (more (word-as (c .before .before .before .before .before .before .before .before .before .before .before .before .before .before .before .before .put-word .ensures) (c .before .before .before .before .before .before .before .before .before .before .before .before .before .before .before .before .before .bits-of .ensures)) (more (word-as (c .before .before .before .before .before .before .before .before .before .before .before .put-word2 .ensures) (c .before .before .before .before .before .before .before .before .before .before .before .before .bits-of2 .ensures)) (more (word-as (c .before .before .before .before .before .before .put-word3 .ensures) (c .before .before .before .before .before .before .before .bits-of3 .ensures)) (c .before .before .put2 .ensures))))) .list
+returns c =
+    let at-put-word2 = c .before .before .before .before .before .before .before .before .before .before .before in
+    let at-bits-of2 = at-put-word2 .before in
+    let at-put-word = at-bits-of2 .before .before .before .before in
+    let at-bits-of = at-put-word .before in
+    let at-put = at-bits-of .before .before .before .before in
+    (more (at-put .put .ensures)
+    (more (word-as (at-put-word .put-word .ensures) (at-bits-of .bits-of .ensures))
+    (more (word-as (at-put-word2 .put-word2 .ensures) (at-bits-of2 .bits-of2 .ensures))
+    (more (word-as (c .before .before .before .before .before .before .put-word3 .ensures)
+    (c .before .before .before .before .before .before .before .bits-of3 .ensures))
+    (c .before .before .put2 .ensures))))) .list
 
 returns-2 : tie.Need-returns-2
 returns-2 c =

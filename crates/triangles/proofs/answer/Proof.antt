@@ -18,7 +18,9 @@ room-for-requires : tie.Need-room-for-requires
 room-for-requires c κs = search needs
 
 returns-3 : tie.Need-returns-3
-returns-3 c = let e : c .before .before .before .before .args .ok ≡ true = yes refl (c .before .before .before .if1 .left) in rw (e, le-leb _ _ (c .before .if2 .left)) (c .room-for .ensures)
+returns-3 c = let e : c .before .before .before .before .args .ok ≡ true =
+    yes refl (c .before .before .before .if1 .left) in
+    rw (e, le-leb _ _ (c .before .if2 .left)) (c .room-for .ensures)
 
 pub answer-spec : {M : Type 1} → statement M
 answer-spec = tie.close (tie.spec returns returns-2 room-for-requires returns-3)

@@ -13,7 +13,14 @@ rows-taken-requires : tie.Need-rows-taken-requires
 rows-taken-requires c κs = search needs
 
 fill-requires : tie.Need-fill-requires
-fill-requires c κs = let a = c .before .before .before .before .before .before .before .before .before .before .before .before .before .args in ready-known (a .keys .now) (a .rows) (length (a .first .now)) (length (a .second .now)) (a .edges) (length (a .groups .now)) (a .t0 .now) (a .t1 .now) (a .t2 .now) (c .before .before .before .before .before .lengths-ok .result) (c .before .before .before .before .rows-taken .result) (c .before .before .before .before .before .lengths-ok .ensures) (c .before .before .before .before .rows-taken .ensures)
+fill-requires c κs = let a = c .before .before .before .before .before .before .before .before .before .before .before
+    .before .before .args in
+    ready-known (a .keys .now) (a .rows) (length (a .first .now)) (length (a .second .now)) (a .edges)
+    (length (a .groups .now)) (a .t0 .now) (a .t1 .now) (a .t2 .now)
+    (c .before .before .before .before .before .lengths-ok .result)
+    (c .before .before .before .before .rows-taken .result)
+    (c .before .before .before .before .before .lengths-ok .ensures)
+    (c .before .before .before .before .rows-taken .ensures)
 
 answer-requires : tie.Need-answer-requires
 answer-requires c κs = search needs
@@ -50,17 +57,57 @@ same-length-4 c = search needs
 
 returns : tie.Need-returns
 returns c =
-    let a = c .before .before .before .before .before .before .before .before .before .before .before .before .before .before .before .before .before .before .before .before .before .before .before .before .before .before .before .before .before .before .before .before .before .before .before .before .before .before .before .before .before .args in
-    let f = c .before .before .before .before .before .before .before .before .before .before .before .before .before .before .before .before .before .before .before .before .before .before .before .before .before .before .before .fill .ensures in
-    let l = c .before .before .before .before .before .before .before .before .before .before .before .before .before .before .before .before .before .before .before .before .before .before .before .before .before .before .before .fill .last .1 .1 .1 .1 .1 in (
-      built-answer (a .keys .now) (a .rows) (a .first .now) (a .second .now) (a .edges) (a .groups .now) (a .t0 .now) (a .t1 .now) (a .t2 .now) (c .before .before .before .before .before .before .before .before .before .before .before .before .before .before .before .before .before .before .before .before .before .before .before .before .before .before .before .before .before .before .before .before .before .lengths-ok .result) (c .before .before .before .before .before .before .before .before .before .before .before .before .before .before .before .before .before .before .before .before .before .before .before .before .before .before .before .before .before .before .before .before .rows-taken .result) (c .before .before .before .before .before .before .before .before .before .before .before .before .before .before .before .before .before .before .before .before .before .before .before .before .before .before .before .fill .result) (c .before .before .before .before .before .before .before .before .before .before .before .before .before .before .before .before .before .before .answer .result) (l .0) (l .1 .0) (l .1 .1 .0) (l .1 .1 .1 .0) (c .before .before .before .before .before .before .before .before .before .before .before .before .before .before .before .before .before .before .before .before .before .before .before .before .before .before .before .before .before .before .before .before .before .lengths-ok .ensures) (c .before .before .before .before .before .before .before .before .before .before .before .before .before .before .before .before .before .before .before .before .before .before .before .before .before .before .before .before .before .before .before .before .rows-taken .ensures) (f .0) (f .1 .0) (f .1 .1 .0) (f .1 .1 .1 .0) (f .1 .1 .1 .1) (c .before .before .before .before .before .before .before .before .before .before .before .before .before .before .before .before .before .before .answer .ensures),
+    let at-clear-from-u322 = c .before .before .before .before .before .before .before .before .before .before in
+    let at-clear-from-u32 = at-clear-from-u322 .before .before .before .before in
+    let at-count-of = at-clear-from-u32 .before .before in
+    let at-kept = at-count-of .before in
+    let at-answer = at-kept .before in
+    let at-fill = at-answer .before .before .before .before .before .before .before .before .before in
+    let at-rows-taken = at-fill .before .before .before .before .before in
+    let at-lengths-ok = at-rows-taken .before in
+    let a = c .before .before .before .before .before .before .before .before .before .before .before .before .before
+    .before .before .before .before .before .before .before .before .before .before .before .before .before
+    .before .before .before .before .before .before .before .before .before .before .before .before .before
+    .before .before .args in
+    let f = c .before .before .before .before .before .before .before .before .before .before .before .before .before
+    .before .before .before .before .before .before .before .before .before .before .before .before .before
+    .before .fill .ensures in
+    let l = c .before .before .before .before .before .before .before .before .before .before .before .before .before
+    .before .before .before .before .before .before .before .before .before .before .before .before .before
+    .before .fill .last .1 .1 .1 .1 .1 in (
+      built-answer (a .keys .now) (a .rows) (a .first .now) (a .second .now) (a .edges) (a .groups .now) (a .t0 .now)
+          (a .t1 .now) (a .t2 .now) (at-lengths-ok .lengths-ok .result) (at-rows-taken .rows-taken .result)
+          (at-fill .fill .result) (at-answer .answer .result) (l .0) (l .1 .0) (l .1 .1 .0) (l .1 .1 .1 .0)
+          (at-lengths-ok .lengths-ok .ensures) (at-rows-taken .rows-taken .ensures) (f .0) (f .1 .0) (f .1 .1 .0)
+          (f .1 .1 .1 .0) (f .1 .1 .1 .1) (at-answer .answer .ensures),
       (
-        groups-settled (a .keys .now) (a .rows) (a .first .now) (a .second .now) (a .edges) (a .groups .now) (a .t0 .now) (a .t1 .now) (a .t2 .now) (c .before .before .before .before .before .before .before .before .before .before .before .before .before .before .before .before .before .before .before .before .before .before .before .before .before .before .before .before .before .before .before .before .before .lengths-ok .result) (c .before .before .before .before .before .before .before .before .before .before .before .before .before .before .before .before .before .before .before .before .before .before .before .before .before .before .before .before .before .before .before .before .rows-taken .result) (c .before .before .before .before .before .before .before .before .before .before .before .before .before .before .before .before .before .before .before .before .before .before .before .before .before .before .before .fill .result) (c .before .before .before .before .before .before .before .before .before .before .before .before .before .before .before .before .before .before .answer .result) (l .0) (l .1 .0) (l .1 .1 .0) (l .1 .1 .1 .0) (c .before .before .before .before .before .before .before .before .before .before .before .before .before .before .before .before .before .before .before .before .before .before .before .before .before .before .before .before .before .before .before .before .before .lengths-ok .ensures) (c .before .before .before .before .before .before .before .before .before .before .before .before .before .before .before .before .before .before .before .before .before .before .before .before .before .before .before .before .before .before .before .before .rows-taken .ensures) (f .0) (f .1 .0) (f .1 .1 .0) (f .1 .1 .1 .0) (f .1 .1 .1 .1) (c .before .before .before .before .before .before .before .before .before .before .before .before .before .before .before .before .before .before .answer .ensures) _ (c .before .before .before .before .before .before .before .before .before .before .before .before .before .before .before .before .before .kept .ensures) _ (c .before .before .before .before .before .before .before .before .before .before .before .before .before .before .clear-from-u32 .ensures),
+        groups-settled (a .keys .now) (a .rows) (a .first .now) (a .second .now) (a .edges) (a .groups .now)
+            (a .t0 .now) (a .t1 .now) (a .t2 .now) (at-lengths-ok .lengths-ok .result) (at-rows-taken .rows-taken .result)
+            (at-fill .fill .result) (at-answer .answer .result) (l .0) (l .1 .0) (l .1 .1 .0) (l .1 .1 .1 .0)
+            (at-lengths-ok .lengths-ok .ensures) (at-rows-taken .rows-taken .ensures) (f .0) (f .1 .0) (f .1 .1 .0)
+            (f .1 .1 .1 .0) (f .1 .1 .1 .1) (at-answer .answer .ensures) _ (at-kept .kept .ensures) _
+            (at-clear-from-u32 .clear-from-u32 .ensures),
         (
-          ones-settled (a .keys .now) (a .rows) (a .first .now) (a .second .now) (a .edges) (a .groups .now) (a .t0 .now) (a .t1 .now) (a .t2 .now) (c .before .before .before .before .before .before .before .before .before .before .before .before .before .before .before .before .before .before .before .before .before .before .before .before .before .before .before .before .before .before .before .before .before .lengths-ok .result) (c .before .before .before .before .before .before .before .before .before .before .before .before .before .before .before .before .before .before .before .before .before .before .before .before .before .before .before .before .before .before .before .before .rows-taken .result) (c .before .before .before .before .before .before .before .before .before .before .before .before .before .before .before .before .before .before .before .before .before .before .before .before .before .before .before .fill .result) (c .before .before .before .before .before .before .before .before .before .before .before .before .before .before .before .before .before .before .answer .result) (l .0) (l .1 .0) (l .1 .1 .0) (l .1 .1 .1 .0) (c .before .before .before .before .before .before .before .before .before .before .before .before .before .before .before .before .before .before .before .before .before .before .before .before .before .before .before .before .before .before .before .before .before .lengths-ok .ensures) (c .before .before .before .before .before .before .before .before .before .before .before .before .before .before .before .before .before .before .before .before .before .before .before .before .before .before .before .before .before .before .before .before .rows-taken .ensures) (f .0) (f .1 .0) (f .1 .1 .0) (f .1 .1 .1 .0) (f .1 .1 .1 .1) (c .before .before .before .before .before .before .before .before .before .before .before .before .before .before .before .before .before .before .answer .ensures) _ (c .before .before .before .before .before .before .before .before .before .before .before .before .before .before .before .before .count-of .ensures) _ (c .before .before .before .before .before .before .before .before .before .before .clear-from-u322 .ensures),
+          ones-settled (a .keys .now) (a .rows) (a .first .now) (a .second .now) (a .edges) (a .groups .now)
+              (a .t0 .now) (a .t1 .now) (a .t2 .now) (at-lengths-ok .lengths-ok .result)
+              (at-rows-taken .rows-taken .result) (at-fill .fill .result) (at-answer .answer .result) (l .0) (l .1 .0)
+              (l .1 .1 .0) (l .1 .1 .1 .0) (at-lengths-ok .lengths-ok .ensures) (at-rows-taken .rows-taken .ensures)
+              (f .0) (f .1 .0) (f .1 .1 .0) (f .1 .1 .1 .0) (f .1 .1 .1 .1) (at-answer .answer .ensures) _
+              (at-count-of .count-of .ensures) _ (at-clear-from-u322 .clear-from-u322 .ensures),
           (
-            twos-settled (a .keys .now) (a .rows) (a .first .now) (a .second .now) (a .edges) (a .groups .now) (a .t0 .now) (a .t1 .now) (a .t2 .now) (c .before .before .before .before .before .before .before .before .before .before .before .before .before .before .before .before .before .before .before .before .before .before .before .before .before .before .before .before .before .before .before .before .before .lengths-ok .result) (c .before .before .before .before .before .before .before .before .before .before .before .before .before .before .before .before .before .before .before .before .before .before .before .before .before .before .before .before .before .before .before .before .rows-taken .result) (c .before .before .before .before .before .before .before .before .before .before .before .before .before .before .before .before .before .before .before .before .before .before .before .before .before .before .before .fill .result) (c .before .before .before .before .before .before .before .before .before .before .before .before .before .before .before .before .before .before .answer .result) (l .0) (l .1 .0) (l .1 .1 .0) (l .1 .1 .1 .0) (c .before .before .before .before .before .before .before .before .before .before .before .before .before .before .before .before .before .before .before .before .before .before .before .before .before .before .before .before .before .before .before .before .before .lengths-ok .ensures) (c .before .before .before .before .before .before .before .before .before .before .before .before .before .before .before .before .before .before .before .before .before .before .before .before .before .before .before .before .before .before .before .before .rows-taken .ensures) (f .0) (f .1 .0) (f .1 .1 .0) (f .1 .1 .1 .0) (f .1 .1 .1 .1) (c .before .before .before .before .before .before .before .before .before .before .before .before .before .before .before .before .before .before .answer .ensures) _ (c .before .before .before .before .before .before .before .before .before .before .before .before .before .before .before .before .count-of .ensures) _ (c .before .before .before .before .before .before .clear-from-u323 .ensures),
-            threes-settled (a .keys .now) (a .rows) (a .first .now) (a .second .now) (a .edges) (a .groups .now) (a .t0 .now) (a .t1 .now) (a .t2 .now) (c .before .before .before .before .before .before .before .before .before .before .before .before .before .before .before .before .before .before .before .before .before .before .before .before .before .before .before .before .before .before .before .before .before .lengths-ok .result) (c .before .before .before .before .before .before .before .before .before .before .before .before .before .before .before .before .before .before .before .before .before .before .before .before .before .before .before .before .before .before .before .before .rows-taken .result) (c .before .before .before .before .before .before .before .before .before .before .before .before .before .before .before .before .before .before .before .before .before .before .before .before .before .before .before .fill .result) (c .before .before .before .before .before .before .before .before .before .before .before .before .before .before .before .before .before .before .answer .result) (l .0) (l .1 .0) (l .1 .1 .0) (l .1 .1 .1 .0) (c .before .before .before .before .before .before .before .before .before .before .before .before .before .before .before .before .before .before .before .before .before .before .before .before .before .before .before .before .before .before .before .before .before .lengths-ok .ensures) (c .before .before .before .before .before .before .before .before .before .before .before .before .before .before .before .before .before .before .before .before .before .before .before .before .before .before .before .before .before .before .before .before .rows-taken .ensures) (f .0) (f .1 .0) (f .1 .1 .0) (f .1 .1 .1 .0) (f .1 .1 .1 .1) (c .before .before .before .before .before .before .before .before .before .before .before .before .before .before .before .before .before .before .answer .ensures) _ (c .before .before .before .before .before .before .before .before .before .before .before .before .before .before .before .before .count-of .ensures) _ (c .before .before .clear-from-u324 .ensures),
+            twos-settled (a .keys .now) (a .rows) (a .first .now) (a .second .now) (a .edges) (a .groups .now)
+                (a .t0 .now) (a .t1 .now) (a .t2 .now) (at-lengths-ok .lengths-ok .result)
+                (at-rows-taken .rows-taken .result) (at-fill .fill .result) (at-answer .answer .result) (l .0) (l .1 .0)
+                (l .1 .1 .0) (l .1 .1 .1 .0) (at-lengths-ok .lengths-ok .ensures) (at-rows-taken .rows-taken .ensures)
+                (f .0) (f .1 .0) (f .1 .1 .0) (f .1 .1 .1 .0) (f .1 .1 .1 .1) (at-answer .answer .ensures) _
+                (at-count-of .count-of .ensures) _
+                (c .before .before .before .before .before .before .clear-from-u323 .ensures),
+            threes-settled (a .keys .now) (a .rows) (a .first .now) (a .second .now) (a .edges) (a .groups .now)
+                (a .t0 .now) (a .t1 .now) (a .t2 .now) (at-lengths-ok .lengths-ok .result)
+                (at-rows-taken .rows-taken .result) (at-fill .fill .result) (at-answer .answer .result) (l .0) (l .1 .0)
+                (l .1 .1 .0) (l .1 .1 .1 .0) (at-lengths-ok .lengths-ok .ensures) (at-rows-taken .rows-taken .ensures)
+                (f .0) (f .1 .0) (f .1 .1 .0) (f .1 .1 .1 .0) (f .1 .1 .1 .1) (at-answer .answer .ensures) _
+                (at-count-of .count-of .ensures) _ (c .before .before .clear-from-u324 .ensures),
           ),
         ),
       ),

@@ -16,7 +16,11 @@ use Rattle.triangles.proofs.fill.Tie as tie
 
 abbrev Inv-loop : tie.InvT-loop
 Inv-loop keys n first second edges groups₀ t0₀ t1₀ t2₀ numbers₀ triangles₀ row₀ groups t0 t1 t2 numbers triangles row =
-    (row ≤ n) × (numbers ≤ 14 * row) × (triangles ≤ 364 * row) × Filling (source keys n first second edges) (take n keys) groups₀ t0₀ t1₀ t2₀ row numbers triangles groups t0 t1 t2
+    (row ≤ n)
+    × (numbers ≤ 14 * row)
+    × (triangles ≤ 364 * row)
+    × Filling (source keys n first second edges) (take n keys) groups₀ t0₀ t1₀ t2₀ row numbers triangles groups t0 t1
+    t2
 
 abbrev μ-loop : tie.MeasureT-loop
 μ-loop keys n first second edges groups₀ t0₀ t1₀ t2₀ numbers₀ triangles₀ row₀ groups t0 t1 t2 numbers triangles row = n - row
@@ -38,12 +42,20 @@ near : (c : tie.After-near-group Inv-loop μ-loop) →
     let s = c .before .before .before .before .before .before .before .before .before .before .before in
     let l = c .before .before .before in
     let r = c .near-group .result in
-    (r .count ≤ 14) × (length (r .numbers) ≡ 14) × (take (r .count) (r .numbers) ≡ groupAt (source (s .args .keys .now) (s .args .n) (s .args .first .now) (s .args .second .now) (s .args .edges)) (getD (take (s .args .n) (s .args .keys .now)) (l .loop .row) 0)) × (r .count ≡ length (take (r .count) (r .numbers)))
+    (r .count ≤ 14)
+    × (length (r .numbers) ≡ 14)
+    × (take (r .count) (r .numbers) ≡ groupAt
+    (source (s .args .keys .now) (s .args .n) (s .args .first .now) (s .args .second .now) (s .args .edges))
+    (getD (take (s .args .n) (s .args .keys .now)) (l .loop .row) 0))
+    × (r .count ≡ length (take (r .count) (r .numbers)))
 near c =
     let s = c .before .before .before .before .before .before .before .before .before .before .before in
     let l = c .before .before .before in
     let t = c .before .before .loop-test .taken in
-    let k = group-known (c .near-group .result) _ (c .near-group .ensures) (group-few (s .args .first .now) (s .args .second .now) (s .args .edges) (getD (s .args .keys .now) (l .loop .row) 0)) in (
+    let k =
+    group-known (c .near-group .result) _ (c .near-group .ensures)
+    (group-few (s .args .first .now) (s .args .second .now) (s .args .edges)
+    (getD (s .args .keys .now) (l .loop .row) 0)) in (
       k .0,
       k .1,
       k .2 ∙ ap (groupIn (s .args .first .now) (s .args .second .now) (s .args .edges)) (sym (getD-take (s .args .n) (s .args .keys .now) (l .loop .row) 0 t)),
@@ -68,7 +80,8 @@ slice-aggregate-put-threes c = near (c .before .before .before .before .before .
 put-threes-requires : tie.Need-put-threes-requires Inv-loop μ-loop
 put-threes-requires c κs =
     let l = c .before .before .before .before .before .before .before .before .before .before .before .before .before in
-    let s = c .before .before .before .before .before .before .before .before .before .before .before .before .before .before .before .before .before .before .before .before .before in
+    let s = c .before .before .before .before .before .before .before .before .before .before .before .before .before
+    .before .before .before .before .before .before .before .before in
     let t = c .before .before .before .before .before .before .before .before .before .before .before .before .loop-test .taken in
     let w = l .loop .inv .3 in
     let up = s .pre .second (omega arith) in
@@ -77,18 +90,32 @@ put-threes-requires c κs =
 
 add-numbers-end : tie.Need-add-numbers-end Inv-loop μ-loop
 add-numbers-end c =
-    let k = near (c .before .before .before .before .before .before .before .before .before .before .before .before .before .before .before .before .before) .0 in
-    let v = c .before .before .before .before .before .before .before .before .before .before .before .before .before .before .before .before .before .before .before .before .loop .inv in
-    omega (arith, v .0, v .1, v .2, c .before .before .before .before .before .before .before .before .before .before .before .before .before .before .before .before .before .before .before .before .before .before .before .before .before .before .before .before .pre .few, c .before .before .before .before .before .before .before .before .before .before .before .before .before .before .before .before .before .before .before .loop-test .taken)
+    let at-loop-test = c .before .before .before .before .before .before .before .before .before .before .before .before
+    .before .before .before .before .before .before .before in
+    let at-pre = at-loop-test .before .before .before .before .before .before .before .before .before in
+    let k =
+    near (c .before .before .before .before .before .before .before .before .before .before .before .before .before
+    .before .before .before .before) .0 in
+    let v = c .before .before .before .before .before .before .before .before .before .before .before .before .before
+    .before .before .before .before .before .before .before .loop .inv in
+    omega (arith, v .0, v .1, v .2, at-pre .pre .few, at-loop-test .loop-test .taken)
 
 threes-of-requires : tie.Need-threes-of-requires Inv-loop μ-loop
-threes-of-requires c κs = near (c .before .before .before .before .before .before .before .before .before .before .before .before .before .before .before .before .before) .0
+threes-of-requires c κs =
+    near (c .before .before .before .before .before .before .before .before .before .before .before .before .before
+    .before .before .before .before) .0
 
 add-triangles-end : tie.Need-add-triangles-end Inv-loop μ-loop
 add-triangles-end c =
-    let k = near (c .before .before .before .before .before .before .before .before .before .before .before .before .before .before .before .before .before .before) .0 in
-    let v = c .before .before .before .before .before .before .before .before .before .before .before .before .before .before .before .before .before .before .before .before .before .loop .inv in
-    omega (arith, v .0, v .1, v .2, c .before .before .before .before .before .before .before .before .before .before .before .before .before .before .before .before .before .before .before .before .before .before .before .before .before .before .before .before .before .pre .few, c .before .before .before .before .before .before .before .before .before .before .before .before .before .before .before .before .before .before .before .before .loop-test .taken, c .threes-of .ensures .1)
+    let at-loop-test = c .before .before .before .before .before .before .before .before .before .before .before .before
+    .before .before .before .before .before .before .before .before in
+    let at-pre = at-loop-test .before .before .before .before .before .before .before .before .before in
+    let k =
+    near (c .before .before .before .before .before .before .before .before .before .before .before .before .before
+    .before .before .before .before .before) .0 in
+    let v = c .before .before .before .before .before .before .before .before .before .before .before .before .before
+    .before .before .before .before .before .before .before .before .loop .inv in
+    omega (arith, v .0, v .1, v .2, at-pre .pre .few, at-loop-test .loop-test .taken, c .threes-of .ensures .1)
 
 add-row : tie.Need-add-row Inv-loop μ-loop
 add-row c = search needs
@@ -98,19 +125,32 @@ loop-less c = search needs
 
 loop-again : tie.Need-loop-again Inv-loop μ-loop
 loop-again c =
-    let l = c .before .before .before .before .before .before .before .before .before .before .before .before .before .before .before .before .before .before .before .before .before in
-    let s = c .before .before .before .before .before .before .before .before .before .before .before .before .before .before .before .before .before .before .before .before .before .before .before .before .before .before .before .before .before in
-    let t = c .before .before .before .before .before .before .before .before .before .before .before .before .before .before .before .before .before .before .before .before .loop-test .taken in
-    let k = near (c .before .before .before .before .before .before .before .before .before .before .before .before .before .before .before .before .before .before) in
-    let r = c .before .before .before .before .before .before .before .before .before .before .before .before .before .before .before .before .before .before .near-group .result in
+    let at-put-numbers = c .before .before .before .before .before .before .before .before .before .before .before .before .before .before in
+    let l = c .before .before .before .before .before .before .before .before .before .before .before .before .before
+    .before .before .before .before .before .before .before .before in
+    let s = c .before .before .before .before .before .before .before .before .before .before .before .before .before
+    .before .before .before .before .before .before .before .before .before .before .before .before .before
+    .before .before .before in
+    let t = c .before .before .before .before .before .before .before .before .before .before .before .before .before
+    .before .before .before .before .before .before .before .loop-test .taken in
+    let k =
+    near (c .before .before .before .before .before .before .before .before .before .before .before .before .before
+    .before .before .before .before .before) in
+    let r = c .before .before .before .before .before .before .before .before .before .before .before .before .before
+    .before .before .before .before .before .near-group .result in
     let v = l .loop .inv in
     let n : length (take (s .args .n) (s .args .keys .now)) ≡ s .args .n = length-take-le (s .args .n) (s .args .keys .now) (s .pre .fits) in (
       omega arith,
       omega (arith, v .1, k .0),
       omega (arith, v .2, c .threes-of .ensures .1),
-      filling-turn (source (s .args .keys .now) (s .args .n) (s .args .first .now) (s .args .second .now) (s .args .edges)) (take (s .args .n) (s .args .keys .now)) _ _ _ _ (l .loop .row) _ _ _ _ _ _ (v .3) (omega arith)
+      filling-turn
+          (source (s .args .keys .now) (s .args .n) (s .args .first .now) (s .args .second .now) (s .args .edges))
+          (take (s .args .n) (s .args .keys .now)) _ _ _ _ (l .loop .row) _ _ _ _ _ _ (v .3) (omega arith)
           (take (r .count) (r .numbers)) (k .2) _ _ _ _ _ _ (omega (arith, k .3)) (omega (arith, c .threes-of .ensures .0, ap threesOf (k .3)))
-          (c .before .before .before .before .before .before .before .before .before .before .before .before .before .before .put-numbers .ensures) (c .before .before .before .before .before .before .before .put-threes .ensures .0) (c .before .before .before .before .before .before .before .put-threes .ensures .1 .0) (c .before .before .before .before .before .before .before .put-threes .ensures .1 .1),
+          (at-put-numbers .put-numbers .ensures)
+          (c .before .before .before .before .before .before .before .put-threes .ensures .0)
+          (c .before .before .before .before .before .before .before .put-threes .ensures .1 .0)
+          (c .before .before .before .before .before .before .before .put-threes .ensures .1 .1),
     )
 
 same-length : tie.Need-same-length Inv-loop μ-loop
@@ -126,7 +166,9 @@ same-length-4 : tie.Need-same-length-4 Inv-loop μ-loop
 same-length-4 c = c .before .loop .inv .3 .threes .long
 
 returns : tie.Need-returns Inv-loop μ-loop
-returns c = let l = c .before in let s = c .before .before .before .before .before .before .before .before .before in filling-done _ _ _ _ _ _ _ _ _ _ _ _ _ (l .loop .inv .3) (omega (arith, length-take (s .args .n) (s .args .keys .now), c .loop-test .left))
+returns c = let l = c .before in let s = c .before .before .before .before .before .before .before .before .before in
+    filling-done _ _ _ _ _ _ _ _ _ _ _ _ _ (l .loop .inv .3)
+    (omega (arith, length-take (s .args .n) (s .args .keys .now), c .loop-test .left))
 
 pub fill-spec : {M : Type 1} → statement M
 fill-spec =

@@ -43,7 +43,8 @@ loop2-holds : tie.Need-loop2-holds Inv-loop2 μ-loop2 Inv-loop μ-loop Inv-cell 
 loop2-holds c = (omega (arith, c .loop-test .taken), begun _ _ _ _ _)
 
 -- the three lists are equally long in the innermost loop
-equal : (c : tie.At-loop2 Inv-loop2 μ-loop2 Inv-loop μ-loop Inv-cell μ-cell) → (length (c .loop2 .t1) ≡ length (c .loop2 .t0)) × (length (c .loop2 .t2) ≡ length (c .loop2 .t0))
+equal : (c : tie.At-loop2 Inv-loop2 μ-loop2 Inv-loop μ-loop Inv-cell μ-cell)
+    → (length (c .loop2 .t1) ≡ length (c .loop2 .t0)) × (length (c .loop2 .t2) ≡ length (c .loop2 .t0))
 equal c =
     let w = c .loop2 .inv .1 in
     let v = c .before .before .loop .inv .1 in
@@ -107,7 +108,8 @@ loop2-again c =
     let l = e .before .before in
     let g = l .before .before .before .before .before .args .group .now in (
       omega (arith, e .before .loop2-test .taken),
-      turn-inner g _ _ _ _ _ (l .before .before .before .before .cell .i) _ _ _ _ (l .before .before .loop .j) (l .loop2 .k) (e .before .loop2-test .taken) (l .loop2 .inv .1),
+      turn-inner g _ _ _ _ _ (l .before .before .before .before .cell .i) _ _ _ _ (l .before .before .loop .j)
+          (l .loop2 .k) (e .before .loop2-test .taken) (l .loop2 .inv .1),
     )
 
 add-j-2 : tie.Need-add-j-2 Inv-loop2 μ-loop2 Inv-loop μ-loop Inv-cell μ-cell
@@ -123,7 +125,8 @@ loop-again c =
     let i = m .before .before in
     let t = l .before .loop-test .taken in (
       omega arith,
-      turn-middle (i .before .args .group .now) _ _ _ _ _ (i .cell .i) _ _ _ _ _ _ _ _ (m .loop .j) t (m .loop .inv .1) (l .loop2 .k) (c .loop2-test .left) (l .loop2 .inv .1),
+      turn-middle (i .before .args .group .now) _ _ _ _ _ (i .cell .i) _ _ _ _ _ _ _ _ (m .loop .j) t (m .loop .inv .1)
+          (l .loop2 .k) (c .loop2-test .left) (l .loop2 .inv .1),
     )
 
 add-i : tie.Need-add-i Inv-loop2 μ-loop2 Inv-loop μ-loop Inv-cell μ-cell
@@ -158,14 +161,18 @@ left : (c : tie.Then1 Inv-loop2 μ-loop2 Inv-loop μ-loop Inv-cell μ-cell) →
     let l = c .before .before in
     let i = l .before .before .before .before in
     let a = i .before .args in
-    Putting (outer (a .group .now) 0) (a .at) (a .t0 .now) (a .t1 .now) (a .t2 .now) (inner (a .group .now) (i .cell .i) (l .before .before .loop .j) (l .loop2 .k)) (l .loop2 .end) (l .loop2 .t0) (l .loop2 .t1) (l .loop2 .t2)
+    Putting (outer (a .group .now) 0) (a .at) (a .t0 .now) (a .t1 .now) (a .t2 .now)
+    (inner (a .group .now) (i .cell .i) (l .before .before .loop .j) (l .loop2 .k)) (l .loop2 .end) (l .loop2 .t0)
+    (l .loop2 .t1) (l .loop2 .t2)
     × Put (outer (a .group .now) 0) (a .at) (a .t0 .now) (a .t1 .now) (a .t2 .now) (l .loop2 .t0) (l .loop2 .t1) (l .loop2 .t2)
 left c =
     let l = c .before .before in
     let m = l .before .before in
     let i = m .before .before in
     let p = i .before .pre in
-    full (i .before .args .group .now) _ _ _ _ (i .cell .i) _ _ _ _ (i .cell .inv .1) (m .before .cell-test .taken) (p .0) (p .1) (m .loop .j) _ _ _ _ (m .loop .inv .1) (l .before .loop-test .taken) (l .loop2 .k) _ _ _ _ (l .loop2 .inv .1) (c .if1 .taken)
+    full (i .before .args .group .now) _ _ _ _ (i .cell .i) _ _ _ _ (i .cell .inv .1) (m .before .cell-test .taken)
+    (p .0) (p .1) (m .loop .j) _ _ _ _ (m .loop .inv .1) (l .before .loop-test .taken) (l .loop2 .k) _ _ _ _
+    (l .loop2 .inv .1) (c .if1 .taken)
 
 same-length-4 : tie.Need-same-length-4 Inv-loop2 μ-loop2 Inv-loop μ-loop Inv-cell μ-cell
 same-length-4 c = left c .0 .ones .long

@@ -17,7 +17,9 @@ use Rattle.tsdf_questions.proofs.row_of.Tie as tie
 -- what the search told, where it found the key
 told :
     (c : tie.After-i)
-    → find (c .before .before .before .before .before .before .before .before .args .key) (take (c .before .before .before .before .before .before .before .before .args .count) (c .before .before .before .before .before .before .before .before .args .keys .now)) ≡ At (c .i .given .0 .0)
+    → find (c .before .before .before .before .before .before .before .before .args .key)
+    (take (c .before .before .before .before .before .before .before .before .args .count)
+    (c .before .before .before .before .before .before .before .before .args .keys .now)) ≡ At (c .i .given .0 .0)
 told c =
     let at-start = c .before .before .before .before .before .before .before .before in
     sym (findBy-find _ _ (at-start .pre .ascends)) ∙ sym (c .before .before .find-row .ensures) ∙ c .i .given .1
@@ -47,7 +49,10 @@ returns-2 : tie.Need-returns-2
 unfolding rowOf rowIf rowAt
 returns-2 c =
     let s = c .before .before .before .before .before .before .before .before in
-    rw (yes (c .before .before .before .before .is-on-lattice .ensures) (c .before .before .before .if1 .left), sym (findBy-find _ _ (s .pre .ascends)) ∙ sym (c .before .before .find-row .ensures) ∙ c .enum-told .given .1)
+    rw (
+      yes (c .before .before .before .before .is-on-lattice .ensures) (c .before .before .before .if1 .left),
+      sym (findBy-find _ _ (s .pre .ascends)) ∙ sym (c .before .before .find-row .ensures) ∙ c .enum-told .given .1,
+    )
 
 mul-t11 : tie.Need-mul-t11
 mul-t11 c = omega (arith, inside (c .before))

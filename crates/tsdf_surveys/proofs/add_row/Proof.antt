@@ -19,7 +19,14 @@ larger-requires c κs = search needs
 
 returns : tie.Need-returns
 unfolding tallied
-returns c = rw (c .before .before .before .before .before .if1 .taken, c .before .before .before .count-if .ensures, c .before .before .before .before .size .ensures, c .before .before .smaller .ensures, c .before .larger .ensures)
+returns c =
+    rw (
+      c .before .before .before .before .before .if1 .taken,
+      c .before .before .before .count-if .ensures,
+      c .before .before .before .before .size .ensures,
+      c .before .before .smaller .ensures,
+      c .before .larger .ensures,
+    )
 
 returns-2 : tie.Need-returns-2
 unfolding tallied

@@ -36,19 +36,36 @@ returns-3 : tie.Need-returns-3
 unfolding listCheck need andThen
 returns-3 c =
     let e = c .before .before .before .before in
-    rw (yes (e .before .before .settings-ok .ensures) (e .before .if1 .left), le-leb _ _ (e .if2 .left), ← c .before .before .before .check-table .ensures, c .before .why .given .1)
+    rw (
+      yes (e .before .before .settings-ok .ensures) (e .before .if1 .left),
+      le-leb _ _ (e .if2 .left),
+      ← c .before .before .before .check-table .ensures,
+      c .before .why .given .1,
+    )
 
 returns-4 : tie.Need-returns-4
 unfolding listCheck need andThen
 returns-4 c =
     let e = c .before .before .before .before .before in
-    rw (yes (e .before .before .settings-ok .ensures) (e .before .if1 .left), le-leb _ _ (e .if2 .left), ← c .before .before .before .before .check-table .ensures, c .before .before .enum-told .given .1, sym (c .before .is-finite .ensures) ∙ c .if3 .taken)
+    rw (
+      yes (e .before .before .settings-ok .ensures) (e .before .if1 .left),
+      le-leb _ _ (e .if2 .left),
+      ← c .before .before .before .before .check-table .ensures,
+      c .before .before .enum-told .given .1,
+      sym (c .before .is-finite .ensures) ∙ c .if3 .taken,
+    )
 
 returns-5 : tie.Need-returns-5
 unfolding listCheck need andThen
 returns-5 c =
     let e = c .before .before .before .before .before in
-    rw (yes (e .before .before .settings-ok .ensures) (e .before .if1 .left), le-leb _ _ (e .if2 .left), ← c .before .before .before .before .check-table .ensures, c .before .before .enum-told .given .1, sym (c .before .is-finite .ensures) ∙ c .if3 .left)
+    rw (
+      yes (e .before .before .settings-ok .ensures) (e .before .if1 .left),
+      le-leb _ _ (e .if2 .left),
+      ← c .before .before .before .before .check-table .ensures,
+      c .before .before .enum-told .given .1,
+      sym (c .before .is-finite .ensures) ∙ c .if3 .left,
+    )
 
 pub check-list-spec : {M : Type 1} → statement M
 check-list-spec =

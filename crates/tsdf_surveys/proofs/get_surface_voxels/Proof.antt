@@ -30,7 +30,8 @@ returns c =
     let verdict = l .before .before .check-list .ensures in
     let done = l .list-checked .ensures in (
       answered (a .settings) t _ _ _ verdict _ (done .0),
-      cleared-to (a .settings) t _ _ _ verdict _ (done .0) _ (c .before .before .before .count-of .ensures) _ _ (c .before .before .clear-from-u64 .ensures) (done .1),
+      cleared-to (a .settings) t _ _ _ verdict _ (done .0) _ (c .before .before .before .count-of .ensures) _ _
+          (c .before .before .clear-from-u64 .ensures) (done .1),
     )
 
 pub get-surface-voxels-spec : {M : Type 1} → statement M

@@ -1,4 +1,5 @@
--- `tsdf_surveys::list_checked` meets its contract: what the tests refuse leaves nothing to keep, and what was written from the front stands there where it has room.
+-- `tsdf_surveys::list_checked` meets its contract: what the tests refuse leaves nothing to keep, and what was written
+-- from the front stands there where it has room.
 -- Assumes nothing.
 use mathlib.Core.Path.{refl}
 use Rattle.table.specs.Table.{rowsOf}
@@ -16,8 +17,11 @@ returns : tie.Need-returns
 unfolding listedIf
 returns c =
     let at-start = c .before .before .before .before .before .before .before in
-    let a = at-start .args in
-    (rw (c .before .verdict .given .1) refl, refused-held 0 _ (a .out .now) (surfaceKeys (a .threshold) (rowsOf (a .keys .now) (a .distances .now) (a .weights .now) (a .count))))
+    let a = at-start .args in (
+      rw (c .before .verdict .given .1) refl,
+      refused-held 0 _ (a .out .now)
+          (surfaceKeys (a .threshold) (rowsOf (a .keys .now) (a .distances .now) (a .weights .now) (a .count))),
+    )
 
 enum-told : tie.Need-enum-told
 enum-told c = search needs

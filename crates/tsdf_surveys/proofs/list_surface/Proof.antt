@@ -66,7 +66,10 @@ loop-again c =
     let l = c .before .before .before .before .before .before .before .before .before .before in
     let s = l .before .before .before .before .before in
     let a = s .args in
-    let k = surface-taken (a .keys .now) (a .distances .now) (a .weights .now) (a .count) (s .pre) (l .loop .i) (at-loop-test .loop-test .taken) (a .threshold) (sym (at-is-surface .is-surface .ensures) ∙ c .before .before .before .before .before .if1 .taken) in (
+    let k =
+    surface-taken (a .keys .now) (a .distances .now) (a .weights .now) (a .count) (s .pre) (l .loop .i)
+    (at-loop-test .loop-test .taken) (a .threshold)
+    (sym (at-is-surface .is-surface .ensures) ∙ c .before .before .before .before .before .if1 .taken) in (
       omega arith,
       omega arith,
       omega (arith, l .loop .inv .2, ap length k),
@@ -85,7 +88,10 @@ loop-again-2 c =
     let l = c .before .before .before .before .before in
     let s = l .before .before .before .before .before in
     let a = s .args in
-    let k = surface-skipped (a .keys .now) (a .distances .now) (a .weights .now) (a .count) (s .pre) (l .loop .i) (c .before .before .before .before .loop-test .taken) (a .threshold) (sym (c .before .is-surface .ensures) ∙ c .if1 .left) in (
+    let k =
+    surface-skipped (a .keys .now) (a .distances .now) (a .weights .now) (a .count) (s .pre) (l .loop .i)
+    (c .before .before .before .before .loop-test .taken) (a .threshold)
+    (sym (c .before .is-surface .ensures) ∙ c .if1 .left) in (
       omega arith,
       omega arith,
       omega (arith, l .loop .inv .2, ap length k),

@@ -40,7 +40,14 @@ returns-2 : tie.Need-returns-2
 unfolding statisticsOf statisticsIf statsOf ofBits neg
 returns-2 c =
     let at-check-table = c .before .before .before .before .before .before in
-    rw (← at-check-table .check-table .ensures, c .before .before .before .before .enum-told .given .1, ← c .before .before .before .tally-rows .ensures, c .mean .ensures, c .before .before .unless-start .ensures, c .before .unless-start2 .ensures)
+    rw (
+      ← at-check-table .check-table .ensures,
+      c .before .before .before .before .enum-told .given .1,
+      ← c .before .before .before .tally-rows .ensures,
+      c .mean .ensures,
+      c .before .before .unless-start .ensures,
+      c .before .unless-start2 .ensures,
+    )
 
 pub stats-spec : {M : Type 1} → statement M
 stats-spec =

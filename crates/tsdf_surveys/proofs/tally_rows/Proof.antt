@@ -54,15 +54,28 @@ loop-again c =
     let a = s .args in
     let w = c .add-row .ensures in (
       omega arith,
-      omega (arith, tallied-near (a .near) (l .loop .sum) (getD (a .distances .now) (l .loop .i) nan) (getD (a .weights .now) (l .loop .i) nan), ap (λ (t : Tally). t .near) w, l .loop .inv .1),
-      l .loop .inv .2 ∙ row-tallied (a .keys .now) (a .distances .now) (a .weights .now) (a .count) (s .pre) (l .loop .i) (c .before .before .before .loop-test .taken) (a .near) (l .loop .sum) ∙ ap (λ (t : Tally). talliedAll (a .near) t (rest (a .keys .now) (a .distances .now) (a .weights .now) (a .count) (l .loop .i + 1))) (sym w),
+      omega (
+        arith,
+        tallied-near (a .near) (l .loop .sum) (getD (a .distances .now) (l .loop .i) nan)
+            (getD (a .weights .now) (l .loop .i) nan),
+        ap (λ (t : Tally). t .near) w,
+        l .loop .inv .1,
+      ),
+      l .loop .inv .2
+          ∙ row-tallied (a .keys .now) (a .distances .now) (a .weights .now) (a .count) (s .pre) (l .loop .i)
+          (c .before .before .before .loop-test .taken) (a .near) (l .loop .sum)
+          ∙ ap (λ (t : Tally).
+          talliedAll (a .near) t
+          (rest (a .keys .now) (a .distances .now) (a .weights .now) (a .count) (l .loop .i + 1))) (sym w),
     )
 
 returns : tie.Need-returns Inv-loop μ-loop
 returns c =
     let l = c .before in
     let a = l .before .before .before .before .args in
-    sym (l .loop .inv .2 ∙ rows-tallied (a .keys .now) (a .distances .now) (a .weights .now) (a .count) (l .loop .i) (c .loop-test .left) (a .near) (l .loop .sum))
+    sym (l .loop .inv .2
+    ∙ rows-tallied (a .keys .now) (a .distances .now) (a .weights .now) (a .count) (l .loop .i) (c .loop-test .left)
+    (a .near) (l .loop .sum))
 
 pub tally-rows-spec : {M : Type 1} → statement M
 tally-rows-spec =

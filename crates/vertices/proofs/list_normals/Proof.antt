@@ -17,7 +17,14 @@ abbrev Inv-loop : tie.InvT-loop
 Inv-loop keys distances count voxel-size first edges nx₀ ny₀ nz₀ n last₀ normal₀ i₀ nx ny nz last normal i =
     let look = distanceBy keys distances count in
     let from = normalsFrom look (voxel-size .0) edges first in
-    (n ≡ min edges (length first)) × (normal ≡ normalAt look (voxel-size .0) last) × (length nx ≡ length nx₀) × (length ny ≡ length ny₀) × (length nz ≡ length nz₀) × (sets nx₀ 0 (partsX (from 0)) ≡ sets nx i (partsX (from i))) × (sets ny₀ 0 (partsY (from 0)) ≡ sets ny i (partsY (from i))) × (sets nz₀ 0 (partsZ (from 0)) ≡ sets nz i (partsZ (from i)))
+    (n ≡ min edges (length first))
+    × (normal ≡ normalAt look (voxel-size .0) last)
+    × (length nx ≡ length nx₀)
+    × (length ny ≡ length ny₀)
+    × (length nz ≡ length nz₀)
+    × (sets nx₀ 0 (partsX (from 0)) ≡ sets nx i (partsX (from i)))
+    × (sets ny₀ 0 (partsY (from 0)) ≡ sets ny i (partsY (from i)))
+    × (sets nz₀ 0 (partsZ (from 0)) ≡ sets nz i (partsZ (from i)))
 
 abbrev μ-loop : tie.MeasureT-loop
 μ-loop keys distances count voxel-size first edges nx₀ ny₀ nz₀ n last₀ normal₀ i₀ nx ny nz last normal i = n - i

@@ -16,7 +16,13 @@ use Rattle.vertices.proofs.list_places.Tie as tie
 abbrev Inv-loop : tie.InvT-loop
 Inv-loop keys distances count voxel-size first second edges px₀ py₀ pz₀ n i₀ px py pz i =
     let from = verticesFrom (distanceBy keys distances count) (voxel-size .0) edges first second in
-    (n ≡ min edges (min (length first) (length second))) × (length px ≡ length px₀) × (length py ≡ length py₀) × (length pz ≡ length pz₀) × (sets px₀ 0 (xsOf (from 0)) ≡ sets px i (xsOf (from i))) × (sets py₀ 0 (ysOf (from 0)) ≡ sets py i (ysOf (from i))) × (sets pz₀ 0 (zsOf (from 0)) ≡ sets pz i (zsOf (from i)))
+    (n ≡ min edges (min (length first) (length second)))
+    × (length px ≡ length px₀)
+    × (length py ≡ length py₀)
+    × (length pz ≡ length pz₀)
+    × (sets px₀ 0 (xsOf (from 0)) ≡ sets px i (xsOf (from i)))
+    × (sets py₀ 0 (ysOf (from 0)) ≡ sets py i (ysOf (from i)))
+    × (sets pz₀ 0 (zsOf (from 0)) ≡ sets pz i (zsOf (from i)))
 
 abbrev μ-loop : tie.MeasureT-loop
 μ-loop keys distances count voxel-size first second edges px₀ py₀ pz₀ n i₀ px py pz i = n - i
@@ -56,7 +62,8 @@ put-requires-3 c κs = search needs
 
 add-i : tie.Need-add-i Inv-loop μ-loop
 add-i c =
-    let bound = c .before .before .before .before .before .before .before .before .before .before .before .before .before .before .before .before .loop .inv .0 in
+    let bound = c .before .before .before .before .before .before .before .before .before .before .before .before
+    .before .before .before .before .loop .inv .0 in
     omega (arith, bound)
 
 loop-less : tie.Need-loop-less Inv-loop μ-loop
@@ -102,7 +109,9 @@ returns c =
     let v = l .loop .inv in
     let a = l .before .before .before .before .before .before .before .before .before .before .args in
     let h : min (a .edges) (min (length (a .first .now)) (length (a .second .now))) ≤ l .loop .i = omega (arith, v .0) in
-    let end = vertices-end (distanceBy (a .keys .now) (a .distances .now) (a .count)) (a .voxel-size .0) (a .edges) (a .first .now) (a .second .now) (l .loop .i) h in (
+    let end =
+    vertices-end (distanceBy (a .keys .now) (a .distances .now) (a .count)) (a .voxel-size .0) (a .edges)
+    (a .first .now) (a .second .now) (l .loop .i) h in (
       column-done (λ (u : Vertex). u .x .0) _ (l .loop .i) _ _ (v .4) end,
       (column-done (λ (u : Vertex). u .y .0) _ (l .loop .i) _ _ (v .5) end, column-done (λ (u : Vertex). u .z .0) _ (l .loop .i) _ _ (v .6) end),
     )

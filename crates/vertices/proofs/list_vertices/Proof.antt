@@ -30,7 +30,8 @@ same-length-6 c = search needs
 
 returns : tie.Need-returns
 returns c =
-    let p = c .before .before .before .before .before .before .before .before .before .before .before .before .before .before .before .before .list-places .ensures in
+    let p = c .before .before .before .before .before .before .before .before .before .before .before .before .before
+    .before .before .before .list-places .ensures in
     let n = c .before .before .before .before .before .before .list-normals .ensures in
     (p .0, (p .1 .0, (p .1 .1, (n .0, (n .1 .0, n .1 .1)))))
 

@@ -15,8 +15,13 @@ place-back-requires c κs = search needs
 returns : tie.Need-returns
 returns c =
     let e = c .before .decode-coords .ensures in
-    let b = c .place-back .ensures in
-    (b .0 ∙ ap decodedNumber e, (b .1 .0 ∙ ap (λ d. placeDecoded d .0) e, (b .1 .1 .0 ∙ ap (λ d. placeDecoded d .1) e, b .1 .1 .1 ∙ ap (λ d. placeDecoded d .2) e)))
+    let b = c .place-back .ensures in (
+      b .0 ∙ ap decodedNumber e,
+      (
+        b .1 .0 ∙ ap (λ d. placeDecoded d .0) e,
+        (b .1 .1 .0 ∙ ap (λ d. placeDecoded d .1) e, b .1 .1 .1 ∙ ap (λ d. placeDecoded d .2) e),
+      ),
+    )
 
 pub akf-decode-coords-spec : {M : Type 1} → statement M
 akf-decode-coords-spec = tie.close (tie.spec decode-coords-requires place-back-requires returns)

@@ -16,7 +16,11 @@ one-if-requires c κs = search needs
 
 returns : tie.Need-returns
 returns c =
-    let s = c .before .before in c .one-if .ensures ∙ ap oneIf (c .before .is-valid-bcc .ensures ∙ three-read onLattice (s .args .x) (s .args .y) (s .args .z) (s .fits .x) (s .fits .y) (s .fits .z))
+    let s = c .before .before in
+    c .one-if .ensures
+    ∙ ap oneIf
+    (c .before .is-valid-bcc .ensures
+    ∙ three-read onLattice (s .args .x) (s .args .y) (s .args .z) (s .fits .x) (s .fits .y) (s .fits .z))
 
 pub akf-is-valid-bcc-spec : {M : Type 1} → statement M
 akf-is-valid-bcc-spec = tie.close (tie.spec is-valid-bcc-requires one-if-requires returns)

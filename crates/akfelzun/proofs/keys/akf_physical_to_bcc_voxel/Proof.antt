@@ -24,7 +24,22 @@ snapped-number-requires c κs = search needs
 
 returns : tie.Need-returns
 returns c =
-    let e = c .before .before .before .before .physical-to-bcc-voxel .ensures in (c .snapped-number .ensures ∙ ap snappedNumber e, (read-back (c .before .before .before .x-snapped .result) (c .before .before .before .x-snapped .ok) ∙ c .before .before .before .x-snapped .ensures ∙ ap (λ d. snappedPlace d .0) e, (read-back (c .before .before .y-snapped .result) (c .before .before .y-snapped .ok) ∙ c .before .before .y-snapped .ensures ∙ ap (λ d. snappedPlace d .1) e, read-back (c .before .z-snapped .result) (c .before .z-snapped .ok) ∙ c .before .z-snapped .ensures ∙ ap (λ d. snappedPlace d .2) e)))
+    let e = c .before .before .before .before .physical-to-bcc-voxel .ensures in (
+      c .snapped-number .ensures ∙ ap snappedNumber e,
+      (
+        read-back (c .before .before .before .x-snapped .result) (c .before .before .before .x-snapped .ok)
+            ∙ c .before .before .before .x-snapped .ensures
+            ∙ ap (λ d. snappedPlace d .0) e,
+        (
+          read-back (c .before .before .y-snapped .result) (c .before .before .y-snapped .ok)
+              ∙ c .before .before .y-snapped .ensures
+              ∙ ap (λ d. snappedPlace d .1) e,
+          read-back (c .before .z-snapped .result) (c .before .z-snapped .ok)
+              ∙ c .before .z-snapped .ensures
+              ∙ ap (λ d. snappedPlace d .2) e,
+        ),
+      ),
+    )
 
 pub akf-physical-to-bcc-voxel-spec : {M : Type 1} → statement M
 akf-physical-to-bcc-voxel-spec =

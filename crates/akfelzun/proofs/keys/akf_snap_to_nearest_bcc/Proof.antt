@@ -24,7 +24,25 @@ snapped-number-requires c κs = search needs
 
 returns : tie.Need-returns
 returns c =
-    let s = c .before .before .before .before .before in let e = c .before .before .before .before .snap-to-nearest-bcc .ensures ∙ three-read snapped (s .args .x) (s .args .y) (s .args .z) (s .fits .x) (s .fits .y) (s .fits .z) in (c .snapped-number .ensures ∙ ap snappedNumber e, (read-back (c .before .before .before .x-snapped .result) (c .before .before .before .x-snapped .ok) ∙ c .before .before .before .x-snapped .ensures ∙ ap (λ d. snappedPlace d .0) e, (read-back (c .before .before .y-snapped .result) (c .before .before .y-snapped .ok) ∙ c .before .before .y-snapped .ensures ∙ ap (λ d. snappedPlace d .1) e, read-back (c .before .z-snapped .result) (c .before .z-snapped .ok) ∙ c .before .z-snapped .ensures ∙ ap (λ d. snappedPlace d .2) e)))
+    let s = c .before .before .before .before .before in
+    let e =
+    c .before .before .before .before .snap-to-nearest-bcc .ensures
+    ∙ three-read snapped (s .args .x) (s .args .y) (s .args .z) (s .fits .x) (s .fits .y) (s .fits .z) in (
+      c .snapped-number .ensures ∙ ap snappedNumber e,
+      (
+        read-back (c .before .before .before .x-snapped .result) (c .before .before .before .x-snapped .ok)
+            ∙ c .before .before .before .x-snapped .ensures
+            ∙ ap (λ d. snappedPlace d .0) e,
+        (
+          read-back (c .before .before .y-snapped .result) (c .before .before .y-snapped .ok)
+              ∙ c .before .before .y-snapped .ensures
+              ∙ ap (λ d. snappedPlace d .1) e,
+          read-back (c .before .z-snapped .result) (c .before .z-snapped .ok)
+              ∙ c .before .z-snapped .ensures
+              ∙ ap (λ d. snappedPlace d .2) e,
+        ),
+      ),
+    )
 
 pub akf-snap-to-nearest-bcc-spec : {M : Type 1} → statement M
 akf-snap-to-nearest-bcc-spec =

@@ -28,7 +28,12 @@ same-length-4 c = search needs
 returns : tie.Need-returns
 returns c =
     let at-compute-from-tsdf = c .before .before .before .before .before .before .before .before .before in
-    march-back (rw (at-compute-from-tsdf .before .before .before .before .before .settings-of .ensures) at (at-compute-from-tsdf .compute-from-tsdf .ensures)) (c .march-back .ensures)
+    march-back
+    (rw (at-compute-from-tsdf .before .before .before .before .before .settings-of .ensures) at
+    (at-compute-from-tsdf .compute-from-tsdf .ensures)) (c .march-back .ensures)
 
 pub akf-compute-from-tsdf-spec : {M : Type 1} → statement M
-akf-compute-from-tsdf-spec = tie.close (tie.spec settings-of-requires compute-from-tsdf-requires march-back-requires same-length same-length-2 same-length-3 same-length-4 returns)
+akf-compute-from-tsdf-spec =
+    tie.close
+    (tie.spec settings-of-requires compute-from-tsdf-requires march-back-requires same-length same-length-2
+    same-length-3 same-length-4 returns)

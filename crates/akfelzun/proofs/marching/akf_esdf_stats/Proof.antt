@@ -19,8 +19,22 @@ stats-number-requires c κs = search needs
 
 returns : tie.Need-returns
 returns c =
-    let e = c .before .before .stats .ensures in
-    (c .stats-number .ensures ∙ ap statisticsNumber e, (ap (λ (s : EsdfStats). s .«voxel_count») (c .before .stats-found .ensures ∙ ap marchedStats e), (ap (λ (s : EsdfStats). s .«obstacle_voxel_count») (c .before .stats-found .ensures ∙ ap marchedStats e), (ap (λ (s : EsdfStats). s .«free_voxel_count») (c .before .stats-found .ensures ∙ ap marchedStats e), (ap (λ (s : EsdfStats). s .«min_distance») (c .before .stats-found .ensures ∙ ap marchedStats e), ap (λ (s : EsdfStats). s .«max_distance») (c .before .stats-found .ensures ∙ ap marchedStats e))))))
+    let e = c .before .before .stats .ensures in (
+      c .stats-number .ensures ∙ ap statisticsNumber e,
+      (
+        ap (λ (s : EsdfStats). s .«voxel_count») (c .before .stats-found .ensures ∙ ap marchedStats e),
+        (
+          ap (λ (s : EsdfStats). s .«obstacle_voxel_count») (c .before .stats-found .ensures ∙ ap marchedStats e),
+          (
+            ap (λ (s : EsdfStats). s .«free_voxel_count») (c .before .stats-found .ensures ∙ ap marchedStats e),
+            (
+              ap (λ (s : EsdfStats). s .«min_distance») (c .before .stats-found .ensures ∙ ap marchedStats e),
+              ap (λ (s : EsdfStats). s .«max_distance») (c .before .stats-found .ensures ∙ ap marchedStats e),
+            ),
+          ),
+        ),
+      ),
+    )
 
 pub akf-esdf-stats-spec : {M : Type 1} → statement M
 akf-esdf-stats-spec = tie.close (tie.spec stats-requires stats-found-requires stats-number-requires returns)

@@ -22,8 +22,25 @@ box-number-requires c κs = search needs
 
 returns : tie.Need-returns
 returns c =
-    let e = c .before .before .before .bounding-box .ensures in
-    (c .box-number .ensures ∙ ap boxNumber e, (ap (λ (v : Vertex). v .x .0) (c .before .before .low-corner .ensures ∙ ap lowCorner e), (ap (λ (v : Vertex). v .y .0) (c .before .before .low-corner .ensures ∙ ap lowCorner e), (ap (λ (v : Vertex). v .z .0) (c .before .before .low-corner .ensures ∙ ap lowCorner e), (ap (λ (v : Vertex). v .x .0) (c .before .high-corner .ensures ∙ ap highCorner e), (ap (λ (v : Vertex). v .y .0) (c .before .high-corner .ensures ∙ ap highCorner e), ap (λ (v : Vertex). v .z .0) (c .before .high-corner .ensures ∙ ap highCorner e)))))))
+    let e = c .before .before .before .bounding-box .ensures in (
+      c .box-number .ensures ∙ ap boxNumber e,
+      (
+        ap (λ (v : Vertex). v .x .0) (c .before .before .low-corner .ensures ∙ ap lowCorner e),
+        (
+          ap (λ (v : Vertex). v .y .0) (c .before .before .low-corner .ensures ∙ ap lowCorner e),
+          (
+            ap (λ (v : Vertex). v .z .0) (c .before .before .low-corner .ensures ∙ ap lowCorner e),
+            (
+              ap (λ (v : Vertex). v .x .0) (c .before .high-corner .ensures ∙ ap highCorner e),
+              (
+                ap (λ (v : Vertex). v .y .0) (c .before .high-corner .ensures ∙ ap highCorner e),
+                ap (λ (v : Vertex). v .z .0) (c .before .high-corner .ensures ∙ ap highCorner e),
+              ),
+            ),
+          ),
+        ),
+      ),
+    )
 
 pub akf-bounding-box-spec : {M : Type 1} → statement M
 akf-bounding-box-spec = tie.close (tie.spec bounding-box-requires low-corner-requires high-corner-requires box-number-requires returns)

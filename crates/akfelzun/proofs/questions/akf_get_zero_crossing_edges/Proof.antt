@@ -28,4 +28,7 @@ returns c =
     (b .0 ∙ ap listedNumber (e .0), (e .1 .0, (e .1 .1, b .1 ∙ ap countOf (e .0))))
 
 pub akf-get-zero-crossing-edges-spec : {M : Type 1} → statement M
-akf-get-zero-crossing-edges-spec = tie.close (tie.spec settings-of-requires get-zero-crossing-edges-requires list-back-requires same-length same-length-2 returns)
+akf-get-zero-crossing-edges-spec =
+    tie.close
+    (tie.spec settings-of-requires get-zero-crossing-edges-requires list-back-requires same-length same-length-2
+    returns)

@@ -18,7 +18,9 @@ surface-back-requires c κs = search needs
 returns : tie.Need-returns
 returns c =
     let at-is-surface-voxel = c .before in
-    both surfaceNumber surfaceFound (rw (at-is-surface-voxel .before .settings-of .ensures) at (at-is-surface-voxel .is-surface-voxel .ensures)) (c .surface-back .ensures)
+    both surfaceNumber surfaceFound
+    (rw (at-is-surface-voxel .before .settings-of .ensures) at (at-is-surface-voxel .is-surface-voxel .ensures))
+    (c .surface-back .ensures)
 
 pub akf-is-surface-voxel-spec : {M : Type 1} → statement M
 akf-is-surface-voxel-spec = tie.close (tie.spec settings-of-requires is-surface-voxel-requires surface-back-requires returns)

@@ -18,7 +18,9 @@ distance-back-requires c κs = search needs
 returns : tie.Need-returns
 returns c =
     let at-get-distance = c .before in
-    both distanceNumber distanceFound (rw (at-get-distance .before .settings-of .ensures) at (at-get-distance .get-distance .ensures)) (c .distance-back .ensures)
+    both distanceNumber distanceFound
+    (rw (at-get-distance .before .settings-of .ensures) at (at-get-distance .get-distance .ensures))
+    (c .distance-back .ensures)
 
 pub akf-tsdf-get-distance-spec : {M : Type 1} → statement M
 akf-tsdf-get-distance-spec = tie.close (tie.spec settings-of-requires get-distance-requires distance-back-requires returns)

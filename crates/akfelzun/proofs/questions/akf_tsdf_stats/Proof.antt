@@ -23,8 +23,22 @@ stats-number-requires c κs = search needs
 returns : tie.Need-returns
 returns c =
     let at-stats = c .before .before in
-    let e = rw (at-stats .before .settings-of .ensures) at (at-stats .stats .ensures) in
-    (c .stats-number .ensures ∙ ap statisticsNumber e, (ap (λ (s : TsdfStats). s .«voxel_count») (c .before .stats-found .ensures ∙ ap statsFound e), (ap (λ (s : TsdfStats). s .«surface_voxel_count») (c .before .stats-found .ensures ∙ ap statsFound e), (ap (λ (s : TsdfStats). s .«min_distance» .0) (c .before .stats-found .ensures ∙ ap statsFound e), (ap (λ (s : TsdfStats). s .«max_distance» .0) (c .before .stats-found .ensures ∙ ap statsFound e), ap (λ (s : TsdfStats). s .«average_weight») (c .before .stats-found .ensures ∙ ap statsFound e))))))
+    let e = rw (at-stats .before .settings-of .ensures) at (at-stats .stats .ensures) in (
+      c .stats-number .ensures ∙ ap statisticsNumber e,
+      (
+        ap (λ (s : TsdfStats). s .«voxel_count») (c .before .stats-found .ensures ∙ ap statsFound e),
+        (
+          ap (λ (s : TsdfStats). s .«surface_voxel_count») (c .before .stats-found .ensures ∙ ap statsFound e),
+          (
+            ap (λ (s : TsdfStats). s .«min_distance» .0) (c .before .stats-found .ensures ∙ ap statsFound e),
+            (
+              ap (λ (s : TsdfStats). s .«max_distance» .0) (c .before .stats-found .ensures ∙ ap statsFound e),
+              ap (λ (s : TsdfStats). s .«average_weight») (c .before .stats-found .ensures ∙ ap statsFound e),
+            ),
+          ),
+        ),
+      ),
+    )
 
 pub akf-tsdf-stats-spec : {M : Type 1} → statement M
 akf-tsdf-stats-spec = tie.close (tie.spec settings-of-requires stats-requires stats-found-requires stats-number-requires returns)

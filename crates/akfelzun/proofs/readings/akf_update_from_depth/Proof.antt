@@ -25,7 +25,12 @@ same-length-3 c = search needs
 returns : tie.Need-returns
 returns c =
     let at-update-from-depth = c .before .before .before .before .before .before .before in
-    fuse-back (rw (at-update-from-depth .before .before .before .before .before .settings-of .ensures) at (at-update-from-depth .update-from-depth .ensures)) (c .fused-number .ensures)
+    fuse-back
+    (rw (at-update-from-depth .before .before .before .before .before .settings-of .ensures) at
+    (at-update-from-depth .update-from-depth .ensures)) (c .fused-number .ensures)
 
 pub akf-update-from-depth-spec : {M : Type 1} → statement M
-akf-update-from-depth-spec = tie.close (tie.spec settings-of-requires update-from-depth-requires fused-number-requires same-length same-length-2 same-length-3 returns)
+akf-update-from-depth-spec =
+    tie.close
+    (tie.spec settings-of-requires update-from-depth-requires fused-number-requires same-length same-length-2
+    same-length-3 returns)
