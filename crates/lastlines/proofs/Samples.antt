@@ -25,7 +25,7 @@ use Rattle.slopes.specs.Vertices.{partOf as partOf-vertices, vertexOf, vertexAt
 use Rattle.groups.specs.CellEdges.{paired, cellSpan, cellEdges}
 use Rattle.groups.specs.Groups.{numbersFrom}
 use Rattle.groups.specs.Near.{gathered}
-use Rattle.triangles.specs.Threes.{withThird, withTwo, threes, twosOf, threesOf}
+use Rattle.lists.specs.Threes.{withThird, withTwo, threes, twosOf, threesOf}
 use Rattle.mesh.specs.Mesh.{meshCheck, meshedIf, meshAnswer, heldIn}
 use Rattle.lastlines.specs.Lastcheck.{placedOf, givenOf, testedAs, settingsFrom, setupOf, cellOf, takenOf, fusedAs, readingOf, vertexLines, printedFor, meshText, afterSetup, afterReading, afterMesh, afterLine, stepOf, transcriptFrom, unended, linesFrom, transcript}
 

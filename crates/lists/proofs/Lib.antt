@@ -7,4 +7,7 @@ pub mod Lowering
 pub mod PaddingLaws
 pub mod ListLaws
 pub mod Inserting
+pub mod ThreeLaws
+pub mod Parts
+pub mod Putting
 pub mod Determined

@@ -2,3 +2,4 @@ pub mod Places
 pub mod Padding
 pub mod Lists
 pub mod Listing
+pub mod Threes

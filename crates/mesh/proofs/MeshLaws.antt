@@ -46,7 +46,7 @@ use Rattle.slopes.specs.Normals.{normalsOf, partsX, partsY, partsZ}
 use Rattle.vertices.proofs.TableLaws.{distance-by, vertices-of-edges}
 use Rattle.groups.specs.Groups.{groups}
 use Rattle.groups.specs.CellEdges.{pairsOk}
-use Rattle.triangles.specs.Threes.{Three, column0, column1, column2}
+use Rattle.lists.specs.Threes.{Three, column0, column1, column2}
 use Rattle.triangles.specs.Triangles.{triangles}
 use Rattle.triangles.specs.Building.{Source, source, groupsAt, trianglesAt, cellsOf, sizesOk, roomForBoth, builtAnswer, groupsHeld, held0, held1, held2, Rooms as Lent, rooms as roomsFor}
 use Rattle.triangles.proofs.Built.{groups-built, triangles-built}

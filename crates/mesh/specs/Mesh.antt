@@ -24,7 +24,7 @@ use Rattle.vertices.specs.StoredRows.{distanceIn}
 use Rattle.slopes.specs.Vertices.{vertexAt, xsOf, ysOf, zsOf}
 use Rattle.slopes.specs.Normals.{normalsOf, partsX, partsY, partsZ}
 use Rattle.groups.specs.Groups.{groups}
-use Rattle.triangles.specs.Threes.{Three, column0, column1, column2}
+use Rattle.lists.specs.Threes.{Three, column0, column1, column2}
 use Rattle.triangles.specs.Triangles.{triangles}
 use Rattle.mesh.specs.declared.Rooms.{Rooms}
 use Rattle.mesh.specs.declared.Meshed.{Meshed}

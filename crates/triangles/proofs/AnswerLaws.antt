@@ -20,7 +20,7 @@ use Rattle.refusals.specs.declared.Refusal.{Refusal}
 use Rattle.refusals.specs.declared.Refusal.the-variants.{Lengths, NoPlace}
 use Rattle.groups.specs.CellEdges.{pairsOk}
 use Rattle.triangles.specs.declared.Filled.{Filled}
-use Rattle.triangles.specs.Threes.{Three, column0, column1, column2}
+use Rattle.lists.specs.Threes.{Three, column0, column1, column2}
 use Rattle.triangles.specs.Building.{Source, source, rooms, groupsAt, trianglesAt, lengthsOk, sizesOk, roomForBoth, builtAnswer, groupsHeld, held0, held1, held2}
 use Rattle.triangles.specs.Steps.{Ready, filledWith, answerFor, keptOf}
 

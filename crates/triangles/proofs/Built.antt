@@ -18,7 +18,7 @@ use Rattle.groups.specs.CellEdges.{pairsOk}
 use Rattle.groups.specs.Near.{groupIn}
 use Rattle.groups.proofs.CountingLaws.{edges-back}
 use Rattle.groups.proofs.Handed.{near-is-group}
-use Rattle.triangles.specs.Threes.{threes}
+use Rattle.lists.specs.Threes.{threes}
 use Rattle.triangles.specs.Triangles.{triangles}
 
 joined-same : {A B : Type 0} (f g : A → List B) (l : List A) → ((x : A) → f x ≡ g x) → joined f l ≡ joined g l

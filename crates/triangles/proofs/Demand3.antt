@@ -13,7 +13,7 @@ use Rattle.edges.specs.EdgeList.{IsEdgeList}
 use Rattle.edges.specs.ZeroCrossing.{crossesZero, zeroCrossingEdges}
 use Rattle.edges.proofs.ZeroCrossingLaws.{demand-3-edges}
 use Rattle.groups.proofs.Handed.{covered, distinct-edges}
-use Rattle.triangles.specs.Threes.{Three}
+use Rattle.lists.specs.Threes.{Three}
 use Rattle.triangles.specs.Triangles.{triangles}
 use Rattle.triangles.specs.TriangleList.{Meet, IsTriangleList}
 use Rattle.triangles.proofs.TriangleLaws.{triangles-are, triangles-only, one-cell}

@@ -11,11 +11,11 @@ use Rattle.lists.specs.Lists.{joined}
 use Rattle.lists.proofs.PaddingLaws.{padded-front, padded-length}
 use Rattle.groups.specs.declared.Group.{Group}
 use Rattle.groups.specs.Near.{held}
-use Rattle.triangles.specs.Threes.{Three, threes, threesOf, column0, column1, column2}
+use Rattle.lists.specs.Threes.{Three, threes, threesOf, column0, column1, column2}
 use Rattle.triangles.specs.Building.{Source, groupAt, groupsAt, trianglesAt}
 use Rattle.triangles.specs.Steps.{filledWith}
-use Rattle.triangles.proofs.ThreeLaws.{length-threes}
-use Rattle.triangles.proofs.WritingLaws.{Written, written-begun, written-more, written-ended}
+use Rattle.lists.proofs.ThreeLaws.{length-threes}
+use Rattle.lists.proofs.Parts.{Written, written-begun, written-more, written-ended}
 
 -- the lists as they were, and as they are where the cells from `row` on are left
 pub record Filling (s : Source) (cells : List ℕ) (g₀ x₀ y₀ z₀ : List ℕ) (row numbers triangles : ℕ) (g x y z : List ℕ) : Type 0 where

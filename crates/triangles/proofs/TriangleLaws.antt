@@ -9,8 +9,8 @@ use mathlib.Core.List.{List, [], _∷_}
 use lib.ListN.{length, length-append}
 use Rattle.lists.specs.Lists.{_∈_, Ordered, Distinct, joined}
 use Rattle.lists.proofs.ListLaws.{at-in, ordered-at, ordered-weaken, joined-in, in-joined, joined-ordered, one-order}
-use Rattle.triangles.specs.Threes.{Three, threesOf, Dictionary}
-use Rattle.triangles.proofs.ThreeLaws.{length-threes, threes-in, in-threes, threes-ordered, dictionary-asym}
+use Rattle.lists.specs.Threes.{Three, threesOf, Dictionary}
+use Rattle.lists.proofs.ThreeLaws.{length-threes, threes-in, in-threes, threes-ordered, dictionary-asym}
 use Rattle.edges.specs.Edges.{Edge, edge}
 use Rattle.groups.specs.Groups.{edgeAt, groupOf}
 use Rattle.triangles.specs.Triangles.{trianglesAt, triangles, trianglesOf}

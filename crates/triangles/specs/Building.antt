@@ -11,7 +11,7 @@ use Rattle.lists.specs.declared.Listed.the-variants.{Count, Refused}
 use Rattle.refusals.specs.declared.Refusal.the-variants.{Lengths, NoPlace}
 use Rattle.groups.specs.CellEdges.{pairsOk}
 use Rattle.groups.specs.Near.{groupIn}
-use Rattle.triangles.specs.Threes.{Three, threes, column0, column1, column2}
+use Rattle.lists.specs.Threes.{Three, threes, column0, column1, column2}
 
 -- keys and how many of them are rows; edges and how many there are
 pub record Source : Type 0 where

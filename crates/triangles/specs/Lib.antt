@@ -1,4 +1,3 @@
-pub mod Threes
 pub mod Triangles
 pub mod TriangleList
 pub mod Building

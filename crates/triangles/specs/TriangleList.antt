@@ -6,7 +6,7 @@ use mathlib.Core.List.{List}
 use Rattle.lists.specs.Lists.{_∈_, Ordered, Distinct}
 use Rattle.edges.specs.Edges.{Edge}
 use Rattle.groups.specs.Groups.{EndsAt}
-use Rattle.triangles.specs.Threes.{Three, Dictionary}
+use Rattle.lists.specs.Threes.{Three, Dictionary}
 
 -- three edges, by their numbers ascending, that meet in a cell
 pub record Meet (es : List Edge) (cell : ℕ) (t : Three ℕ) : Type 0 where

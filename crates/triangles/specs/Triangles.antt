@@ -4,7 +4,7 @@ use mathlib.Core.List.{List, [], _∷_}
 use Rattle.lists.specs.Lists.{joined}
 use Rattle.edges.specs.Edges.{Edge}
 use Rattle.groups.specs.Groups.{groupOf, countOf}
-use Rattle.triangles.specs.Threes.{Three, threes, threesOf}
+use Rattle.lists.specs.Threes.{Three, threes, threesOf}
 
 -- the triangles of one cell
 abbrev pub trianglesAt : List Edge → ℕ → List (Three ℕ)

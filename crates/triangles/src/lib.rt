@@ -8,7 +8,7 @@ ghost use mathlib.Core.Bool.{cond};
 ghost use Prim.Native.Nat.{_≤_};
 ghost use lib.ListN.{length, take};
 ghost use lib.Seq.{sets};
-ghost use Rattle.triangles.specs.Threes.{threes, threesOf, column0, column1, column2};
+ghost use Rattle.lists.specs.Threes.{threes, threesOf, column0, column1, column2};
 ghost use Rattle.triangles.specs.Building.{source, rooms, groupsAt, trianglesAt, lengthsOk, builtAnswer, groupsHeld, held0, held1, held2};
 ghost use Rattle.triangles.specs.Steps.{Ready, filledWith, answerFor, keptOf};
 

@@ -7,7 +7,7 @@ use lib.ListN.{length, getD, take, length-take}
 use lib.Seq.{getD-take, length-take-le}
 use Rattle.groups.specs.Near.{groupIn}
 use Rattle.groups.proofs.Neighbourhoods.{group-few}
-use Rattle.triangles.specs.Threes.{threesOf}
+use Rattle.lists.specs.Threes.{threesOf}
 use Rattle.triangles.specs.Building.{source, groupAt}
 use Rattle.triangles.proofs.FillingLaws.{Filling, filling-begun, filling-turn, filling-done, group-known}
 use borrow.Author.Needs.{needs}

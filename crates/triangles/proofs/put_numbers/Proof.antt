@@ -3,7 +3,7 @@
 use Prim.Native.Nat.{_≤_, _-_}
 use native.Mathlib.Omega.{arith}
 use lib.ListN.{length, drop, drop-of-length-le}
-use Rattle.triangles.proofs.WritingLaws.{Written, written-begun, numbers-turn, written-ended, written-full}
+use Rattle.lists.proofs.Parts.{Written, written-begun, numbers-turn, written-ended, written-full}
 use borrow.Author.Needs.{needs}
 use Rattle.triangles.proofs.put_numbers.Statement.{statement}
 use Rattle.triangles.proofs.put_numbers.Tie as tie

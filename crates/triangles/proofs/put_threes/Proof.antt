@@ -4,7 +4,8 @@ use Prim.Native.Nat.{_≤_, _-_}
 use mathlib.Core.Path.{_≡_}
 use native.Mathlib.Omega.{arith}
 use lib.ListN.{length}
-use Rattle.triangles.proofs.PuttingLaws.{outer, middle, inner, Putting, Put, begun, turn-inner, turn-middle, turn-outer, all-put, full}
+use Rattle.lists.proofs.Putting.{Putting, Put, begun}
+use Rattle.triangles.proofs.PuttingLaws.{outer, middle, inner, turn-inner, turn-middle, turn-outer, all-put, full}
 use borrow.Author.Needs.{needs}
 use Rattle.triangles.proofs.put_threes.Statement.{statement}
 use Rattle.triangles.proofs.put_threes.Tie as tie

@@ -6,7 +6,7 @@ use mathlib.Core.List.{List, [], _∷_}
 use lib.Dec.{eqb, leb, eqb→eq, leb→le}
 use lib.ListN.{getD}
 use Rattle.lists.proofs.Table.{at}
-use Rattle.triangles.specs.Threes.{twosOf, threesOf}
+use Rattle.lists.specs.Threes.{twosOf, threesOf}
 use borrow.Author.Needs.{needs}
 use Rattle.triangles.proofs.threes_of.Statement.{statement}
 use Rattle.triangles.proofs.threes_of.Tie as tie
