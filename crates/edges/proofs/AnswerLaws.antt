@@ -21,8 +21,9 @@ use Rattle.table.specs.declared.Checked.the-variants.{Passed}
 use Rattle.table.proofs.RowLaws.{lengths-known}
 use Rattle.table.proofs.Checking.{need-passed}
 use Rattle.edges.specs.Edges.{Edge}
-use Rattle.edges.specs.ZeroCrossing.{zeroCrossingEdges}
-use Rattle.edges.specs.Listing.{firsts, seconds, outputsOk, checkedFor, answerIf, edgesAnswer}
+use Rattle.edges.specs.Surfaces.{edgesOn}
+use Rattle.edges.specs.declared.Surface.{Surface}
+use Rattle.edges.specs.Listing.{firsts, seconds, outputsOk, checkedFor, answerIf, crossingsAnswer}
 use Rattle.edges.specs.Steps.{Accepted, Wrote}
 
 -- ---- what the tests tell
@@ -66,11 +67,11 @@ module _ (es : List Edge) (first second : List ℕ) (n : ℕ) (first' second' : 
   seconds-held h = rw (e, ← h) (written-held 0 second (seconds es) n second' (counted ∙ sym (length-map es (λ (x : Edge). x .second))) (w .others))
 
 -- the whole call: the verdict v, the answer r and how many it says
-module _ (s : Settings) (t : Table) (a b : ℕ) (v : Checked) (verdict : v ≡ checkedFor s t a b) (r : Listed)
-    (answer : r ≡ answerIf v (zeroCrossingEdges (rows t)) a) where
-  pub answered : r ≡ edgesAnswer s t a b
-  unfolding edgesAnswer
-  answered = answer ∙ ap (λ (c : Checked). answerIf c (zeroCrossingEdges (rows t)) a) verdict
+module _ (o : Surface) (s : Settings) (t : Table) (a b : ℕ) (v : Checked) (verdict : v ≡ checkedFor s t a b) (r : Listed)
+    (answer : r ≡ answerIf v (edgesOn o (rows t)) a) where
+  pub answered : r ≡ crossingsAnswer o s t a b
+  unfolding crossingsAnswer
+  answered = answer ∙ ap (λ (c : Checked). answerIf c (edgesOn o (rows t)) a) verdict
 
   pub cleared-to :
       (n : ℕ)
@@ -78,5 +79,5 @@ module _ (s : Settings) (t : Table) (a b : ℕ) (v : Checked) (verdict : v ≡ c
       → (l l' : List ℕ) (room : ℕ) (xs : List ℕ)
       → l' ≡ clearedFrom 0 n l
       → clearedFrom 0 (countOf r) l ≡ heldFor 0 r room xs
-      → l' ≡ heldFor 0 (edgesAnswer s t a b) room xs
+      → l' ≡ heldFor 0 (crossingsAnswer o s t a b) room xs
   cleared-to n c l l' room xs w h = w ∙ ap (λ (k : ℕ). clearedFrom 0 k l) c ∙ h ∙ ap (λ (x : Listed). heldFor 0 x room xs) answered

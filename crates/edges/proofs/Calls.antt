@@ -24,7 +24,10 @@ use Rattle.table.proofs.Checking.{not-passed, setting-spares, lengths-spare, ta
 use Rattle.edges.specs.Edges.{Edge}
 use Rattle.edges.specs.EdgeList.{IsEdgeList}
 use Rattle.edges.specs.ZeroCrossing.{crossesZero, zeroCrossingEdges}
-use Rattle.edges.specs.Listing.{firsts, seconds, outputsOk, checkedFor, answerIf, edgesAnswer, firstsHeld, secondsHeld}
+use Rattle.edges.specs.Surfaces.{edgesOn}
+use Rattle.edges.specs.declared.Surface.{Surface}
+use Rattle.edges.specs.declared.Surface.the-variants.{Open}
+use Rattle.edges.specs.Listing.{firsts, seconds, outputsOk, checkedFor, answerIf, crossingsAnswer, firstsOn, secondsOn, edgesAnswer, firstsHeld, secondsHeld}
 use Rattle.edges.proofs.AnswerLaws.{accepted}
 use Rattle.edges.proofs.ListingLaws.{rows-rise}
 use Rattle.edges.proofs.ZeroCrossingLaws.{demand-3-edges}
@@ -70,7 +73,32 @@ module _ (s : Settings) (t : Table) (a b : ℕ) where
   unfolding checkedFor
   tests-spare-room = setting-spares (settingsOk s) _ (lengths-spare (outputsOk a b) _ (table-spares s t))
 
-  -- ---- the call
+  -- ---- the call for a surface's edges
+
+  module _ (o : Surface) where
+    -- Refused with 6 exactly when no earlier test refuses and the list would be longer than lent.
+    pub refused-for-room-on : (crossingsAnswer o s t a b ≡ listed.Refused NoPlace) ↔ ((checkedFor s t a b ≡ Passed) × (a < length (edgesOn o (rows t))))
+    unfolding crossingsAnswer
+    refused-for-room-on = room-clause (checkedFor s t a b) tests-spare-room (edgesOn o (rows t)) a
+
+    -- Answered with a count, the tests passed, the count is the list's length, and the two lists hold it and then zeros.
+    pub answered-on : (n : ℕ) → crossingsAnswer o s t a b ≡ listed.Count n →
+        (checkedFor s t a b ≡ Passed)
+        × (n ≡ length (edgesOn o (rows t)))
+        × (firstsOn o s t a b ≡ padded 0 a (firsts (edgesOn o (rows t))))
+        × (secondsOn o s t a b ≡ padded 0 b (seconds (edgesOn o (rows t))))
+    unfolding crossingsAnswer heldFor
+    answered-on n e = let h = counted-only (checkedFor s t a b) (edgesOn o (rows t)) a n e in (h .0, h .1, rw e, rw e)
+
+    -- Refused, both lists are zeros throughout.
+    pub refused-with-zeros-on :
+        (why : Refusal)
+        → crossingsAnswer o s t a b ≡ listed.Refused why
+        → (firstsOn o s t a b ≡ replicate a 0) × (secondsOn o s t a b ≡ replicate b 0)
+    unfolding heldFor
+    refused-with-zeros-on why e = (rw e, rw e)
+
+  -- ---- the call for the zero crossings
 
   abbrev es : List Edge
   es = zeroCrossingEdges (rows t)
@@ -83,8 +111,7 @@ module _ (s : Settings) (t : Table) (a b : ℕ) where
 
   -- Refused with 6 exactly when no earlier test refuses and the list would be longer than lent.
   pub refused-for-room : (edgesAnswer s t a b ≡ listed.Refused NoPlace) ↔ ((checkedFor s t a b ≡ Passed) × (a < length es))
-  unfolding edgesAnswer
-  refused-for-room = room-clause (checkedFor s t a b) tests-spare-room es a
+  refused-for-room = refused-for-room-on Open
 
   -- Answered with a count, the two lists hold the edge list and then zeros, and the count is its length.
   pub answered-with-edges : (n : ℕ) → edgesAnswer s t a b ≡ listed.Count n →
@@ -92,15 +119,11 @@ module _ (s : Settings) (t : Table) (a b : ℕ) where
       × (n ≡ length es)
       × (firstsHeld s t a b ≡ padded 0 a (firsts es))
       × (secondsHeld s t a b ≡ padded 0 b (seconds es))
-  unfolding edgesAnswer heldFor
-  answered-with-edges n e =
-      let h = counted-only (checkedFor s t a b) es a n e in
-      (accepted-edges (h .0), h .1, rw e, rw e)
+  answered-with-edges n e = let h = answered-on Open n e in (accepted-edges (h .0), h .1, h .2, h .3)
 
   -- Refused, both lists are zeros throughout.
   pub refused-with-zeros :
       (why : Refusal)
       → edgesAnswer s t a b ≡ listed.Refused why
       → (firstsHeld s t a b ≡ replicate a 0) × (secondsHeld s t a b ≡ replicate b 0)
-  unfolding heldFor
-  refused-with-zeros why e = (rw e, rw e)
+  refused-with-zeros = refused-with-zeros-on Open

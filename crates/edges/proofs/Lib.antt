@@ -1,6 +1,7 @@
 pub mod EdgeLaws
 pub mod ZeroCrossingLaws
 pub mod ListingLaws
+pub mod SurfaceLaws
 pub mod RoundLaws
 pub mod AnswerLaws
 pub mod Calls

@@ -7,7 +7,7 @@ use mathlib.Core.Bool.{Bool, true, false, cond}
 use mathlib.Core.List.{List, [], _∷_}
 use mathlib.Core.Option.{Option, none, some}
 use lib.Dec.{eqb}
-use lib.Ieee.{Float, nan}
+use lib.Ieee.{Float}
 use lib.ListN.{getD, take, drop, length-take}
 use borrow.Author.Tests.{lt-ltb, le-ltb}
 use Rattle.lists.proofs.Bools.{cases}
@@ -21,7 +21,6 @@ use Rattle.table.proofs.RowLaws.{row-at}
 use Rattle.table.proofs.Laying.{columns}
 use Rattle.table.specs.Rows.{keysOf, stored}
 use Rattle.edges.specs.Edges.{listed}
-use Rattle.edges.specs.ZeroCrossing.{crossing, crossesZero}
 use Rattle.edges.specs.Steps.{Accepted, rowAt}
 
 -- the first of some rows
@@ -78,9 +77,9 @@ module _ (ks : List ℕ) (ds ws : List Float) (n : ℕ) (acc : Accepted ks ds ws
         ∙ ap front (row-at ks ds ws n i (acc .distances) (acc .weights) (place-below i t) (acc .fits))
 
   -- whether a row and a neighbour are listed
-  module _ (row k : ℕ) where
+  module _ (crosses : Row → Row → Bool) (row k : ℕ) where
     abbrev Is : Bool → Type 0
-    Is b = b ≡ listed neighbours crossesZero (rowsOf ks ds ws n) (rowAt ks ds ws row) k
+    Is b = b ≡ listed neighbours crosses (rowsOf ks ds ws n) (rowAt ks ds ws row) k
 
     pub not-smaller : k ≤ getD ks row 0 → Is false
     unfolding listed
@@ -96,6 +95,6 @@ module _ (ks : List ℕ) (ds ws : List Float) (n : ℕ) (acc : Accepted ks ds ws
         → f ≡ findBy k (take n ks)
         → (i : ℕ)
         → f ≡ At i
-        → Is (crossing (getD ds row nan) (getD ws row nan) (getD ds i nan) (getD ws i nan))
+        → Is (crosses (rowAt ks ds ws row) (rowAt ks ds ws i))
     unfolding listed
     both-stored h f e i t = rw (lt-ltb (getD ks row 0) k h, one-stored k f e i t)

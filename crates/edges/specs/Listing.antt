@@ -13,7 +13,9 @@ use Rattle.table.specs.declared.Settings.{Settings}
 use Rattle.table.specs.declared.Checked.{Checked}
 use Rattle.table.specs.declared.Checked.the-variants as checked
 use Rattle.edges.specs.Edges.{Edge, edges}
-use Rattle.edges.specs.ZeroCrossing.{zeroCrossingEdges}
+use Rattle.edges.specs.Surfaces.{edgesOn}
+use Rattle.edges.specs.declared.Surface.{Surface}
+use Rattle.edges.specs.declared.Surface.the-variants.{Open}
 
 -- the two columns of an edge list
 abbrev pub firsts : List Edge → List ℕ
@@ -36,13 +38,23 @@ unfoldable pub answerIf : Checked → List Edge → ℕ → Listed
 answerIf checked.Passed es room = roomFor (length es) room
 answerIf (checked.Refused why) es room = listed.Refused why
 
--- the answer to a call, and what the two lists hold
-unfoldable pub edgesAnswer : Settings → Table → ℕ → ℕ → Listed
+-- the answer to a call for a surface's edges, and what the two lists hold
+unfoldable pub crossingsAnswer : Surface → Settings → Table → ℕ → ℕ → Listed
 unfolding checkedFor answerIf edges
-edgesAnswer s t a b = answerIf (checkedFor s t a b) (zeroCrossingEdges (rows t)) a
+crossingsAnswer o s t a b = answerIf (checkedFor s t a b) (edgesOn o (rows t)) a
+
+abbrev pub firstsOn : Surface → Settings → Table → ℕ → ℕ → List ℕ
+firstsOn o s t a b = heldFor 0 (crossingsAnswer o s t a b) a (firsts (edgesOn o (rows t)))
+
+abbrev pub secondsOn : Surface → Settings → Table → ℕ → ℕ → List ℕ
+secondsOn o s t a b = heldFor 0 (crossingsAnswer o s t a b) b (seconds (edgesOn o (rows t)))
+
+-- the same of the zero-crossing edges
+abbrev pub edgesAnswer : Settings → Table → ℕ → ℕ → Listed
+edgesAnswer s t a b = crossingsAnswer Open s t a b
 
 abbrev pub firstsHeld : Settings → Table → ℕ → ℕ → List ℕ
-firstsHeld s t a b = heldFor 0 (edgesAnswer s t a b) a (firsts (zeroCrossingEdges (rows t)))
+firstsHeld s t a b = firstsOn Open s t a b
 
 abbrev pub secondsHeld : Settings → Table → ℕ → ℕ → List ℕ
-secondsHeld s t a b = heldFor 0 (edgesAnswer s t a b) b (seconds (zeroCrossingEdges (rows t)))
+secondsHeld s t a b = secondsOn Open s t a b

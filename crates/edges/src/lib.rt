@@ -15,9 +15,15 @@ ghost use Rattle.search.specs.Keys.{ascending, findBy};
 ghost use Rattle.table.specs.Table.{table, rowsOf};
 ghost use Rattle.neighbors.specs.Neighbors.{neighbours};
 ghost use Rattle.edges.specs.Edges.{listed, edgesOf};
-ghost use Rattle.edges.specs.ZeroCrossing.{crossing, crossesZero, zeroCrossingEdges};
-ghost use Rattle.edges.specs.Listing.{firsts, seconds, outputsOk, checkedFor, answerIf, edgesAnswer, firstsHeld, secondsHeld};
+ghost use Rattle.edges.specs.ZeroCrossing.{crossing};
+ghost use Rattle.edges.specs.Surfaces.{crossesOn, edgesOn};
+ghost use Rattle.edges.specs.Listing.{firsts, seconds, outputsOk, checkedFor, answerIf, crossingsAnswer, firstsOn, secondsOn, edgesAnswer, firstsHeld, secondsHeld};
 ghost use Rattle.edges.specs.Steps.{Accepted, rowAt, Wrote};
+
+// Which surface is asked for: document 01's, whose edges are the zero crossings.
+pub enum Surface {
+    Open,
+}
 
 // Both weights are nonzero and the product of the distances is below zero.
 fn crosses(distance: f32, weight: f32, other: f32, beside: f32) -> bool
@@ -34,8 +40,35 @@ fn find_beside(keys: &[u64], count: usize, row: usize, key: u64) -> Found
     search::find_above(&keys[..count], row + 1, key)
 }
 
+// Whether the rows at two places cross.
+fn crosses_at(
+    surface: Surface,
+    keys: &[u64],
+    distances: &[f32],
+    weights: &[f32],
+    count: usize,
+    row: usize,
+    place: usize,
+) -> bool
+    requires { ⌜ Accepted (now keys) (now distances) (now weights) count × (row < count) × (place < count) ⌝ }
+    ensures { λ r. ⌜ r ≡ crossesOn surface
+        (rowsOf (now (keys .entry)) (now (distances .entry)) (now (weights .entry)) count)
+        (rowAt (now (keys .entry)) (now (distances .entry)) (now (weights .entry)) row)
+        (rowAt (now (keys .entry)) (now (distances .entry)) (now (weights .entry)) place) ⌝ }
+{
+    match surface {
+        Surface::Open => crosses(
+            distances[row],
+            weights[row],
+            distances[place],
+            weights[place],
+        ),
+    }
+}
+
 // Whether the row at a place and the cell `key` are listed.
 fn is_listed(
+    surface: Surface,
     keys: &[u64],
     distances: &[f32],
     weights: &[f32],
@@ -44,7 +77,8 @@ fn is_listed(
     key: u64,
 ) -> bool
     requires { ⌜ Accepted (now keys) (now distances) (now weights) count × (row < count) ⌝ }
-    ensures { λ r. ⌜ r ≡ listed neighbours crossesZero
+    ensures { λ r. ⌜ r ≡ listed neighbours
+        (crossesOn surface (rowsOf (now (keys .entry)) (now (distances .entry)) (now (weights .entry)) count))
         (rowsOf (now (keys .entry)) (now (distances .entry)) (now (weights .entry)) count)
         (rowAt (now (keys .entry)) (now (distances .entry)) (now (weights .entry)) row) key ⌝ }
 {
@@ -54,12 +88,7 @@ fn is_listed(
     let Found::At(place) = find_beside(keys, count, row, key) else {
         return false;
     };
-    crosses(
-        distances[row],
-        weights[row],
-        distances[place],
-        weights[place],
-    )
+    crosses_at(surface, keys, distances, weights, count, row, place)
 }
 
 // One edge at a place of both lists; nothing where they have no such place.
@@ -76,6 +105,7 @@ fn put_edge(first: &mut [u64], second: &mut [u64], at: usize, a: u64, b: u64)
 
 // The edges that one row lists, from the place `at` on; those past the lists' end are only counted.
 fn list_row(
+    surface: Surface,
     keys: &[u64],
     distances: &[f32],
     weights: &[f32],
@@ -86,7 +116,8 @@ fn list_row(
     second: &mut [u64],
 ) -> usize
     requires { ⌜ Accepted (now keys) (now distances) (now weights) count × (row < count) × (at ≤ 14 * row) × (length (now second) ≡ length (now first)) ⌝ }
-    ensures { λ r. ⌜ Wrote (edgesOf neighbours crossesZero
+    ensures { λ r. ⌜ Wrote (edgesOf neighbours
+        (crossesOn surface (rowsOf (now (keys .entry)) (now (distances .entry)) (now (weights .entry)) count))
         (rowsOf (now (keys .entry)) (now (distances .entry)) (now (weights .entry)) count)
         (rowAt (now (keys .entry)) (now (distances .entry)) (now (weights .entry)) row)) at (now (first .entry))
         (now (second .entry)) r (now (first .exit)) (now (second .exit)) ⌝ }
@@ -100,7 +131,7 @@ fn list_row(
     let mut i = 0;
     while i < n {
         let k = cells[i];
-        if is_listed(keys, distances, weights, count, row, k) {
+        if is_listed(surface, keys, distances, weights, count, row, k) {
             put_edge(first, second, end, key, k);
             end += 1;
         }
@@ -111,6 +142,7 @@ fn list_row(
 
 // All edges; those past the lists' end are only counted.
 fn list_edges(
+    surface: Surface,
     keys: &[u64],
     distances: &[f32],
     weights: &[f32],
@@ -119,14 +151,24 @@ fn list_edges(
     second: &mut [u64],
 ) -> usize
     requires { ⌜ Accepted (now keys) (now distances) (now weights) count × (length (now second) ≡ length (now first)) ⌝ }
-    ensures { λ r. ⌜ Wrote (zeroCrossingEdges
+    ensures { λ r. ⌜ Wrote (edgesOn surface
         (rowsOf (now (keys .entry)) (now (distances .entry)) (now (weights .entry)) count)) 0 (now (first .entry))
         (now (second .entry)) r (now (first .exit)) (now (second .exit)) ⌝ }
 {
     let mut end = 0;
     let mut row = 0;
     while row < count {
-        end = list_row(keys, distances, weights, count, row, end, first, second);
+        end = list_row(
+            surface,
+            keys,
+            distances,
+            weights,
+            count,
+            row,
+            end,
+            first,
+            second,
+        );
         row += 1;
     }
     end
@@ -162,6 +204,7 @@ fn outputs_ok(first: usize, second: usize) -> bool
 
 // The edges, where the tests passed; the places past them are left to be cleared.
 fn list_checked(
+    surface: Surface,
     verdict: Checked,
     keys: &[u64],
     distances: &[f32],
@@ -172,22 +215,68 @@ fn list_checked(
 ) -> Listed
     requires { ⌜ (verdict ≡ Checked.Passed → Accepted (now keys) (now distances) (now weights) count × (length (now second) ≡ length (now first))) ⌝ }
     ensures { λ r. ⌜ r ≡ answerIf verdict
-        (zeroCrossingEdges (rowsOf (now (keys .entry)) (now (distances .entry)) (now (weights .entry)) count))
+        (edgesOn surface (rowsOf (now (keys .entry)) (now (distances .entry)) (now (weights .entry)) count))
         (length (now (first .entry))) ⌝ }
     ensures { λ r. ⌜ clearedFrom 0 (countOf r) (now (first .exit))
         ≡ heldFor 0 r (length (now (first .entry)))
-        (firsts (zeroCrossingEdges
+        (firsts (edgesOn surface
         (rowsOf (now (keys .entry)) (now (distances .entry)) (now (weights .entry)) count))) ⌝ }
     ensures { λ r. ⌜ clearedFrom 0 (countOf r) (now (second .exit))
         ≡ heldFor 0 r (length (now (second .entry)))
-        (seconds (zeroCrossingEdges
+        (seconds (edgesOn surface
         (rowsOf (now (keys .entry)) (now (distances .entry)) (now (weights .entry)) count))) ⌝ }
 {
     if let Checked::Refused(why) = verdict {
         return Listed::Refused(why);
     }
-    let n = list_edges(keys, distances, weights, count, first, second);
+    let n = list_edges(surface, keys, distances, weights, count, first, second);
     lists::room_for(n, first.len())
+}
+
+// The edges of a surface of a table, in two lists.
+pub fn list_crossings(
+    surface: Surface,
+    settings: Settings,
+    keys: &[u64],
+    distances: &[f32],
+    weights: &[f32],
+    count: usize,
+    first: &mut [u64],
+    second: &mut [u64],
+) -> Listed
+    ensures { λ r. ⌜ r ≡ crossingsAnswer surface settings
+        (table (now (keys .entry)) (now (distances .entry)) (now (weights .entry)) count) (length (now (first .entry)))
+        (length (now (second .entry))) ⌝ }
+    ensures { λ _. ⌜ now (first .exit) ≡ firstsOn surface settings
+        (table (now (keys .entry)) (now (distances .entry)) (now (weights .entry)) count) (length (now (first .entry)))
+        (length (now (second .entry))) ⌝ }
+    ensures { λ _. ⌜ now (second .exit) ≡ secondsOn surface settings
+        (table (now (keys .entry)) (now (distances .entry)) (now (weights .entry)) count) (length (now (first .entry)))
+        (length (now (second .entry))) ⌝ }
+{
+    let verdict = check(
+        settings,
+        keys,
+        distances,
+        weights,
+        count,
+        first.len(),
+        second.len(),
+    );
+    let listed = list_checked(
+        surface,
+        verdict,
+        keys,
+        distances,
+        weights,
+        count,
+        first,
+        second,
+    );
+    let n = lists::count_of(listed);
+    lists::clear_from_u64(first, n);
+    lists::clear_from_u64(second, n);
+    listed
 }
 
 // The zero-crossing edges of a table, in two lists.
@@ -210,18 +299,14 @@ pub fn get_zero_crossing_edges(
         (table (now (keys .entry)) (now (distances .entry)) (now (weights .entry)) count) (length (now (first .entry)))
         (length (now (second .entry))) ⌝ }
 {
-    let verdict = check(
+    list_crossings(
+        Surface::Open,
         settings,
         keys,
         distances,
         weights,
         count,
-        first.len(),
-        second.len(),
-    );
-    let listed = list_checked(verdict, keys, distances, weights, count, first, second);
-    let n = lists::count_of(listed);
-    lists::clear_from_u64(first, n);
-    lists::clear_from_u64(second, n);
-    listed
+        first,
+        second,
+    )
 }

@@ -2,7 +2,7 @@
 -- Assumes nothing.
 use mathlib.Core.Path.{refl}
 use Rattle.table.specs.Table.{rowsOf}
-use Rattle.edges.specs.ZeroCrossing.{zeroCrossingEdges}
+use Rattle.edges.specs.Surfaces.{edgesOn}
 use Rattle.edges.specs.Listing.{answerIf, firsts, seconds}
 use Rattle.lists.proofs.Held.{refused-held}
 use Rattle.edges.proofs.AnswerLaws.{answer-room, firsts-held, seconds-held}
@@ -18,7 +18,7 @@ unfolding answerIf
 returns c =
     let at-start = c .before .before .before .before .before .before .before .before in
     let a = at-start .args in
-    let es = zeroCrossingEdges (rowsOf (a .keys .now) (a .distances .now) (a .weights .now) (a .count)) in
+    let es = edgesOn (a .surface) (rowsOf (a .keys .now) (a .distances .now) (a .weights .now) (a .count)) in
     (rw (c .before .verdict .given .1) refl, (refused-held 0 _ (a .first .now) (firsts es), refused-held 0 _ (a .second .now) (seconds es)))
 
 enum-told : tie.Need-enum-told

@@ -7,19 +7,20 @@ use Rattle.table.specs.Table.{rowsOf, beside}
 use Rattle.table.proofs.RowLaws.{row-at}
 use Rattle.neighbors.specs.Neighbors.{neighbours}
 use Rattle.edges.specs.Edges.{edges}
-use Rattle.edges.specs.ZeroCrossing.{crossesZero}
+use Rattle.edges.specs.Surfaces.{crossesOn}
 use Rattle.edges.proofs.RoundLaws.{Writing, from, begun, done, row-turn, no-row-left}
 use borrow.Author.Needs.{needs}
 use Rattle.edges.proofs.list_edges.Statement.{statement}
 use Rattle.edges.proofs.list_edges.Tie as tie
 
 abbrev Inv-loop : tie.InvT-loop
-Inv-loop keys distances weights count first₀ second₀ end₀ row₀ first second end row =
+Inv-loop surface keys distances weights count first₀ second₀ end₀ row₀ first second end row =
     let rows = rowsOf keys distances weights count in
-    (row ≤ count) × (end ≤ 14 * row) × Writing (from neighbours crossesZero rows 0) 0 first₀ second₀ (from neighbours crossesZero rows row) end first second
+    let left = from neighbours (crossesOn surface rows) rows in
+    (row ≤ count) × (end ≤ 14 * row) × Writing (left 0) 0 first₀ second₀ (left row) end first second
 
 abbrev μ-loop : tie.MeasureT-loop
-μ-loop keys distances weights count first₀ second₀ end₀ row₀ first second end row = count - row
+μ-loop surface keys distances weights count first₀ second₀ end₀ row₀ first second end row = count - row
 
 loop-holds : tie.Need-loop-holds Inv-loop μ-loop
 loop-holds c = (search needs, omega arith, begun _ _ _ _)
@@ -47,7 +48,7 @@ loop-again c =
     let p = s .pre .0 in (
       omega arith,
       omega (arith, t .list-row .ensures .1),
-      row-turn neighbours crossesZero _ (l .loop .row) _
+      row-turn neighbours _ _ (l .loop .row) _
           (row-at (a .keys .now) (a .distances .now) (a .weights .now) (a .count) (l .loop .row) (p .distances)
           (p .weights) below (p .fits))
           _ _ _ _ _ _ _ _ _ _ (l .loop .inv .2) (t .list-row .ensures .0),
@@ -66,7 +67,7 @@ returns c =
     let a = l .before .before .before .before .before .before .args in
     let rows = rowsOf (a .keys .now) (a .distances .now) (a .weights .now) (a .count) in
     let all : length rows ≤ l .loop .row = omega (arith, length-take (a .count) (beside (a .keys .now) (a .distances .now) (a .weights .now))) in
-    done _ _ _ _ _ _ _ (rw (no-row-left neighbours crossesZero rows (l .loop .row) all) at (l .loop .inv .2))
+    done _ _ _ _ _ _ _ (rw (no-row-left neighbours _ rows (l .loop .row) all) at (l .loop .inv .2))
 
 pub list-edges-spec : {M : Type 1} → statement M
 list-edges-spec =

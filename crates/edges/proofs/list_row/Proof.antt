@@ -13,7 +13,8 @@ use Rattle.neighbors.specs.declared.Near.{Near}
 use Rattle.neighbors.proofs.NeighborLaws.{at-most-14}
 use Rattle.lists.proofs.PaddingLaws.{padded-at}
 use Rattle.edges.specs.Edges.{Edge, listed, edgesTo}
-use Rattle.edges.specs.ZeroCrossing.{crossesZero}
+use Rattle.edges.specs.Surfaces.{crossesOn}
+use Rattle.edges.specs.declared.Surface.{Surface}
 use Rattle.edges.specs.Steps.{rowAt}
 use Rattle.edges.proofs.RoundLaws.{Writing, begun, done, turn-listed, turn-unlisted, none-left}
 use borrow.Author.Needs.{needs}
@@ -21,15 +22,19 @@ use Rattle.edges.proofs.list_row.Statement.{statement}
 use Rattle.edges.proofs.list_row.Tie as tie
 
 -- the edges of the row to its neighbours from a place on
-abbrev left : List ℕ → List Float → List Float → ℕ → ℕ → ℕ → List Edge
-left ks ds ws n row i = edgesTo neighbours crossesZero (rowsOf ks ds ws n) (rowAt ks ds ws row) (drop i (neighbours (getD ks row 0)))
+abbrev left : Surface → List ℕ → List Float → List Float → ℕ → ℕ → ℕ → List Edge
+left o ks ds ws n row i =
+    let rows = rowsOf ks ds ws n in
+    edgesTo neighbours (crossesOn o rows) rows (rowAt ks ds ws row) (drop i (neighbours (getD ks row 0)))
 
 abbrev Inv-loop : tie.InvT-loop
-Inv-loop keys distances weights count row at first₀ second₀ key cells n end₀ i₀ first second end i =
-    (i ≤ n) × (end ≤ at + i) × Writing (left keys distances weights count row 0) at first₀ second₀ (left keys distances weights count row i) end first second
+Inv-loop surface keys distances weights count row at first₀ second₀ key cells n end₀ i₀ first second end i =
+    (i ≤ n)
+    × (end ≤ at + i)
+    × Writing (left surface keys distances weights count row 0) at first₀ second₀ (left surface keys distances weights count row i) end first second
 
 abbrev μ-loop : tie.MeasureT-loop
-μ-loop keys distances weights count row at first₀ second₀ key cells n end₀ i₀ first second end i =
+μ-loop surface keys distances weights count row at first₀ second₀ key cells n end₀ i₀ first second end i =
     n - i
 
 mul-key : tie.Need-mul-key Inv-loop μ-loop
@@ -64,12 +69,11 @@ few c = rw (size c) (at-most-14 (key c))
 -- what was asked of the neighbour
 asked : (c : tie.After-is-listed Inv-loop μ-loop) →
     let l = c .before .before in
-    c .is-listed .result ≡ listed neighbours crossesZero
-    (rowsOf (start l .args .keys .now) (start l .args .distances .now) (start l .args .weights .now)
-    (start l .args .count))
+    let rows = rowsOf (start l .args .keys .now) (start l .args .distances .now) (start l .args .weights .now) (start l .args .count) in
+    c .is-listed .result ≡ listed neighbours (crossesOn (start l .args .surface) rows) rows
     (rowAt (start l .args .keys .now) (start l .args .distances .now) (start l .args .weights .now)
     (start l .args .row)) (getD (neighbours (key l)) (l .loop .i) 0)
-asked c = c .is-listed .ensures ∙ ap (listed neighbours crossesZero _ _) (cell (c .before .before) (c .before .before .loop .i))
+asked c = c .is-listed .ensures ∙ ap (listed neighbours _ _ _) (cell (c .before .before) (c .before .before .loop .i))
 
 mul-k : tie.Need-mul-k Inv-loop μ-loop
 mul-k c = omega (arith, few (c .before))
@@ -121,7 +125,7 @@ returns c =
     let l = c .before in
     let w = l .loop .inv .2 in
     let all : length (neighbours (key l)) ≤ l .loop .i = omega (arith, size l) in
-    (done _ _ _ _ _ _ _ (rw (none-left neighbours crossesZero _ _ (neighbours (key l)) (l .loop .i) all) at w), omega (arith, few l))
+    (done _ _ _ _ _ _ _ (rw (none-left neighbours _ _ _ (neighbours (key l)) (l .loop .i) all) at w), omega (arith, few l))
 
 pub list-row-spec : {M : Type 1} → statement M
 list-row-spec =

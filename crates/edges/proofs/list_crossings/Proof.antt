@@ -1,11 +1,11 @@
--- `edges::get_zero_crossing_edges` meets its contract: what is listed stays, and the rest is cleared.
+-- `edges::list_crossings` meets its contract: what is listed stays, and the rest is cleared.
 -- Assumes nothing.
 use mathlib.Core.Path.{sym, _∙_}
 use Rattle.table.specs.Table.{table}
 use Rattle.edges.proofs.AnswerLaws.{accepted, answered, cleared-to}
 use borrow.Author.Needs.{needs}
-use Rattle.edges.proofs.get_zero_crossing_edges.Statement.{statement}
-use Rattle.edges.proofs.get_zero_crossing_edges.Tie as tie
+use Rattle.edges.proofs.list_crossings.Statement.{statement}
+use Rattle.edges.proofs.list_crossings.Tie as tie
 
 check-requires : tie.Need-check-requires
 check-requires c κs = search needs
@@ -38,16 +38,16 @@ returns c =
     .before .before .before .before .before .before .before .before .before .args in
     let t = table (a .keys .now) (a .distances .now) (a .weights .now) (a .count) in
     let done = l .list-checked .ensures in (
-      answered (a .settings) t _ _ _ verdict _ (done .0),
+      answered (a .surface) (a .settings) t _ _ _ verdict _ (done .0),
       (
-        cleared-to (a .settings) t _ _ _ verdict _ (done .0) _ n _ _ _ _
+        cleared-to (a .surface) (a .settings) t _ _ _ verdict _ (done .0) _ n _ _ _ _
             (c .before .before .before .before .before .before .clear-from-u64 .ensures) (done .1 .0),
-        cleared-to (a .settings) t _ _ _ verdict _ (done .0) _ n _ _ _ _ (c .before .before .clear-from-u642 .ensures) (done .1 .1),
+        cleared-to (a .surface) (a .settings) t _ _ _ verdict _ (done .0) _ n _ _ _ _ (c .before .before .clear-from-u642 .ensures) (done .1 .1),
       ),
     )
 
-pub get-zero-crossing-edges-spec : {M : Type 1} → statement M
-get-zero-crossing-edges-spec =
+pub list-crossings-spec : {M : Type 1} → statement M
+list-crossings-spec =
     tie.close
     (tie.spec
     check-requires

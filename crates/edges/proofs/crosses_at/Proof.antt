@@ -1,0 +1,52 @@
+-- `edges::crosses_at` meets its contract: the test is that of the surface.
+-- Assumes nothing.
+use mathlib.Core.Path.{_∙_}
+use Rattle.edges.proofs.SurfaceLaws.{open-crosses}
+use borrow.Author.Needs.{needs}
+use Rattle.edges.proofs.crosses_at.Statement.{statement}
+use Rattle.edges.proofs.crosses_at.Tie as tie
+
+mul-crosses : tie.Need-mul-crosses
+mul-crosses c = search needs
+
+shared-slice-read-crosses : tie.Need-shared-slice-read-crosses
+shared-slice-read-crosses c = search needs
+
+mul-crosses-2 : tie.Need-mul-crosses-2
+mul-crosses-2 c = search needs
+
+shared-slice-read-crosses-2 : tie.Need-shared-slice-read-crosses-2
+shared-slice-read-crosses-2 c = search needs
+
+mul-crosses-3 : tie.Need-mul-crosses-3
+mul-crosses-3 c = search needs
+
+shared-slice-read-crosses-3 : tie.Need-shared-slice-read-crosses-3
+shared-slice-read-crosses-3 c = search needs
+
+mul-crosses-4 : tie.Need-mul-crosses-4
+mul-crosses-4 c = search needs
+
+shared-slice-read-crosses-4 : tie.Need-shared-slice-read-crosses-4
+shared-slice-read-crosses-4 c = search needs
+
+crosses-requires : tie.Need-crosses-requires
+crosses-requires c κs = search needs
+
+returns : tie.Need-returns
+returns c = let a = c .before .before .before .before .before .before .before .before .args in c .crosses .ensures ∙ open-crosses (a .surface) _ _ _
+
+pub crosses-at-spec : {M : Type 1} → statement M
+crosses-at-spec =
+    tie.close
+    (tie.spec
+    mul-crosses
+    shared-slice-read-crosses
+    mul-crosses-2
+    shared-slice-read-crosses-2
+    mul-crosses-3
+    shared-slice-read-crosses-3
+    mul-crosses-4
+    shared-slice-read-crosses-4
+    crosses-requires
+    returns)
