@@ -1,4 +1,4 @@
--- On an accepted table the search by halves finds the rows, so each edge of its own list has the vertex of its two rows.
+-- On an accepted table the search by halves finds the rows, so each edge of a list of its own has the vertex of its two rows.
 -- Assumes nothing.
 use Prim.Native.Nat.{ℕ, _<_, min, max}
 use native.Mathlib.Omega.{arith}
@@ -22,14 +22,16 @@ use Rattle.table.specs.Table.{Row, rowsOf, rowOk, rowsOk}
 use Rattle.search.specs.declared.Found.{Found}
 use Rattle.search.specs.declared.Found.the-variants as found
 use Rattle.table.specs.Rows.{keysOf, stored}
-use Rattle.edges.specs.Edges.{Edge, edge}
-use Rattle.edges.specs.ZeroCrossing.{zeroCrossingEdges}
+use Rattle.neighbors.specs.Neighbors.{neighbours}
+use Rattle.edges.specs.Edges.{Edge, edge, edges}
+use Rattle.edges.specs.EdgeList.{Symmetric}
+use Rattle.edges.specs.ZeroCrossing.{crossesZero, zeroCrossingEdges}
 use Rattle.edges.specs.Listing.{firsts, seconds}
 use Rattle.edges.specs.Steps.{Accepted}
 use Rattle.edges.proofs.EdgeLaws.{pair-up, pair-down}
 use Rattle.table.proofs.StoredLaws.{ascending-rows, in-stored}
 use Rattle.edges.proofs.ListingLaws.{place-below, none-stored, one-stored}
-use Rattle.edges.proofs.ZeroCrossingLaws.{demand-3-edges}
+use Rattle.edges.proofs.ZeroCrossingLaws.{demand-3-over, crosses-either}
 use Rattle.slopes.specs.declared.Vertex.{Vertex}
 use Rattle.slopes.specs.Stored.{Lookup, distanceAt, distanceBy, orZero}
 use Rattle.vertices.specs.StoredRows.{distanceOf, distanceIn}
@@ -82,7 +84,7 @@ module _ (ks : List ℕ) (ds ws : List Float) (n : ℕ) (acc : Accepted ks ds ws
   pub own-normals : normalsOf (distanceBy ks ds n) size (firsts es) ≡ normalsOf (distanceIn (rowsOf ks ds ws n)) size (firsts es)
   own-normals = ap (λ (look : Lookup). normalsOf look size (firsts es)) (distance-by ks ds ws n acc)
 
--- ---- each edge of the table's own list has the vertex of its two rows
+-- ---- each edge of a list of the table's own has the vertex of its two rows
 
 module _ (size : Float) (rows : List Row) (up : ascending (keysOf rows) ≡ true) where
   found-row : (r : Row) → r ∈ rows → orZero (distanceIn rows (r .key)) ≡ r .distance
@@ -107,14 +109,25 @@ module _ (size : Float) (rows : List Row) (up : ascending (keysOf rows) ≡ true
         place = rw (q, found-row r m, found-row s o);
       }
 
-  pub edge-vertex : (e : Edge) → e ∈ zeroCrossingEdges rows → EdgeVertex rows size e (vertexAt (distanceIn rows) size (e .first) (e .second))
-  edge-vertex e m =
-      let w = demand-3-edges rows up .only e m in
+  -- for the edges by any symmetric test
+  pub edge-vertex-over :
+      (crosses : Row → Row → Bool)
+      → Symmetric crosses
+      → (e : Edge)
+      → e ∈ edges neighbours crosses rows
+      → EdgeVertex rows size e (vertexAt (distanceIn rows) size (e .first) (e .second))
+  edge-vertex-over crosses both e m =
+      let list = demand-3-over crosses both rows up in
+      let w = list .only e m in
       let r = w .0 in
       let s = w .1 in
       let x = w .2 in
-      let l : min (r .key) (s .key) < max (r .key) (s .key) = rw (w .3) at (demand-3-edges rows up .smaller e m) in
+      let l : min (r .key) (s .key) < max (r .key) (s .key) = rw (w .3) at (list .smaller e m) in
       ⊎-elim
       (λ h. both-found s r (x .beside) (x .stored) e (w .3 ∙ pair-down (omega arith)))
       (λ h. both-found r s (x .stored) (x .beside) e (w .3 ∙ pair-up h))
       (le-or-lt (s .key) (r .key))
+
+  -- for the zero-crossing edges
+  pub edge-vertex : (e : Edge) → e ∈ zeroCrossingEdges rows → EdgeVertex rows size e (vertexAt (distanceIn rows) size (e .first) (e .second))
+  edge-vertex = edge-vertex-over crossesZero crosses-either
