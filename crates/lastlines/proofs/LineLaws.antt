@@ -26,7 +26,7 @@ use Rattle.lines.specs.declared.Line.the-variants as line
 use Rattle.lines.specs.Lines.{lineOf}
 use Rattle.mesh.specs.declared.Meshed.{Meshed}
 use Rattle.mesh.specs.declared.Meshed.the-variants as meshed
-use Rattle.mesh.specs.Mesh.{edgesOf, trianglesOf, verticesOf, haveRoom, heldIn, meshCheck, meshedIf, meshAnswer}
+use Rattle.mesh.specs.Mesh.{edgesOf, trianglesOf, verticesOf, haveRoom, heldIn, meshCheck, meshedOn, meshedIf, meshAnswerOn, meshAnswer}
 use Rattle.slopes.specs.Vertices.{xsOf, ysOf, zsOf}
 use Rattle.texts.specs.Texts.{hexDigits, hexField, decimalFrom, countsLine, vertexLine, badLine, refusedLine}
 use Rattle.fusing.specs.declared.Fused.{Fused}
@@ -116,7 +116,7 @@ stepped started s n goes = record { started = started; settings = s; length = n;
 
 -- an answer has at most 512 edges
 bound-if : (v : Checked) (t : Table) → edgesIn (meshedIf v t held) ≤ 512
-unfolding meshedIf
+unfolding meshedOn
 bound-if checked.Passed t =
     cases (λ (b : Bool). edgesIn (cond b (meshed.Done (length (edgesOf t)) (length (trianglesOf t))) (meshed.Refused NoPlace)) ≤ 512) (haveRoom t held)
     (λ e. leb-true _ _ (and-first _ _ e))
@@ -124,7 +124,7 @@ bound-if checked.Passed t =
 bound-if (checked.Refused why) t = omega arith
 
 pub edges-bound : (s : Settings) (t : Table) → edgesIn (meshAnswer s t held) ≤ 512
-unfolding meshAnswer
+unfolding meshAnswerOn
 edges-bound s t = bound-if (meshCheck s t held) t
 
 pub edges-in : (s : Settings) (t : Table) {a : Meshed} → a ≡ meshAnswer s t held → edgesIn a ≤ 512

@@ -26,7 +26,7 @@ use Rattle.groups.specs.CellEdges.{paired, cellSpan, cellEdges}
 use Rattle.groups.specs.Groups.{numbersFrom}
 use Rattle.groups.specs.Near.{gathered}
 use Rattle.lists.specs.Threes.{withThird, withTwo, threes, twosOf, threesOf}
-use Rattle.mesh.specs.Mesh.{meshCheck, meshedIf, meshAnswer, heldIn}
+use Rattle.mesh.specs.Mesh.{meshCheck, meshedOn, meshAnswerOn, heldIn}
 use Rattle.lastlines.specs.Lastcheck.{placedOf, givenOf, testedAs, settingsFrom, setupOf, cellOf, takenOf, fusedAs, readingOf, vertexLines, printedFor, meshText, afterSetup, afterReading, afterMesh, afterLine, stepOf, transcriptFrom, unended, linesFrom, transcript}
 
 -- `P 3f800000 42c80000 3f800000` and a newline
@@ -76,7 +76,7 @@ unfolding trailingZeros span climb size odd units round neg sum add sub mul div 
     risesFrom ascending next find beside rowsOk need tableCheck put relaid fusedVoxel voxelAt hasPlace stored fusedNear
     fusedIf fuseIf fuse admitIf admitted edgesTo edges stored-edges crossing offsets inside reachedFrom shown neighboursBy
     distanceAt distanceOf-vertices orZero partOf-vertices vertexOf vertexAt paired cellSpan cellEdges numbersFrom gathered
-    withThird withTwo threes twosOf threesOf meshCheck meshedIf meshAnswer heldIn placedOf givenOf testedAs settingsFrom
+    withThird withTwo threes twosOf threesOf meshCheck meshedOn meshAnswerOn heldIn placedOf givenOf testedAs settingsFrom
     setupOf cellOf takenOf fusedAs readingOf vertexLines printedFor meshText afterSetup afterReading afterMesh afterLine
     stepOf transcriptFrom unended linesFrom transcript
 samples = refl

@@ -26,6 +26,7 @@ use Rattle.table.proofs.Checking.{not-passed, setting-spares, lengths-spare, ta
 use Rattle.edges.specs.Edges.{Edge}
 use Rattle.edges.specs.EdgeList.{IsEdgeList}
 use Rattle.edges.specs.ZeroCrossing.{crossesZero}
+use Rattle.edges.specs.declared.Surface.the-variants.{Open}
 use Rattle.edges.specs.Listing.{firsts, seconds}
 use Rattle.edges.proofs.ZeroCrossingLaws.{demand-3-edges}
 use Rattle.groups.specs.Groups.{groupOf}
@@ -36,8 +37,9 @@ use Rattle.triangles.proofs.Demand3.{zero-crossing-triangles}
 use Rattle.mesh.specs.declared.Rooms.{Rooms}
 use Rattle.mesh.specs.declared.Meshed.{Meshed}
 use Rattle.mesh.specs.declared.Meshed.the-variants.{Done, Refused}
-use Rattle.mesh.specs.Mesh.{edgesOf, groupsOf, trianglesOf, roomsOk, meshCheck, haveRoom, meshedIf, meshAnswer, heldIn}
-use Rattle.mesh.proofs.MeshLaws.{rise, rest-ok, pairs}
+use Rattle.mesh.specs.Mesh.{edgesOf, groupsOf, trianglesOf, roomsOk, meshCheck, haveRoom, meshedOn, meshedIf, meshAnswerOn, meshAnswer, heldIn}
+use Rattle.mesh.proofs.OpenLaws.{rise, pairs}
+use Rattle.mesh.proofs.MeshLaws.{fit}
 
 never : (why : Refusal) (i j : ℕ) → Refused why ≡ Done i j → ⊥
 never why i j e = let z : _≡_ {A = ℕ} 0 1 = cc in omega arith
@@ -87,7 +89,7 @@ module _ (s : Settings) (ks : List ℕ) (ds ws : List Float) (cnt : ℕ) (r : Ro
 
   -- what an answer that is a mesh tells
   done : (c : Checked) (i j : ℕ) → meshedIf c t r ≡ Done i j → (c ≡ Passed) × (haveRoom t r ≡ true) × (i ≡ length es) × (j ≡ length (trianglesOf t))
-  unfolding meshedIf
+  unfolding meshedOn
   done Passed i j e = go (haveRoom t r) refl e
     where
       go :
@@ -105,7 +107,7 @@ module _ (s : Settings) (ks : List ℕ) (ds ws : List Float) (cnt : ℕ) (r : Ro
       → (meshedIf c t r ≡ Refused NoPlace) ↔
       ((c ≡ Passed)
       × Outgrown (length es) (r .first) (r .px) (length (groupsOf t)) (r .groups) (length (trianglesOf t)) (r .t0))
-  unfolding meshedIf
+  unfolding meshedOn
   refused Passed spare = (λ e. (refl, go (haveRoom t r) refl e), λ p. back (haveRoom t r) refl (p .1))
     where
       go :
@@ -130,26 +132,26 @@ module _ (s : Settings) (ks : List ℕ) (ds ws : List Float) (cnt : ℕ) (r : Ro
       ((meshCheck s t r ≡ Passed)
       × ((r .first < length es)
       ⊎ ((r .px < length es) ⊎ ((r .groups < length (groupsOf t)) ⊎ (r .t0 < length (trianglesOf t))))))
-  unfolding meshAnswer
+  unfolding meshAnswerOn
   refused-for-room = refused (meshCheck s t r) tests-spare-room
 
   -- ---- a mesh
 
   module _ (i j : ℕ) (e : meshAnswer s t r ≡ Done i j) where
     known : (meshCheck s t r ≡ Passed) × (haveRoom t r ≡ true) × (i ≡ length es) × (j ≡ length (trianglesOf t))
-    unfolding meshAnswer
+    unfolding meshAnswerOn
     known = done (meshCheck s t r) i j e
 
     -- The edges and the triangles are those of demand 3, and the counts are theirs; each edge has two places in the groups.
     pub mesh-edges : IsEdgeList neighbours adjacent crossesZero (rows t) es × (i ≡ length es)
-    mesh-edges = (demand-3-edges (rows t) (rise s ks ds ws cnt r (known .0)), known .2)
+    mesh-edges = (demand-3-edges (rows t) (rise s ks ds ws cnt (r .first) (r .second) _ (fit Open s ks ds ws cnt r (known .0))), known .2)
 
     pub mesh-triangles : IsTriangleList es (trianglesOf t) × (j ≡ length (trianglesOf t))
-    mesh-triangles = (zero-crossing-triangles (rows t) (rise s ks ds ws cnt r (known .0)), known .3)
+    mesh-triangles = (zero-crossing-triangles (rows t) (rise s ks ds ws cnt (r .first) (r .second) _ (fit Open s ks ds ws cnt r (known .0))), known .3)
 
     pub mesh-groups : length (groupsOf t) ≡ i + i
     mesh-groups =
-        let up = rise s ks ds ws cnt r (known .0) in
+        let up = rise s ks ds ws cnt (r .first) (r .second) _ (fit Open s ks ds ws cnt r (known .0)) in
         let n = groups-room neighbours adjacent crossesZero (rows t) es up (demand-3-edges (rows t) up) in
         omega (arith, known .2)
 
@@ -161,7 +163,7 @@ module _ (s : Settings) (ks : List ℕ) (ds ws : List Float) (cnt : ℕ) (r : Ro
     unfolding heldIn padded
     mesh-hands-group cell on =
         let pass = known .0 in
-        let up = rise s ks ds ws cnt r pass in
+        let up = rise s ks ds ws cnt (r .first) (r .second) _ (fit Open s ks ds ws cnt r pass) in
         let room = known .1 in
         let fits = leb-true (length es) (r .first) (and-first (leb (length es) (r .first)) _ room) in
         let enough =
@@ -171,8 +173,8 @@ module _ (s : Settings) (ks : List ℕ) (ds ws : List Float) (cnt : ℕ) (r : Ro
         let long : length (groupsOf t ++ replicate (r .groups - length (groupsOf t)) 0) ≡ r .groups = padded-length 0 (r .groups) (groupsOf t) enough in
         let taken =
         and-eq (ap (λ (n : ℕ). leb n 1048576) long
-        ∙ and-first (leb (r .groups) 1048576) _ (rest-ok s ks ds ws cnt r pass))
-        (pairs s ks ds ws cnt r pass fits) in
+        ∙ and-first (leb (r .groups) 1048576) _ (fit Open s ks ds ws cnt r pass .rest))
+        (pairs s ks ds ws cnt (r .first) (r .second) _ (fit Open s ks ds ws cnt r pass) fits) in
         ap (λ (a : Meshed). cellEdges (heldIn 0 a (r .groups) (groupsOf t)) (heldIn 0 a (r .first) (firsts es)) (heldIn 0 a (r .second) (seconds es)) i cell) e
         ∙ ap (λ (n : ℕ).
         cellEdges (groupsOf t ++ replicate (r .groups - length (groupsOf t)) 0)

@@ -1,3 +1,4 @@
+pub mod OpenLaws
 pub mod MeshLaws
 pub mod Calls
 pub mod Determined

@@ -1,5 +1,5 @@
--- What a mesh is worked out from: where the tests pass and the edges have room, the two lists hold the edge list, so that vertices, groups and triangles
--- are document 01's; and what each list holds once it is settled by the answer.
+-- The mesh of a surface that is drawn: where the tests pass and the edges have room, the two lists hold the edge list, so that vertices and normals are
+-- document 01's; and what each list holds once it is settled by the answer.
 -- Assumes nothing.
 use Prim.Native.Nat.{ℕ, _-_, _≤_}
 use native.Mathlib.Nat.{le-refl, sub-self}
@@ -23,20 +23,17 @@ use Rattle.lists.proofs.PaddingLaws.{padded-length, padded-front}
 use Rattle.lists.proofs.Writing.{sets-front, cleared-whole}
 use Rattle.refusals.specs.declared.Refusal.{Refusal}
 use Rattle.refusals.specs.declared.Refusal.the-variants.{Setting, Lengths, NoPlace}
-use Rattle.search.specs.Keys.{ascending}
 use Rattle.table.specs.Table.{Table, table, rows, settingsOk, need, tableCheck}
 use Rattle.table.specs.declared.Settings.{Settings}
 use Rattle.table.specs.declared.Checked.{Checked}
 use Rattle.table.specs.declared.Checked.the-variants.{Passed, Refused as Rejected}
-use Rattle.table.proofs.Laying.{columns}
-use Rattle.table.specs.Rows.{keysOf}
 use Rattle.table.proofs.Checking.{need-passed}
 use Rattle.edges.specs.Edges.{Edge}
-use Rattle.edges.specs.Listing.{firsts, seconds, outputsOk, checkedFor, answerIf, edgesAnswer, firstsHeld, secondsHeld}
+use Rattle.edges.specs.Listing.{firsts, seconds, outputsOk, checkedFor, answerIf}
 use Rattle.edges.specs.Steps.{Accepted}
+use Rattle.edges.specs.declared.Surface.{Surface}
 use Rattle.edges.proofs.AnswerLaws.{accepted}
-use Rattle.edges.proofs.ListingLaws.{rows-rise}
-use Rattle.edges.proofs.Calls.{counted-only, answered-with-edges}
+use Rattle.edges.proofs.Calls.{counted-only}
 use Rattle.slopes.specs.declared.Vertex.{Vertex}
 use Rattle.slopes.specs.declared.Normal.{Normal}
 use Rattle.slopes.specs.Stored.{Lookup, distanceBy}
@@ -44,17 +41,14 @@ use Rattle.vertices.specs.StoredRows.{distanceIn}
 use Rattle.slopes.specs.Vertices.{xsOf, ysOf, zsOf, verticesOf as besideOf}
 use Rattle.slopes.specs.Normals.{normalsOf, partsX, partsY, partsZ}
 use Rattle.vertices.proofs.TableLaws.{distance-by, vertices-of-edges}
-use Rattle.groups.specs.Groups.{groups}
-use Rattle.groups.specs.CellEdges.{pairsOk}
 use Rattle.lists.specs.Threes.{Three, column0, column1, column2}
-use Rattle.triangles.specs.Triangles.{triangles}
-use Rattle.triangles.specs.Building.{Source, source, groupsAt, trianglesAt, cellsOf, sizesOk, roomForBoth, builtAnswer, groupsHeld, held0, held1, held2, Rooms as Lent, rooms as roomsFor}
-use Rattle.triangles.proofs.Built.{groups-built, triangles-built}
+use Rattle.triangles.specs.Building.{Rooms as Lent, rooms as roomsFor}
 use Rattle.mesh.specs.declared.Rooms.{Rooms}
+use Rattle.mesh.specs.declared.Drawn.{Drawn}
 use Rattle.mesh.specs.declared.Meshed.{Meshed}
 use Rattle.mesh.specs.declared.Meshed.the-variants.{Done, Refused}
-use Rattle.mesh.specs.Mesh.{edgesOf, verticesOf, normals, groupsOf, trianglesOf, roomsOk, meshCheck, haveRoom, meshedIf, meshAnswer, heldIn}
-use Rattle.mesh.specs.Steps.{withBuilt, withVertices, withEdges, answerFor, keptOf}
+use Rattle.mesh.specs.Mesh.{surfaceEdges, verticesOn, normalsOn, groupsOn, trianglesOn, roomsOk, meshCheck, haveRoomOn, meshedOn, meshAnswerOn, heldIn}
+use Rattle.mesh.specs.Steps.{withBuilt, withVertices, withEdges, answerFor, keptOf, Fit, Drawing}
 
 -- ---- one list
 
@@ -118,38 +112,36 @@ unfolding need
 need-true true why rest e = refl
 need-true false why rest e = let z : _≡_ {A = ℕ} 0 1 = cc in let un : ⊥ = omega arith in absurd un
 
-module _ (s : Settings) (ks : List ℕ) (ds ws : List Float) (cnt : ℕ) (r : Rooms) where
-  abbrev t : Table
-  t = table ks ds ws cnt
+-- the rooms of the groups and the triangles
+abbrev pub lent : Rooms → Lent
+lent r = roomsFor (r .groups) (r .t0) (r .t1) (r .t2)
 
-  abbrev es : List Edge
-  es = edgesOf t
+module _ (o : Surface) (s : Settings) (ks : List ℕ) (ds ws : List Float) (cnt : ℕ) (r : Rooms) where
+  abbrev own : Table
+  own = table ks ds ws cnt
 
-  module _ (pass : meshCheck s t r ≡ Passed) where
-    tests : (settingsOk s ≡ true) × (roomsOk r ≡ true) × (tableCheck s t ≡ Passed)
+  abbrev own-edges : List Edge
+  own-edges = surfaceEdges o own
+
+  module _ (pass : meshCheck s own r ≡ Passed) where
+    tests : (settingsOk s ≡ true) × (roomsOk r ≡ true) × (tableCheck s own ≡ Passed)
     unfolding meshCheck
     tests =
-        let a = need-passed (settingsOk s) Setting (need (roomsOk r) Lengths (tableCheck s t)) pass in
-        let b = need-passed (roomsOk r) Lengths (tableCheck s t) (a .1) in
+        let a = need-passed (settingsOk s) Setting (need (roomsOk r) Lengths (tableCheck s own)) pass in
+        let b = need-passed (roomsOk r) Lengths (tableCheck s own) (a .1) in
         (a .0, b .0, b .1)
 
     outputs : outputsOk (r .first) (r .second) ≡ true
     outputs = and-first (outputsOk (r .first) (r .second)) _ (tests .1)
 
-    edges-pass : checkedFor s t (r .first) (r .second) ≡ Passed
+    edges-pass : checkedFor s own (r .first) (r .second) ≡ Passed
     unfolding checkedFor
     edges-pass =
-        need-true (settingsOk s) Setting (need (outputsOk (r .first) (r .second)) Lengths (tableCheck s t)) (tests .0)
-        ∙ need-true (outputsOk (r .first) (r .second)) Lengths (tableCheck s t) outputs ∙ tests .2
+        need-true (settingsOk s) Setting (need (outputsOk (r .first) (r .second)) Lengths (tableCheck s own)) (tests .0)
+        ∙ need-true (outputsOk (r .first) (r .second)) Lengths (tableCheck s own) outputs ∙ tests .2
 
-    pub acc : Accepted ks ds ws cnt × (r .second ≡ r .first)
+    acc : Accepted ks ds ws cnt × (r .second ≡ r .first)
     acc = accepted s ks ds ws cnt (r .first) (r .second) edges-pass
-
-    pub rise : ascending (keysOf (rows t)) ≡ true
-    rise = rows-rise ks ds ws cnt (acc .0)
-
-    keys-are : take cnt ks ≡ keysOf (rows t)
-    keys-are = sym (columns ks ds ws cnt (acc .0 .distances) (acc .0 .weights) .0)
 
     -- the vertices' lists are equally long
     six : ((r .py ≡ r .px) × (r .pz ≡ r .px)) × ((r .nx ≡ r .px) × (r .ny ≡ r .px) × (r .nz ≡ r .px))
@@ -170,348 +162,273 @@ module _ (s : Settings) (ks : List ℕ) (ds ws : List Float) (cnt : ℕ) (r : Ro
           ),
         )
 
-    pub rest-ok : leb (r .groups) 1048576 && ((eqb (r .t0) (r .t1) && eqb (r .t0) (r .t2)) && leb (r .t0) 1048576) ≡ true
+    rest-ok : leb (r .groups) 1048576 && ((eqb (r .t0) (r .t1) && eqb (r .t0) (r .t2)) && leb (r .t0) 1048576) ≡ true
     rest-ok =
         and-second
         (((eqb (r .px) (r .py) && eqb (r .px) (r .pz)) &&
         (eqb (r .px) (r .nx) && (eqb (r .px) (r .ny) && eqb (r .px) (r .nz)))) && leb (r .px) 1048576) _
         (and-second (outputsOk (r .first) (r .second)) _ (tests .1))
 
-    edges-answer : edgesAnswer s t (r .first) (r .second) ≡ roomFor (length es) (r .first)
-    unfolding edgesAnswer answerIf
-    edges-answer = ap (λ (c : Checked). answerIf c es (r .first)) edges-pass
+    pub fit : Fit s own (r .first) (r .second) (lent r)
+    fit = record { edges = edges-pass; rest = rest-ok }
 
     -- ---- where the edges have room
 
-    module _ (fits : length es ≤ r .first) where
-      edges-count : edgesAnswer s t (r .first) (r .second) ≡ listed.Count (length es)
-      edges-count = edges-answer ∙ rw (le-leb (length es) (r .first) fits)
-
+    module _ (fits : length own-edges ≤ r .first) where
       abbrev as' : List ℕ
-      as' = padded 0 (r .first) (firsts es)
+      as' = padded 0 (r .first) (firsts own-edges)
 
       abbrev bs : List ℕ
-      bs = padded 0 (r .second) (seconds es)
-
-      first-long : length as' ≡ r .first
-      first-long = padded-length 0 (r .first) (firsts es) (omega (arith, length-map es (λ (e : Edge). e .first)))
-
-      second-long : length bs ≡ r .second
-      second-long = padded-length 0 (r .second) (seconds es) (omega (arith, length-map es (λ (e : Edge). e .second), acc .1))
-
-      pub pairs : pairsOk (length as') (length bs) (length es) ≡ true
-      pairs =
-          rw (first-long, second-long)
-          (and-eq (and-first (eqb (r .first) (r .second)) _ outputs)
-          (and-eq (and-second (eqb (r .first) (r .second)) _ outputs) (le-leb (length es) (r .first) fits)))
-
-      abbrev src : Source
-      src = source ks cnt as' bs (length es)
-
-      sizes : sizesOk src (roomsFor (r .groups) (r .t0) (r .t1) (r .t2)) ≡ true
-      unfolding sizesOk
-      sizes = and-eq (and-eq (le-leb (length ks) 65536 (acc .0 .few)) (le-leb cnt (length ks) (acc .0 .fits))) (and-eq pairs rest-ok)
-
-      groups-are : groupsAt src (cellsOf src) ≡ groupsOf t
-      unfolding padded
-      groups-are =
-          groups-built (rows t) rise (replicate (r .first - length (firsts es)) 0)
-          (replicate (r .second - length (seconds es)) 0) pairs (take cnt ks)
-          ∙ ap (groups es) keys-are
-
-      triangles-are : trianglesAt src (cellsOf src) ≡ trianglesOf t
-      unfolding padded
-      triangles-are =
-          triangles-built (rows t) rise (replicate (r .first - length (firsts es)) 0)
-          (replicate (r .second - length (seconds es)) 0) pairs (take cnt ks)
-          ∙ ap (triangles es) keys-are
-
-      built-is : builtAnswer src (roomsFor (r .groups) (r .t0) (r .t1) (r .t2)) ≡ roomForBoth (length (groupsOf t)) (r .groups) (length (trianglesOf t)) (r .t0)
-      unfolding builtAnswer
-      built-is =
-          ap (λ (b : Bool).
-          cond b (roomForBoth (length (groupsAt src (cellsOf src))) (r .groups)
-          (length (trianglesAt src (cellsOf src))) (r .t0)) (listed.Refused Lengths)) sizes
-          ∙ ap (λ (g : List ℕ). roomForBoth (length g) (r .groups) (length (trianglesAt src (cellsOf src))) (r .t0)) groups-are
-          ∙ ap (λ (l : List (Three ℕ)). roomForBoth (length (groupsOf t)) (r .groups) (length l) (r .t0)) triangles-are
+      bs = padded 0 (r .second) (seconds own-edges)
 
       -- the cells of the edges, from the front of the two lists
-      firsts-front : take (length es) as' ≡ firsts es
-      firsts-front = ap (λ (n : ℕ). take n as') (sym (length-map es (λ (e : Edge). e .first))) ∙ padded-front 0 (r .first) (firsts es)
+      firsts-front : take (length own-edges) as' ≡ firsts own-edges
+      firsts-front = ap (λ (n : ℕ). take n as') (sym (length-map own-edges (λ (e : Edge). e .first))) ∙ padded-front 0 (r .first) (firsts own-edges)
 
-      seconds-front : take (length es) bs ≡ seconds es
-      seconds-front = ap (λ (n : ℕ). take n bs) (sym (length-map es (λ (e : Edge). e .second))) ∙ padded-front 0 (r .second) (seconds es)
+      seconds-front : take (length own-edges) bs ≡ seconds own-edges
+      seconds-front = ap (λ (n : ℕ). take n bs) (sym (length-map own-edges (λ (e : Edge). e .second))) ∙ padded-front 0 (r .second) (seconds own-edges)
 
-      vertices-are : besideOf (distanceBy ks ds cnt) (s .«voxel_size» .0) (take (length es) as') (take (length es) bs) ≡ verticesOf s t
+      vertices-are : besideOf (distanceBy ks ds cnt) (s .«voxel_size» .0) (take (length own-edges) as') (take (length own-edges) bs) ≡ verticesOn o s own
       vertices-are =
           ap₂ (λ (k l : List ℕ). besideOf (distanceBy ks ds cnt) (s .«voxel_size» .0) k l) firsts-front seconds-front
-          ∙ ap (λ (look : Lookup). besideOf look (s .«voxel_size» .0) (firsts es) (seconds es)) (distance-by ks ds ws cnt (acc .0))
-          ∙ vertices-of-edges (distanceIn (rows t)) (s .«voxel_size» .0) es
+          ∙ ap (λ (look : Lookup). besideOf look (s .«voxel_size» .0) (firsts own-edges) (seconds own-edges)) (distance-by ks ds ws cnt (acc .0))
+          ∙ vertices-of-edges (distanceIn (rows own)) (s .«voxel_size» .0) own-edges
 
-      normals-are : normalsOf (distanceBy ks ds cnt) (s .«voxel_size» .0) (take (length es) as') ≡ normals s t
+      normals-are : normalsOf (distanceBy ks ds cnt) (s .«voxel_size» .0) (take (length own-edges) as') ≡ normalsOn o s own
       normals-are =
           ap (λ (k : List ℕ). normalsOf (distanceBy ks ds cnt) (s .«voxel_size» .0) k) firsts-front
-          ∙ ap (λ (look : Lookup). normalsOf look (s .«voxel_size» .0) (firsts es)) (distance-by ks ds ws cnt (acc .0))
+          ∙ ap (λ (look : Lookup). normalsOf look (s .«voxel_size» .0) (firsts own-edges)) (distance-by ks ds ws cnt (acc .0))
 
-  -- ---- the call
+-- ---- the call: the verdict v, what is drawn, how many edges it says, the answer a, and what the lists of edges, groups and triangles hold then
 
-  module _ (v : Checked) (e : Listed) (n : ℕ) (b : Listed) (a : Meshed) (f' s' : List ℕ)
-      (tested : v ≡ meshCheck s t r)
-      (edges : e ≡ edgesAnswer s t (r .first) (r .second))
-      (f-is : f' ≡ firstsHeld s t (r .first) (r .second))
-      (s-is : s' ≡ secondsHeld s t (r .first) (r .second))
-      (count : n ≡ countOf e)
-      (built : b ≡ builtAnswer (source ks cnt f' s' n) (roomsFor (r .groups) (r .t0) (r .t1) (r .t2)))
-      (answered : a ≡ answerFor v e (r .px) b) where
-    -- where the tests pass and the edges have room
-    module _ (pass : meshCheck s t r ≡ Passed) (fits : length es ≤ r .first) where
-      e-count : e ≡ listed.Count (length es)
-      e-count = edges ∙ edges-count pass fits
+pub record Run (o : Surface) (s : Settings) (t : Table) (r : Rooms) (v : Checked) (d : Drawn) (n : ℕ) (a : Meshed) (f' s' g' x' y' z' : List ℕ) : Type 0 where
+  pub tested : v ≡ meshCheck s t r
+  pub drawn : Fit s t (r .first) (r .second) (lent r) → Drawing o t (r .first) (r .second) (lent r) d f' s' g' x' y' z'
+  pub count : n ≡ countOf (d .edges)
+  pub answered : a ≡ answerFor v (d .edges) (r .px) (d .built)
+
+module _ {o : Surface} {s : Settings} {ks : List ℕ} {ds ws : List Float} {cnt : ℕ} {r : Rooms} {v : Checked} {d : Drawn} {n : ℕ} {a : Meshed}
+    {f' s' g' x' y' z' : List ℕ} (run : Run o s (table ks ds ws cnt) r v d n a f' s' g' x' y' z') where
+  abbrev t : Table
+  t = table ks ds ws cnt
+
+  abbrev es : List Edge
+  es = surfaceEdges o t
+
+  -- where the tests pass and the edges have room
+  module _ (pass : meshCheck s t r ≡ Passed) where
+    drawing : Drawing o t (r .first) (r .second) (lent r) d f' s' g' x' y' z'
+    drawing = run .drawn (fit o s ks ds ws cnt r pass)
+
+    module _ (fits : length es ≤ r .first) where
+      e-count : d .edges ≡ listed.Count (length es)
+      e-count = drawing .edges ∙ rw (le-leb (length es) (r .first) fits)
 
       n-count : n ≡ length es
-      n-count = count ∙ ap countOf e-count
+      n-count = run .count ∙ ap countOf e-count
 
-      f-held : f' ≡ padded 0 (r .first) (firsts es)
-      f-held = f-is ∙ answered-with-edges s t (r .first) (r .second) (length es) (edges-count pass fits) .2
+  pub answer-is : a ≡ meshAnswerOn o s t r
+  unfolding meshAnswerOn answerFor meshedOn
+  answer-is = run .answered ∙ ap (λ (c : Checked). answerFor c (d .edges) (r .px) (d .built)) (run .tested) ∙ go (meshCheck s t r) refl
+    where
+      passed : meshCheck s t r ≡ Passed → withEdges (d .edges) (r .px) (d .built) ≡ cond (haveRoomOn o t r) (Done (length es) (length (trianglesOn o t))) (Refused NoPlace)
+      passed pass =
+          cases
+          (λ (p : Bool).
+          leb (length es) (r .first) ≡ p
+          → withEdges (d .edges) (r .px) (d .built) ≡ cond (p && (leb (length es) (r .px) &&
+          (leb (length (groupsOn o t)) (r .groups) && leb (length (trianglesOn o t)) (r .t0))))
+          (Done (length es) (length (trianglesOn o t))) (Refused NoPlace))
+          (leb (length es) (r .first))
+          (λ h q.
+          let fits = leb-true (length es) (r .first) h in
+          ap (λ (l : Listed). withEdges l (r .px) (d .built)) (e-count pass fits)
+          ∙ ap (λ (l : Listed). withVertices (length es) (r .px) l) (drawing pass .built fits)
+          ∙ both (length es) (length (trianglesOn o t)) (leb (length es) (r .px))
+          (leb (length (groupsOn o t)) (r .groups) && leb (length (trianglesOn o t)) (r .t0)))
+          (λ h q.
+          ap (λ (l : Listed). withEdges l (r .px) (d .built))
+          (drawing pass .edges
+          ∙ ap (λ (p : Bool). cond p (listed.Count (length es)) (listed.Refused NoPlace)) h))
+          refl
 
-      s-held : s' ≡ padded 0 (r .second) (seconds es)
-      s-held = s-is ∙ answered-with-edges s t (r .first) (r .second) (length es) (edges-count pass fits) .3
+      go : (c : Checked) → meshCheck s t r ≡ c → answerFor c (d .edges) (r .px) (d .built) ≡ meshedOn o c t r
+      go Passed q = passed q
+      go (Rejected why) q = refl
 
-      src-is : source ks cnt f' s' n ≡ src pass fits
-      src-is = λ i. source ks cnt (f-held i) (s-held i) (n-count i)
+  -- what an answer that is a mesh tells
+  module _ (i j : ℕ) (q : a ≡ Done i j) where
+    known : (v ≡ Passed) × (d .edges ≡ listed.Count i) × (i ≤ r .px) × (d .built ≡ listed.Count j)
+    known = done-known v (d .edges) (r .px) (d .built) i j (sym (run .answered) ∙ q)
 
-      b-is : b ≡ roomForBoth (length (groupsOf t)) (r .groups) (length (trianglesOf t)) (r .t0)
-      b-is = built ∙ ap (λ (x : Source). builtAnswer x (roomsFor (r .groups) (r .t0) (r .t1) (r .t2))) src-is ∙ built-is pass fits
+    passes : meshCheck s t r ≡ Passed
+    passes = sym (run .tested) ∙ known .0
 
-    pub answer-is : a ≡ meshAnswer s t r
-    unfolding meshAnswer answerFor meshedIf
-    answer-is = answered ∙ ap (λ (c : Checked). answerFor c e (r .px) b) tested ∙ go (meshCheck s t r) refl
-      where
-        passed : meshCheck s t r ≡ Passed → withEdges e (r .px) b ≡ cond (haveRoom t r) (Done (length es) (length (trianglesOf t))) (Refused NoPlace)
-        passed pass =
-            cases
-            (λ (p : Bool).
-            leb (length es) (r .first) ≡ p
-            → withEdges e (r .px) b ≡ cond (p && (leb (length es) (r .px) &&
-            (leb (length (groupsOf t)) (r .groups) && leb (length (trianglesOf t)) (r .t0))))
-            (Done (length es) (length (trianglesOf t))) (Refused NoPlace))
-            (leb (length es) (r .first))
-            (λ h q.
-            let fits = leb-true (length es) (r .first) h in
-            ap (λ (l : Listed). withEdges l (r .px) b) (e-count pass fits)
-            ∙ ap (λ (l : Listed). withVertices (length es) (r .px) l) (b-is pass fits)
-            ∙ both (length es) (length (trianglesOf t)) (leb (length es) (r .px))
-            (leb (length (groupsOf t)) (r .groups) && leb (length (trianglesOf t)) (r .t0)))
-            (λ h q.
-            ap (λ (l : Listed). withEdges l (r .px) b)
-            (edges
-            ∙ edges-answer pass
-            ∙ ap (λ (p : Bool). cond p (listed.Count (length es)) (listed.Refused NoPlace)) h))
-            refl
+    counted : (Passed ≡ Passed) × (i ≡ length es) × (length es ≤ r .first)
+    unfolding answerIf
+    counted = counted-only Passed es (r .first) i (sym (drawing passes .edges) ∙ known .1)
 
-        go : (c : Checked) → meshCheck s t r ≡ c → answerFor c e (r .px) b ≡ meshedIf c t r
-        go Passed q = passed q
-        go (Rejected why) q = refl
+    fitting : length es ≤ r .first
+    fitting = counted .2
 
-    -- what an answer that is a mesh tells
-    module _ (i j : ℕ) (q : a ≡ Done i j) where
-      known : (v ≡ Passed) × (e ≡ listed.Count i) × (i ≤ r .px) × (b ≡ listed.Count j)
-      known = done-known v e (r .px) b i j (sym answered ∙ q)
+    few : length es ≤ r .px
+    few = omega (arith, known .2, counted .1)
 
-      passes : meshCheck s t r ≡ Passed
-      passes = sym tested ∙ known .0
+  -- ---- the lists
 
-      counted : (checkedFor s t (r .first) (r .second) ≡ Passed) × (i ≡ length es) × (length es ≤ r .first)
-      unfolding edgesAnswer
-      counted = counted-only (checkedFor s t (r .first) (r .second)) es (r .first) i (sym edges ∙ known .1)
+  pub first-settled :
+      (l : List ℕ)
+      → length f' ≡ r .first
+      → l ≡ clearedFrom 0 (keptOf a (length f')) f'
+      → l ≡ heldIn 0 (meshAnswerOn o s t r) (r .first) (firsts es)
+  first-settled l long e' =
+      finish 0 a (length f') f' l (firsts es) (r .first) e' long (λ i j q. cleared-past 0 f' ∙ drawing (passes i j q) .first (fitting i j q))
+      ∙ ap (λ (w : Meshed). heldIn 0 w (r .first) (firsts es)) answer-is
 
-      fitting : length es ≤ r .first
-      fitting = counted .2
+  pub second-settled :
+      (l : List ℕ)
+      → length s' ≡ r .second
+      → l ≡ clearedFrom 0 (keptOf a (length s')) s'
+      → l ≡ heldIn 0 (meshAnswerOn o s t r) (r .second) (seconds es)
+  second-settled l long e' =
+      finish 0 a (length s') s' l (seconds es) (r .second) e' long (λ i j q. cleared-past 0 s' ∙ drawing (passes i j q) .second (fitting i j q))
+      ∙ ap (λ (w : Meshed). heldIn 0 w (r .second) (seconds es)) answer-is
 
-      few : length es ≤ r .px
-      few = omega (arith, known .2, counted .1)
+  -- a column of the vertices or of the normals
+  column : {B : Type 0} (f : B → Float) (found right : List B) (l l' l″ : List Float) (room : ℕ) → length l ≡ room →
+      ((i j : ℕ) → a ≡ Done i j → (found ≡ right) × (length right ≡ length es) × (room ≡ r .px)) →
+      l' ≡ sets l 0 (map f found) → l″ ≡ clearedFrom zero32 (keptOf a n) l' → l″ ≡ heldIn zero32 (meshAnswerOn o s t r) room (map f right)
+  column f found right l l' l″ room same how wrote e' =
+      finish zero32 a n l' l″ (map f right) room e' (ap length wrote ∙ length-sets l 0 (map f found) ∙ same)
+      (λ i j q.
+      let h = how i j q in
+      let c = n-count (passes i j q) (fitting i j q) in
+      let m = length-map right f in
+      ap (clearedFrom zero32 n) (wrote ∙ ap (λ (vs : List _). sets l 0 (map f vs)) (h .0))
+      ∙ written-held zero32 l (map f right) n (omega (arith, c, m, h .1)) (omega (arith, m, h .1, h .2, same, few i j q))
+      ∙ ap (λ (k : ℕ). padded zero32 k (map f right)) same)
+      ∙ ap (λ (w : Meshed). heldIn zero32 w room (map f right)) answer-is
 
-    -- ---- the lists
+  -- the vertices, and the normals, as they are worked out
+  abbrev found-vertices : List Vertex
+  found-vertices = besideOf (distanceBy ks ds cnt) (s .«voxel_size» .0) (take n f') (take n s')
 
-    pub first-settled :
-        (l : List ℕ)
-        → length f' ≡ r .first
-        → l ≡ clearedFrom 0 (keptOf a (length f')) f'
-        → l ≡ heldIn 0 (meshAnswer s t r) (r .first) (firsts es)
-    first-settled l long e' =
-        finish 0 a (length f') f' l (firsts es) (r .first) e' long (λ i j q. cleared-past 0 f' ∙ f-held (passes i j q) (fitting i j q))
-        ∙ ap (λ (w : Meshed). heldIn 0 w (r .first) (firsts es)) answer-is
+  abbrev found-normals : List Normal
+  found-normals = normalsOf (distanceBy ks ds cnt) (s .«voxel_size» .0) (take n f')
 
-    pub second-settled :
-        (l : List ℕ)
-        → length s' ≡ r .second
-        → l ≡ clearedFrom 0 (keptOf a (length s')) s'
-        → l ≡ heldIn 0 (meshAnswer s t r) (r .second) (seconds es)
-    second-settled l long e' =
-        finish 0 a (length s') s' l (seconds es) (r .second) e' long (λ i j q. cleared-past 0 s' ∙ s-held (passes i j q) (fitting i j q))
-        ∙ ap (λ (w : Meshed). heldIn 0 w (r .second) (seconds es)) answer-is
+  vertices-known-as : (i j : ℕ) → a ≡ Done i j → (found-vertices ≡ verticesOn o s t) × (length (verticesOn o s t) ≡ length es)
+  vertices-known-as i j q =
+      let p = passes i j q in
+      let f = fitting i j q in (
+        ap₂ (λ (x y : List ℕ). besideOf (distanceBy ks ds cnt) (s .«voxel_size» .0) x y)
+            (ap₂ take (n-count p f) (drawing p .first f)) (ap₂ take (n-count p f) (drawing p .second f))
+            ∙ vertices-are o s ks ds ws cnt r p f,
+        length-map es _,
+      )
 
-    -- a column of the vertices or of the normals
-    column : {B : Type 0} (f : B → Float) (found right : List B) (l l' l″ : List Float) (room : ℕ) → length l ≡ room →
-        ((i j : ℕ) → a ≡ Done i j → (found ≡ right) × (length right ≡ length es) × (room ≡ r .px)) →
-        l' ≡ sets l 0 (map f found) → l″ ≡ clearedFrom zero32 (keptOf a n) l' → l″ ≡ heldIn zero32 (meshAnswer s t r) room (map f right)
-    column f found right l l' l″ room same how wrote e' =
-        finish zero32 a n l' l″ (map f right) room e' (ap length wrote ∙ length-sets l 0 (map f found) ∙ same)
-        (λ i j q.
-        let h = how i j q in
-        let c = n-count (passes i j q) (fitting i j q) in
-        let m = length-map right f in
-        ap (clearedFrom zero32 n) (wrote ∙ ap (λ (vs : List _). sets l 0 (map f vs)) (h .0))
-        ∙ written-held zero32 l (map f right) n (omega (arith, c, m, h .1)) (omega (arith, m, h .1, h .2, same, few i j q))
-        ∙ ap (λ (k : ℕ). padded zero32 k (map f right)) same)
-        ∙ ap (λ (w : Meshed). heldIn zero32 w room (map f right)) answer-is
+  normals-known-as : (i j : ℕ) → a ≡ Done i j → (found-normals ≡ normalsOn o s t) × (length (normalsOn o s t) ≡ length es)
+  normals-known-as i j q =
+      let p = passes i j q in
+      let f = fitting i j q in (
+        ap (λ (x : List ℕ). normalsOf (distanceBy ks ds cnt) (s .«voxel_size» .0) x) (ap₂ take (n-count p f) (drawing p .first f)) ∙ normals-are o s ks ds ws cnt r p f,
+        length-map (firsts es) _ ∙ length-map es (λ (x : Edge). x .first),
+      )
 
-    -- the vertices, and the normals, as they are worked out
-    abbrev found-vertices : List Vertex
-    found-vertices = besideOf (distanceBy ks ds cnt) (s .«voxel_size» .0) (take n f') (take n s')
+  pub px-settled :
+      (l l' l″ : List Float)
+      → length l ≡ r .px
+      → l' ≡ sets l 0 (xsOf found-vertices)
+      → l″ ≡ clearedFrom zero32 (keptOf a n) l'
+      → l″ ≡ heldIn zero32 (meshAnswerOn o s t r) (r .px) (xsOf (verticesOn o s t))
+  px-settled l l' l″ same wrote e' =
+      column (λ (x : Vertex). x .x .0) found-vertices (verticesOn o s t) l l' l″ (r .px) same
+      (λ i j q. let k = vertices-known-as i j q in (k .0, k .1, refl)) wrote e'
 
-    abbrev found-normals : List Normal
-    found-normals = normalsOf (distanceBy ks ds cnt) (s .«voxel_size» .0) (take n f')
+  pub py-settled :
+      (l l' l″ : List Float)
+      → length l ≡ r .py
+      → l' ≡ sets l 0 (ysOf found-vertices)
+      → l″ ≡ clearedFrom zero32 (keptOf a n) l'
+      → l″ ≡ heldIn zero32 (meshAnswerOn o s t r) (r .py) (ysOf (verticesOn o s t))
+  py-settled l l' l″ same wrote e' =
+      column (λ (x : Vertex). x .y .0) found-vertices (verticesOn o s t) l l' l″ (r .py) same
+      (λ i j q. let k = vertices-known-as i j q in (k .0, k .1, six o s ks ds ws cnt r (passes i j q) .0 .0)) wrote e'
 
-    vertices-known-as : (i j : ℕ) → a ≡ Done i j → (found-vertices ≡ verticesOf s t) × (length (verticesOf s t) ≡ length es)
-    vertices-known-as i j q =
-        let p = passes i j q in
-        let f = fitting i j q in (
-          ap₂ (λ (x y : List ℕ). besideOf (distanceBy ks ds cnt) (s .«voxel_size» .0) x y)
-              (ap₂ take (n-count p f) (f-held p f)) (ap₂ take (n-count p f) (s-held p f))
-              ∙ vertices-are p f,
-          length-map es _,
-        )
+  pub pz-settled :
+      (l l' l″ : List Float)
+      → length l ≡ r .pz
+      → l' ≡ sets l 0 (zsOf found-vertices)
+      → l″ ≡ clearedFrom zero32 (keptOf a n) l'
+      → l″ ≡ heldIn zero32 (meshAnswerOn o s t r) (r .pz) (zsOf (verticesOn o s t))
+  pz-settled l l' l″ same wrote e' =
+      column (λ (x : Vertex). x .z .0) found-vertices (verticesOn o s t) l l' l″ (r .pz) same
+      (λ i j q. let k = vertices-known-as i j q in (k .0, k .1, six o s ks ds ws cnt r (passes i j q) .0 .1)) wrote e'
 
-    normals-known-as : (i j : ℕ) → a ≡ Done i j → (found-normals ≡ normals s t) × (length (normals s t) ≡ length es)
-    normals-known-as i j q =
-        let p = passes i j q in
-        let f = fitting i j q in (
-          ap (λ (x : List ℕ). normalsOf (distanceBy ks ds cnt) (s .«voxel_size» .0) x) (ap₂ take (n-count p f) (f-held p f)) ∙ normals-are p f,
-          length-map (firsts es) _ ∙ length-map es (λ (x : Edge). x .first),
-        )
+  pub nx-settled :
+      (l l' l″ : List Float)
+      → length l ≡ r .nx
+      → l' ≡ sets l 0 (partsX found-normals)
+      → l″ ≡ clearedFrom zero32 (keptOf a n) l'
+      → l″ ≡ heldIn zero32 (meshAnswerOn o s t r) (r .nx) (partsX (normalsOn o s t))
+  nx-settled l l' l″ same wrote e' =
+      column (λ (x : Normal). x .x) found-normals (normalsOn o s t) l l' l″ (r .nx) same
+      (λ i j q. let k = normals-known-as i j q in (k .0, k .1, six o s ks ds ws cnt r (passes i j q) .1 .0)) wrote e'
 
-    pub px-settled :
-        (l l' l″ : List Float)
-        → length l ≡ r .px
-        → l' ≡ sets l 0 (xsOf found-vertices)
-        → l″ ≡ clearedFrom zero32 (keptOf a n) l'
-        → l″ ≡ heldIn zero32 (meshAnswer s t r) (r .px) (xsOf (verticesOf s t))
-    px-settled l l' l″ same wrote e' =
-        column (λ (x : Vertex). x .x .0) found-vertices (verticesOf s t) l l' l″ (r .px) same
-        (λ i j q. let k = vertices-known-as i j q in (k .0, k .1, refl)) wrote e'
+  pub ny-settled :
+      (l l' l″ : List Float)
+      → length l ≡ r .ny
+      → l' ≡ sets l 0 (partsY found-normals)
+      → l″ ≡ clearedFrom zero32 (keptOf a n) l'
+      → l″ ≡ heldIn zero32 (meshAnswerOn o s t r) (r .ny) (partsY (normalsOn o s t))
+  ny-settled l l' l″ same wrote e' =
+      column (λ (x : Normal). x .y) found-normals (normalsOn o s t) l l' l″ (r .ny) same
+      (λ i j q. let k = normals-known-as i j q in (k .0, k .1, six o s ks ds ws cnt r (passes i j q) .1 .1)) wrote e'
 
-    pub py-settled :
-        (l l' l″ : List Float)
-        → length l ≡ r .py
-        → l' ≡ sets l 0 (ysOf found-vertices)
-        → l″ ≡ clearedFrom zero32 (keptOf a n) l'
-        → l″ ≡ heldIn zero32 (meshAnswer s t r) (r .py) (ysOf (verticesOf s t))
-    py-settled l l' l″ same wrote e' =
-        column (λ (x : Vertex). x .y .0) found-vertices (verticesOf s t) l l' l″ (r .py) same
-        (λ i j q. let k = vertices-known-as i j q in (k .0, k .1, six (passes i j q) .0 .0)) wrote e'
+  pub nz-settled :
+      (l l' l″ : List Float)
+      → length l ≡ r .nz
+      → l' ≡ sets l 0 (partsZ found-normals)
+      → l″ ≡ clearedFrom zero32 (keptOf a n) l'
+      → l″ ≡ heldIn zero32 (meshAnswerOn o s t r) (r .nz) (partsZ (normalsOn o s t))
+  nz-settled l l' l″ same wrote e' =
+      column (λ (x : Normal). x .z) found-normals (normalsOn o s t) l l' l″ (r .nz) same
+      (λ i j q. let k = normals-known-as i j q in (k .0, k .1, six o s ks ds ws cnt r (passes i j q) .1 .2)) wrote e'
 
-    pub pz-settled :
-        (l l' l″ : List Float)
-        → length l ≡ r .pz
-        → l' ≡ sets l 0 (zsOf found-vertices)
-        → l″ ≡ clearedFrom zero32 (keptOf a n) l'
-        → l″ ≡ heldIn zero32 (meshAnswer s t r) (r .pz) (zsOf (verticesOf s t))
-    pz-settled l l' l″ same wrote e' =
-        column (λ (x : Vertex). x .z .0) found-vertices (verticesOf s t) l l' l″ (r .pz) same
-        (λ i j q. let k = vertices-known-as i j q in (k .0, k .1, six (passes i j q) .0 .1)) wrote e'
+  -- the groups and the triangles as they were drawn
+  built-settled :
+      (room : ℕ) (right l l' : List ℕ)
+      → ((pass : meshCheck s t r ≡ Passed) → length es ≤ r .first → (j : ℕ) → d .built ≡ listed.Count j → l ≡ padded 0 room right)
+      → length l ≡ room
+      → l' ≡ clearedFrom 0 (keptOf a (length l)) l
+      → l' ≡ heldIn 0 (meshAnswerOn o s t r) room right
+  built-settled room right l l' is long e' =
+      finish 0 a (length l) l l' right room e' long (λ i j q. cleared-past 0 l ∙ is (passes i j q) (fitting i j q) j (known i j q .3))
+      ∙ ap (λ (w : Meshed). heldIn 0 w room right) answer-is
 
-    pub nx-settled :
-        (l l' l″ : List Float)
-        → length l ≡ r .nx
-        → l' ≡ sets l 0 (partsX found-normals)
-        → l″ ≡ clearedFrom zero32 (keptOf a n) l'
-        → l″ ≡ heldIn zero32 (meshAnswer s t r) (r .nx) (partsX (normals s t))
-    nx-settled l l' l″ same wrote e' =
-        column (λ (x : Normal). x .x) found-normals (normals s t) l l' l″ (r .nx) same
-        (λ i j q. let k = normals-known-as i j q in (k .0, k .1, six (passes i j q) .1 .0)) wrote e'
+  pub groups-settled :
+      (l' : List ℕ)
+      → length g' ≡ r .groups
+      → l' ≡ clearedFrom 0 (keptOf a (length g')) g'
+      → l' ≡ heldIn 0 (meshAnswerOn o s t r) (r .groups) (groupsOn o t)
+  groups-settled l' = built-settled (r .groups) (groupsOn o t) g' l' (λ p. drawing p .groups)
 
-    pub ny-settled :
-        (l l' l″ : List Float)
-        → length l ≡ r .ny
-        → l' ≡ sets l 0 (partsY found-normals)
-        → l″ ≡ clearedFrom zero32 (keptOf a n) l'
-        → l″ ≡ heldIn zero32 (meshAnswer s t r) (r .ny) (partsY (normals s t))
-    ny-settled l l' l″ same wrote e' =
-        column (λ (x : Normal). x .y) found-normals (normals s t) l l' l″ (r .ny) same
-        (λ i j q. let k = normals-known-as i j q in (k .0, k .1, six (passes i j q) .1 .1)) wrote e'
+  pub t0-settled :
+      (l' : List ℕ)
+      → length x' ≡ r .t0
+      → l' ≡ clearedFrom 0 (keptOf a (length x')) x'
+      → l' ≡ heldIn 0 (meshAnswerOn o s t r) (r .t0) (column0 (trianglesOn o t))
+  t0-settled l' = built-settled (r .t0) (column0 (trianglesOn o t)) x' l' (λ p. drawing p .t0)
 
-    pub nz-settled :
-        (l l' l″ : List Float)
-        → length l ≡ r .nz
-        → l' ≡ sets l 0 (partsZ found-normals)
-        → l″ ≡ clearedFrom zero32 (keptOf a n) l'
-        → l″ ≡ heldIn zero32 (meshAnswer s t r) (r .nz) (partsZ (normals s t))
-    nz-settled l l' l″ same wrote e' =
-        column (λ (x : Normal). x .z) found-normals (normals s t) l l' l″ (r .nz) same
-        (λ i j q. let k = normals-known-as i j q in (k .0, k .1, six (passes i j q) .1 .2)) wrote e'
+  pub t1-settled :
+      (l' : List ℕ)
+      → length y' ≡ r .t1
+      → l' ≡ clearedFrom 0 (keptOf a (length y')) y'
+      → l' ≡ heldIn 0 (meshAnswerOn o s t r) (r .t1) (column1 (trianglesOn o t))
+  t1-settled l' = built-settled (r .t1) (column1 (trianglesOn o t)) y' l' (λ p. drawing p .t1)
 
-    -- the groups and the triangles as they were built
-    abbrev built-from : Source
-    built-from = source ks cnt f' s' n
-
-    held-as : (room : ℕ) (found : Source → List ℕ) (right : List ℕ) → ((p : meshCheck s t r ≡ Passed) (f : length es ≤ r .first) → found (src p f) ≡ right) →
-        (i j : ℕ)
-        → a ≡ Done i j
-        → heldFor 0 (builtAnswer built-from (roomsFor (r .groups) (r .t0) (r .t1) (r .t2))) room (found built-from)
-        ≡ padded 0 room right
-    unfolding heldFor
-    held-as room found right is i j q =
-        let p = passes i j q in
-        let f = fitting i j q in
-        ap (λ (w : Listed). heldFor 0 w room (found built-from)) (sym built ∙ known i j q .3) ∙ ap (padded 0 room) (ap found (src-is p f) ∙ is p f)
-
-    built-settled :
-        (room : ℕ) (found : Source → List ℕ) (right : List ℕ)
-        → ((p : meshCheck s t r ≡ Passed) (f : length es ≤ r .first) → found (src p f) ≡ right) →
-        (l l' : List ℕ) → length l ≡ room → l ≡ heldFor 0 (builtAnswer built-from (roomsFor (r .groups) (r .t0) (r .t1) (r .t2))) room (found built-from) →
-        l' ≡ clearedFrom 0 (keptOf a (length l)) l → l' ≡ heldIn 0 (meshAnswer s t r) room right
-    built-settled room found right is l l' long was e' =
-        finish 0 a (length l) l l' right room e' long (λ i j q. cleared-past 0 l ∙ was ∙ held-as room found right is i j q)
-        ∙ ap (λ (w : Meshed). heldIn 0 w room right) answer-is
-
-    abbrev lent : Lent
-    lent = roomsFor (r .groups) (r .t0) (r .t1) (r .t2)
-
-    pub groups-settled :
-        (l l' : List ℕ)
-        → length l ≡ r .groups
-        → l ≡ groupsHeld built-from lent
-        → l' ≡ clearedFrom 0 (keptOf a (length l)) l
-        → l' ≡ heldIn 0 (meshAnswer s t r) (r .groups) (groupsOf t)
-    groups-settled l l' long was e' = built-settled (r .groups) (λ (x : Source). groupsAt x (cellsOf x)) (groupsOf t) (λ p f. groups-are p f) l l' long was e'
-
-    pub t0-settled :
-        (l l' : List ℕ)
-        → length l ≡ r .t0
-        → l ≡ held0 built-from lent
-        → l' ≡ clearedFrom 0 (keptOf a (length l)) l
-        → l' ≡ heldIn 0 (meshAnswer s t r) (r .t0) (column0 (trianglesOf t))
-    t0-settled l l' long was e' =
-        built-settled (r .t0) (λ (x : Source). column0 (trianglesAt x (cellsOf x))) (column0 (trianglesOf t))
-        (λ p f. ap column0 (triangles-are p f)) l l' long was e'
-
-    pub t1-settled :
-        (l l' : List ℕ)
-        → length l ≡ r .t1
-        → l ≡ held1 built-from lent
-        → l' ≡ clearedFrom 0 (keptOf a (length l)) l
-        → l' ≡ heldIn 0 (meshAnswer s t r) (r .t1) (column1 (trianglesOf t))
-    t1-settled l l' long was e' =
-        built-settled (r .t1) (λ (x : Source). column1 (trianglesAt x (cellsOf x))) (column1 (trianglesOf t))
-        (λ p f. ap column1 (triangles-are p f)) l l' long was e'
-
-    pub t2-settled :
-        (l l' : List ℕ)
-        → length l ≡ r .t2
-        → l ≡ held2 built-from lent
-        → l' ≡ clearedFrom 0 (keptOf a (length l)) l
-        → l' ≡ heldIn 0 (meshAnswer s t r) (r .t2) (column2 (trianglesOf t))
-    t2-settled l l' long was e' =
-        built-settled (r .t2) (λ (x : Source). column2 (trianglesAt x (cellsOf x))) (column2 (trianglesOf t))
-        (λ p f. ap column2 (triangles-are p f)) l l' long was e'
+  pub t2-settled :
+      (l' : List ℕ)
+      → length z' ≡ r .t2
+      → l' ≡ clearedFrom 0 (keptOf a (length z')) z'
+      → l' ≡ heldIn 0 (meshAnswerOn o s t r) (r .t2) (column2 (trianglesOn o t))
+  t2-settled l' = built-settled (r .t2) (column2 (trianglesOn o t)) z' l' (λ p. drawing p .t2)

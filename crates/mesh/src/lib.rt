@@ -1,4 +1,5 @@
 // The mesh of a table (src/layers/mesh.rs, extract_mesh_from_tsdf): edges, vertices with normals, groups and triangles.
+use edges::Surface;
 use lists::LONGEST_LIST;
 use lists::Listed;
 use refusals::Refusal;
@@ -8,8 +9,10 @@ ghost use mathlib.Core.Path.{_≡_};
 ghost use lib.ListN.{length};
 ghost use Rattle.lists.specs.Places.{zeroF, clearedFrom};
 ghost use Rattle.table.specs.Table.{table};
-ghost use Rattle.mesh.specs.Mesh.{rooms as roomsOf, roomsOk, meshCheck, IsMesh};
-ghost use Rattle.mesh.specs.Steps.{withBuilt, withVertices, withEdges, answerFor, keptOf};
+ghost use Rattle.edges.specs.declared.Surface.the-variants.{Open};
+ghost use Rattle.triangles.specs.Building.{rooms as lentOf};
+ghost use Rattle.mesh.specs.Mesh.{rooms as roomsOf, roomsOk, meshCheck, IsMeshOn, IsMesh};
+ghost use Rattle.mesh.specs.Steps.{withBuilt, withVertices, withEdges, answerFor, keptOf, Fit, Drawing};
 
 // What is answered to a mesh: how many edges, which are as many vertices, and how many triangles; or why it is refused.
 pub enum Meshed {
@@ -31,6 +34,12 @@ pub struct Rooms {
     pub t0: usize,
     pub t1: usize,
     pub t2: usize,
+}
+
+// What is answered to a surface's edges, and to its groups and triangles.
+struct Drawn {
+    edges: Listed,
+    built: Listed,
 }
 
 // Each set of lists is equally long, within the limit.
@@ -63,6 +72,88 @@ fn check(
         return Checked::Refused(Refusal::Lengths);
     }
     table::check_table(settings, keys, distances, weights, count)
+}
+
+// The edges of document 01's surface, and from them the groups and the triangles.
+fn draw_open(
+    settings: Settings,
+    keys: &[u64],
+    distances: &[f32],
+    weights: &[f32],
+    count: usize,
+    first: &mut [u64],
+    second: &mut [u64],
+    groups: &mut [u32],
+    t0: &mut [u32],
+    t1: &mut [u32],
+    t2: &mut [u32],
+) -> Drawn
+    ensures { λ d. ⌜ (Fit settings (table (now (keys .entry)) (now (distances .entry)) (now (weights .entry)) count)
+        (length (now (first .entry))) (length (now (second .entry)))
+        (lentOf (length (now (groups .entry))) (length (now (t0 .entry))) (length (now (t1 .entry)))
+        (length (now (t2 .entry))))
+        → Drawing Open (table (now (keys .entry)) (now (distances .entry)) (now (weights .entry)) count)
+        (length (now (first .entry))) (length (now (second .entry)))
+        (lentOf (length (now (groups .entry))) (length (now (t0 .entry))) (length (now (t1 .entry)))
+        (length (now (t2 .entry))))
+        d (now (first .exit)) (now (second .exit)) (now (groups .exit)) (now (t0 .exit)) (now (t1 .exit))
+        (now (t2 .exit))) ⌝ }
+{
+    let edges = edges::get_zero_crossing_edges(
+        settings,
+        keys,
+        distances,
+        weights,
+        count,
+        first,
+        second,
+    );
+    let n = lists::count_of(edges);
+    let built = triangles::build_triangles(keys, count, first, second, n, groups, t0, t1, t2);
+    Drawn { edges, built }
+}
+
+// The edges of a surface, its groups and its triangles.
+fn draw(
+    surface: Surface,
+    settings: Settings,
+    keys: &[u64],
+    distances: &[f32],
+    weights: &[f32],
+    count: usize,
+    first: &mut [u64],
+    second: &mut [u64],
+    groups: &mut [u32],
+    t0: &mut [u32],
+    t1: &mut [u32],
+    t2: &mut [u32],
+) -> Drawn
+    ensures { λ d. ⌜ (Fit settings (table (now (keys .entry)) (now (distances .entry)) (now (weights .entry)) count)
+        (length (now (first .entry))) (length (now (second .entry)))
+        (lentOf (length (now (groups .entry))) (length (now (t0 .entry))) (length (now (t1 .entry)))
+        (length (now (t2 .entry))))
+        → Drawing surface (table (now (keys .entry)) (now (distances .entry)) (now (weights .entry)) count)
+        (length (now (first .entry))) (length (now (second .entry)))
+        (lentOf (length (now (groups .entry))) (length (now (t0 .entry))) (length (now (t1 .entry)))
+        (length (now (t2 .entry))))
+        d (now (first .exit)) (now (second .exit)) (now (groups .exit)) (now (t0 .exit)) (now (t1 .exit))
+        (now (t2 .exit))) ⌝ }
+{
+    match surface {
+        Surface::Open => draw_open(
+            settings,
+            keys,
+            distances,
+            weights,
+            count,
+            first,
+            second,
+            groups,
+            t0,
+            t1,
+            t2,
+        ),
+    }
 }
 
 // The answer, where the vertices have room, by that to the triangles.
@@ -162,6 +253,91 @@ fn settle_triangles(
     lists::clear_from_u32(t2, c);
 }
 
+// The mesh of a surface, in twelve lists.
+fn extract(
+    surface: Surface,
+    settings: Settings,
+    keys: &[u64],
+    distances: &[f32],
+    weights: &[f32],
+    count: usize,
+    first: &mut [u64],
+    second: &mut [u64],
+    px: &mut [f32],
+    py: &mut [f32],
+    pz: &mut [f32],
+    nx: &mut [f32],
+    ny: &mut [f32],
+    nz: &mut [f32],
+    groups: &mut [u32],
+    t0: &mut [u32],
+    t1: &mut [u32],
+    t2: &mut [u32],
+) -> Meshed
+    ensures { λ r. ⌜ IsMeshOn surface settings (table (now (keys .entry)) (now (distances .entry)) (now (weights .entry)) count)
+        (roomsOf (length (now (first .entry))) (length (now (second .entry))) (length (now (px .entry)))
+        (length (now (py .entry))) (length (now (pz .entry))) (length (now (nx .entry))) (length (now (ny .entry)))
+        (length (now (nz .entry))) (length (now (groups .entry))) (length (now (t0 .entry)))
+        (length (now (t1 .entry))) (length (now (t2 .entry))))
+        r (now (first .exit)) (now (second .exit)) (now (px .exit)) (now (py .exit)) (now (pz .exit)) (now (nx .exit))
+        (now (ny .exit)) (now (nz .exit)) (now (groups .exit)) (now (t0 .exit)) (now (t1 .exit)) (now (t2 .exit)) ⌝ }
+{
+    let rooms = Rooms {
+        first: first.len(),
+        second: second.len(),
+        px: px.len(),
+        py: py.len(),
+        pz: pz.len(),
+        nx: nx.len(),
+        ny: ny.len(),
+        nz: nz.len(),
+        groups: groups.len(),
+        t0: t0.len(),
+        t1: t1.len(),
+        t2: t2.len(),
+    };
+    let size = settings.voxel_size;
+    let verdict = check(settings, keys, distances, weights, count, rooms);
+    let drawn = draw(
+        surface,
+        settings,
+        keys,
+        distances,
+        weights,
+        count,
+        first,
+        second,
+        groups,
+        t0,
+        t1,
+        t2,
+    );
+    let edges = drawn.edges;
+    let built = drawn.built;
+    let n = lists::count_of(edges);
+    vertices::list_vertices(
+        keys,
+        distances,
+        count,
+        size,
+        first,
+        second,
+        n,
+        px,
+        py,
+        pz,
+        nx,
+        ny,
+        nz,
+    );
+    let meshed = answer(verdict, edges, rooms.px, built);
+    settle_edges(meshed, first, second);
+    settle_places(meshed, n, px, py, pz);
+    settle_places(meshed, n, nx, ny, nz);
+    settle_triangles(meshed, groups, t0, t1, t2);
+    meshed
+}
+
 // The mesh of a table, in twelve lists: 1, 2, 3, then 6 exactly when edges, vertices, groups or triangles outgrow their own list.
 pub fn extract_mesh_from_tsdf(
     settings: Settings,
@@ -190,23 +366,8 @@ pub fn extract_mesh_from_tsdf(
         r (now (first .exit)) (now (second .exit)) (now (px .exit)) (now (py .exit)) (now (pz .exit)) (now (nx .exit))
         (now (ny .exit)) (now (nz .exit)) (now (groups .exit)) (now (t0 .exit)) (now (t1 .exit)) (now (t2 .exit)) ⌝ }
 {
-    let rooms = Rooms {
-        first: first.len(),
-        second: second.len(),
-        px: px.len(),
-        py: py.len(),
-        pz: pz.len(),
-        nx: nx.len(),
-        ny: ny.len(),
-        nz: nz.len(),
-        groups: groups.len(),
-        t0: t0.len(),
-        t1: t1.len(),
-        t2: t2.len(),
-    };
-    let size = settings.voxel_size;
-    let verdict = check(settings, keys, distances, weights, count, rooms);
-    let edges = edges::get_zero_crossing_edges(
+    extract(
+        Surface::Open,
         settings,
         keys,
         distances,
@@ -214,28 +375,15 @@ pub fn extract_mesh_from_tsdf(
         count,
         first,
         second,
-    );
-    let n = lists::count_of(edges);
-    vertices::list_vertices(
-        keys,
-        distances,
-        count,
-        size,
-        first,
-        second,
-        n,
         px,
         py,
         pz,
         nx,
         ny,
         nz,
-    );
-    let built = triangles::build_triangles(keys, count, first, second, n, groups, t0, t1, t2);
-    let meshed = answer(verdict, edges, rooms.px, built);
-    settle_edges(meshed, first, second);
-    settle_places(meshed, n, px, py, pz);
-    settle_places(meshed, n, nx, ny, nz);
-    settle_triangles(meshed, groups, t0, t1, t2);
-    meshed
+        groups,
+        t0,
+        t1,
+        t2,
+    )
 }
