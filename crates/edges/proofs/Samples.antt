@@ -7,7 +7,7 @@ use lib.Ieee.{ofBits, mul, lt, ne}
 use Rattle.floats.specs.Floats.{f32}
 use Rattle.ids.specs.Morton.{respaced, morton}
 use Rattle.ids.specs.Key.{keyOf}
-use Rattle.neighbors.specs.Neighbors.{offsets, inside, reachedFrom, shown, neighboursBy}
+use Rattle.neighbors.specs.Neighbors.{offsets, inBox, reachedFrom, shown, neighboursBy}
 use Rattle.table.specs.Table.{Row, row}
 use Rattle.table.specs.Rows.{stored}
 use Rattle.edges.specs.Edges.{Edge, edge, edges}
@@ -49,5 +49,5 @@ samples =
     ∷ []
 
 edges-of-samples : map (λ (s : Sample). zeroCrossingEdges (s .rows)) samples ≡ map (λ (s : Sample). s .expected) samples
-unfolding samples edges crossing mul lt ne ofBits morton respaced neighboursBy offsets inside reachedFrom shown stored
+unfolding samples edges crossing mul lt ne ofBits morton respaced neighboursBy offsets inBox reachedFrom shown stored
 edges-of-samples = refl

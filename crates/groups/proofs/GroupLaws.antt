@@ -1,7 +1,7 @@
 -- A cell's group: the numbers of its edges, ascending.
 -- Assumes nothing.
 use Prim.Native.Nat.{ℕ, zero, suc, _+_, _<_}
-use native.Mathlib.Nat.{eq-or-lt-of-le, zero-lt-suc, zero-add, add-zero, suc-add, add-suc, le-of-suc-le-suc, not-suc-le-zero}
+use native.Mathlib.Nat.{zero-lt-suc, zero-add, add-zero, suc-add, add-suc, le-of-suc-le-suc, not-suc-le-zero}
 use native.Mathlib.Omega.{arith}
 use mathlib.Core.Path.{_≡_, refl, sym, ap, _∙_}
 use mathlib.Core.Logic.{_⊎_, inl, inr, ⊎-elim}
@@ -10,16 +10,11 @@ use mathlib.Core.List.{List, [], _∷_, List·Memᴰ·not-nil, Memᴰ·cast}
 use lib.Dec.{eqb}
 use lib.ListN.{length}
 use borrow.Author.Tests.{eqb-true, eq-eqb}
-use Rattle.floats.proofs.Values.{le-or-lt}
 use Rattle.lists.specs.Lists.{_∈_, Ordered}
 use Rattle.lists.proofs.ListLaws.{front-in, in-front, in-behind, front-ordered}
 use Rattle.lists.proofs.Bools.{or-cases}
 use Rattle.edges.specs.Edges.{Edge}
 use Rattle.groups.specs.Groups.{touches, numbersFrom, groupOf, one, countOf, edgeAt, EndsAt}
-
--- one of two numbers is the smaller, or they are the same
-pub compared : (a b : ℕ) → (a < b) ⊎ ((b < a) ⊎ (a ≡ b))
-compared a b = ⊎-elim (λ l. ⊎-elim (λ e. inr (inr e)) (λ h. inl h) (eq-or-lt-of-le l)) (λ h. inr (inl h)) (le-or-lt a b)
 
 -- the test for an end
 touches-ends : (cell : ℕ) (e : Edge) → touches cell e ≡ true → (e .first ≡ cell) ⊎ (e .second ≡ cell)

@@ -24,7 +24,8 @@ use Rattle.edges.proofs.ZeroCrossingLaws.{lattice, demand-3-edges}
 use Rattle.groups.specs.Groups.{EndsAt, groupOf, groups}
 use Rattle.groups.specs.CellEdges.{edgeListsOk, cellEdges}
 use Rattle.groups.specs.Near.{nearGroup}
-use Rattle.groups.proofs.GroupLaws.{compared, group-in, in-group, group-ordered}
+use Rattle.handful.proofs.PlacingLaws.{compared}
+use Rattle.groups.proofs.GroupLaws.{group-in, in-group, group-ordered}
 use Rattle.groups.proofs.PartLaws.{Covers, groups-length, group-part}
 use Rattle.groups.proofs.CountingLaws.{edges-back}
 use Rattle.groups.proofs.Neighbourhoods.{gathered-is-group}

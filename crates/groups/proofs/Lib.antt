@@ -2,7 +2,7 @@ pub mod GroupLaws
 pub mod PartLaws
 pub mod CountingLaws
 pub mod NumberLaws
-pub mod PlacingLaws
+pub mod FoundLaws
 pub mod Neighbourhoods
 pub mod Handed
 pub mod Determined

@@ -17,17 +17,17 @@ use Rattle.edges.specs.Listing.{firsts}
 use Rattle.search.specs.declared.Found.{Found}
 use Rattle.search.specs.declared.Found.the-variants.{At, Absent}
 use Rattle.lists.specs.Padding.{padded}
-use Rattle.groups.specs.declared.Group.{Group}
+use Rattle.handful.specs.declared.Handful.{Handful}
+use Rattle.handful.specs.Handfuls.{held, numbersOf, Roomy}
 use Rattle.lists.proofs.Bools.{cases}
 use Rattle.neighbors.specs.Neighbors.{neighbours}
 use Rattle.neighbors.proofs.NeighborLaws.{at-most-14}
 use Rattle.groups.specs.CellEdges.{edgesIn, pairsOk}
-use Rattle.groups.specs.Near.{pairNumber, withNumber, gathered, nearGroup, held, groupIn}
-use Rattle.groups.specs.Steps.{numbersOf, Open}
+use Rattle.groups.specs.Near.{pairNumber, withNumber, gathered, nearGroup, groupIn}
 use Rattle.groups.specs.Groups.{groupOf, edgeAt, EndsAt}
 use Rattle.groups.proofs.NumberLaws.{number-sound, number-complete}
-use Rattle.groups.proofs.PlacingLaws.{placed-length, placed-here, placed-kept, placed-only, placed-ordered, held-numbers, held-open}
-use Rattle.groups.proofs.GroupLaws.{compared, group-in, in-group, group-ordered}
+use Rattle.handful.proofs.PlacingLaws.{compared, placed-length, placed-here, placed-kept, placed-only, placed-ordered, held-numbers, held-roomy}
+use Rattle.groups.proofs.GroupLaws.{group-in, in-group, group-ordered}
 
 -- numbers in ascending order, exactly those of the edges that have the cell as an end, are its group
 pub group-only :
@@ -149,14 +149,14 @@ pub gather-begun :
 unfolding gathered padded
 gather-begun es cell others i h = rw (drop-of-length-le others {i = i} h)
 
-module _ (es : List Edge) (cell : ℕ) (others : List ℕ) (i : ℕ) (g : Group)
+module _ (es : List Edge) (cell : ℕ) (others : List ℕ) (i : ℕ) (g : Handful)
     (e : g ≡ held (gathered es cell (drop i others))) (up : 0 < i) (h : i ≤ length others) where
-  pub gather-open : length others ≤ 14 → Open g
-  gather-open m =
-      rw e (held-open (gathered es cell (drop i others)) (omega (arith, gathered-few es cell (drop i others), length-drop i others)))
+  pub gather-roomy : length others ≤ 14 → Roomy g
+  gather-roomy m =
+      rw e (held-roomy (gathered es cell (drop i others)) (omega (arith, gathered-few es cell (drop i others), length-drop i others)))
 
   pub gather-turn :
-      (f : Found) (r : Group)
+      (f : Found) (r : Handful)
       → f ≡ pairNumber es cell (getD others (i - 1) 0)
       → r ≡ held (withNumber f (numbersOf g))
       → r ≡ held (gathered es cell (drop (i - 1) others))

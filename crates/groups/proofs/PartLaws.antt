@@ -15,7 +15,8 @@ use Rattle.lists.specs.Lists.{_∈_, Ordered, joined}
 use Rattle.lists.proofs.ListLaws.{at-in}
 use Rattle.edges.specs.Edges.{Edge, edge}
 use Rattle.groups.specs.Groups.{touches, groupOf, groups, one, startOf, countOf, partOf, edgeAt, EndsAt}
-use Rattle.groups.proofs.GroupLaws.{compared, numbers-length, group-in}
+use Rattle.handful.proofs.PlacingLaws.{compared}
+use Rattle.groups.proofs.GroupLaws.{numbers-length, group-in}
 
 -- ---- one end
 

@@ -4,7 +4,7 @@ use mathlib.Core.Bool.{cond}
 use mathlib.Core.List.{List, [], _∷_}
 use lib.Dec.{eqb}
 use lib.ListN.{length, drop}
-use Rattle.lists.specs.Padding.{padded}
+use Rattle.handful.specs.Handfuls.{placedIn}
 use Rattle.neighbors.specs.Neighbors.{neighbours}
 use Rattle.search.specs.Keys.{halved}
 use Rattle.search.specs.declared.Found.{Found}
@@ -12,7 +12,6 @@ use Rattle.search.specs.declared.Found.the-variants.{At, Absent}
 use Rattle.edges.specs.Edges.{Edge}
 use Rattle.edges.specs.Listing.{firsts}
 use Rattle.groups.specs.CellEdges.{paired, edgesIn, pairsOk}
-use Rattle.groups.specs.declared.Group.{Group}
 
 -- the number of the edge between a and b, among edges from number n on, as long as they start at a
 unfoldable pub scanned : ℕ → ℕ → ℕ → List Edge → Found
@@ -27,11 +26,6 @@ numberBy a b es = let p = halved a (firsts es) in scanned p a b (drop p es)
 -- the number of the edge between two cells, the smaller key first
 abbrev pub pairNumber : List Edge → ℕ → ℕ → Found
 pairNumber es cell other = numberBy (min cell other) (max cell other) es
-
--- x put into an ascending list
-unfoldable pub placedIn : ℕ → List ℕ → List ℕ
-placedIn x [] = x ∷ []
-placedIn x (y ∷ ys) = min x y ∷ placedIn (max x y) ys
 
 -- what was found put in, where there is an edge
 unfoldable pub withNumber : Found → List ℕ → List ℕ
@@ -48,10 +42,6 @@ gathered es cell (other ∷ others) = withNumber (pairNumber es cell other) (gat
 -- those between a cell and its neighbours
 abbrev pub nearGroup : List Edge → ℕ → List ℕ
 nearGroup es cell = gathered es cell (neighbours cell)
-
--- numbers in a room of 14, and how many there are
-abbrev pub held : List ℕ → Group
-held numbers = record { numbers = padded 0 14 numbers; count = length numbers }
 
 -- the group of a cell from two lists of edges; empty where 2 would refuse them
 unfoldable pub groupIn : List ℕ → List ℕ → ℕ → ℕ → List ℕ

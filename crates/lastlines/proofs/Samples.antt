@@ -18,7 +18,7 @@ use Rattle.measuring.specs.Readings.{admitIf, admitted}
 use Rattle.edges.specs.Edges.{edgesTo, edges}
 use Rattle.table.specs.Rows.{stored as stored-edges}
 use Rattle.edges.specs.ZeroCrossing.{crossing}
-use Rattle.neighbors.specs.Neighbors.{offsets, inside, reachedFrom, shown, neighboursBy}
+use Rattle.neighbors.specs.Neighbors.{offsets, inBox, reachedFrom, shown, neighboursBy}
 use Rattle.slopes.specs.Stored.{distanceAt, orZero}
 use Rattle.vertices.specs.StoredRows.{distanceOf as distanceOf-vertices}
 use Rattle.slopes.specs.Vertices.{partOf as partOf-vertices, vertexOf, vertexAt}
@@ -74,7 +74,7 @@ unfolding trailingZeros span climb size odd units round neg sum add sub mul div 
     nanBits digitValue hexValue hexFrom wordAt digitsFrom numberAt settingsLine readingLine lineOf hexDigits hexField
     decimalFrom countsLine vertexLine badLine refusedLine sameParity respaced morton padded joined kept insert place
     risesFrom ascending next find beside rowsOk need tableCheck put relaid fusedVoxel voxelAt hasPlace stored fusedNear
-    fusedIf fuseIf fuse admitIf admitted edgesTo edges stored-edges crossing offsets inside reachedFrom shown neighboursBy
+    fusedIf fuseIf fuse admitIf admitted edgesTo edges stored-edges crossing offsets inBox reachedFrom shown neighboursBy
     distanceAt distanceOf-vertices orZero partOf-vertices vertexOf vertexAt paired cellSpan cellEdges numbersFrom gathered
     withThird withTwo threes twosOf threesOf meshCheck meshedOn meshAnswerOn heldIn placedOf givenOf testedAs settingsFrom
     setupOf cellOf takenOf fusedAs readingOf vertexLines printedFor meshText afterSetup afterReading afterMesh afterLine

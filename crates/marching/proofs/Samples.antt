@@ -8,7 +8,7 @@ use lib.ListN.{length}
 use lib.Ieee.{ofBits, toBits, binary32, add, mul, lt, eq, le, neg}
 use Rattle.ids.specs.Key.{keyOf}
 use Rattle.ids.specs.Morton.{morton, respaced}
-use Rattle.neighbors.specs.Neighbors.{offsets, inside, reachedFrom, shown, neighboursBy}
+use Rattle.neighbors.specs.Neighbors.{offsets, inBox, reachedFrom, shown, neighboursBy}
 use Rattle.search.specs.Keys.{member}
 use Rattle.lists.specs.Lists.{insert}
 use Rattle.table.specs.Table.{row}
@@ -50,5 +50,5 @@ pub samples :
     ≡ (15 ∷ 14 ∷ 1 ∷ 8 ∷ 6 ∷ 0 ∷ []) ∷ (15 ∷ 14 ∷ 1 ∷ 8 ∷ 0 ∷ 6 ∷ []) ∷ (5 ∷ 4 ∷ 1 ∷ 4 ∷ 0 ∷ 0 ∷ []) ∷ (6 ∷ []) ∷ (8 ∷ []) ∷ []
 unfolding holding told insert andThen member distanceOf store wait waitAll seeds sow sowAll candidate heard settling
     settled spread settle visit taking takeUpTo march lengthAt
-    morton respaced offsets inside reachedFrom shown neighboursBy ofBits toBits add mul lt eq le neg
+    morton respaced offsets inBox reachedFrom shown neighboursBy ofBits toBits add mul lt eq le neg
 samples = refl

@@ -6,11 +6,12 @@ use lib.Ieee.{Float}
 use Rattle.table.specs.declared.Settings.{Settings}
 use Rattle.table.specs.Table.{Table}
 use Rattle.esdf.specs.Compute as march
+use Rattle.edges.specs.declared.Surface.{Surface}
 use Rattle.mesh.specs.declared.Meshed.{Meshed}
 use Rattle.mesh.specs.declared.Rooms.{Rooms}
-use Rattle.mesh.specs.Mesh.{meshedNumber, IsMesh}
+use Rattle.mesh.specs.Mesh.{meshedNumber, IsMeshOn}
 use Rattle.mesh_answers.specs.Marching.{marchBack, marchHanded}
-use Rattle.mesh_answers.specs.Meshing.{edgesMeshed, trianglesMeshed, MeshBack}
+use Rattle.mesh_answers.specs.Meshing.{edgesMeshed, trianglesMeshed, MeshBackOn}
 
 pub march-back :
     {o o' : march.Outcome}
@@ -21,6 +22,7 @@ pub march-back :
 march-back {o} e p = rw (p .0, p .1 .0, p .1 .1) (ap marchHanded e)
 
 pub mesh-back :
+    {o : Surface}
     {s : Settings}
     {t : Table}
     {r : Rooms}
@@ -29,9 +31,9 @@ pub mesh-back :
     {xs ys zs us vs ws : List Float}
     {gs is js ks : List ℕ}
     {n edges triangles : ℕ}
-    → IsMesh s t r a as' bs xs ys zs us vs ws gs is js ks
+    → IsMeshOn o s t r a as' bs xs ys zs us vs ws gs is js ks
     → (n ≡ meshedNumber a) × ((edges ≡ edgesMeshed a) × (triangles ≡ trianglesMeshed a))
-    → MeshBack s t r n edges triangles as' bs xs ys zs us vs ws gs is js ks
+    → MeshBackOn o s t r n edges triangles as' bs xs ys zs us vs ws gs is js ks
 mesh-back e p =
     record {
       answer = p .0 ∙ ap meshedNumber (e .answer);

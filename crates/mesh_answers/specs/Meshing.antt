@@ -8,8 +8,10 @@ use lib.Ieee.{Float}
 use Rattle.floats.specs.Floats.{zero32}
 use Rattle.table.specs.declared.Settings.{Settings}
 use Rattle.table.specs.Table.{Table}
+use Rattle.edges.specs.declared.Surface.{Surface}
+use Rattle.edges.specs.declared.Surface.the-variants.{Open}
 use Rattle.mesh.specs.declared.Rooms.{Rooms}
-use Rattle.mesh.specs.Mesh.{meshAnswer, meshedNumber, IsMesh}
+use Rattle.mesh.specs.Mesh.{meshAnswerOn, meshedNumber, IsMeshOn}
 use Rattle.mesh.specs.declared.Meshed.{Meshed}
 use Rattle.mesh.specs.declared.Meshed.the-variants as meshed
 use Rattle.groups.specs.declared.Span.{Span}
@@ -27,13 +29,20 @@ abbrev pub trianglesMeshed : Meshed → ℕ
 trianglesMeshed (meshed.Done edges triangles) = triangles
 trianglesMeshed (meshed.Refused why) = nothing
 
--- what a mesh hands back: its number, its counts, and what the twelve lists hold
-pub record MeshBack (s : Settings) (t : Table) (r : Rooms) (number edges triangles : ℕ) (as' bs : List ℕ)
+-- what the mesh of a surface hands back: its number, its counts, and what the twelve lists hold
+pub record MeshBackOn (o : Surface) (s : Settings) (t : Table) (r : Rooms) (number edges triangles : ℕ) (as' bs : List ℕ)
     (xs ys zs us vs ws : List Float) (gs is js ks : List ℕ) : Type 0 where
-  pub answer : number ≡ meshedNumber (meshAnswer s t r)
-  pub edge-count : edges ≡ edgesMeshed (meshAnswer s t r)
-  pub triangle-count : triangles ≡ trianglesMeshed (meshAnswer s t r)
-  pub lists : IsMesh s t r (meshAnswer s t r) as' bs xs ys zs us vs ws gs is js ks
+  pub answer : number ≡ meshedNumber (meshAnswerOn o s t r)
+  pub edge-count : edges ≡ edgesMeshed (meshAnswerOn o s t r)
+  pub triangle-count : triangles ≡ trianglesMeshed (meshAnswerOn o s t r)
+  pub lists : IsMeshOn o s t r (meshAnswerOn o s t r) as' bs xs ys zs us vs ws gs is js ks
+
+-- the same of document 01's
+abbrev pub MeshBack : Settings → Table → Rooms → ℕ → ℕ → ℕ → List ℕ → List ℕ
+    → List Float → List Float → List Float → List Float → List Float → List Float
+    → List ℕ → List ℕ → List ℕ → List ℕ
+    → Type 0
+MeshBack = MeshBackOn Open
 
 -- where a cell's edge numbers stand, and how many there are; both 0 where there are none
 abbrev pub spanStart : Span → ℕ

@@ -17,7 +17,7 @@ use Rattle.lists.proofs.Bools.{and-first, and-second, or-cases, eqb-comm}
 use Rattle.lists.proofs.Table.{every, below}
 use Rattle.neighbors.specs.declared.Cell.{Cell}
 use Rattle.neighbors.specs.declared.Cell.the-variants as cell
-use Rattle.neighbors.specs.Neighbors.{Offset, offsets, inside, moveTo, reachedFrom, reached, shown, neighboursBy, neighbours, apart, oneStep, adjacent}
+use Rattle.neighbors.specs.Neighbors.{Offset, offsets, inBox, moveTo, reachedFrom, reached, shown, neighboursBy, neighbours, apart, oneStep, adjacent}
 use Rattle.neighbors.proofs.NeighborLaws.{within}
 
 -- adjacency is symmetric
@@ -26,13 +26,13 @@ unfolding adjacent
 adjacent-sym k l = rw (eqb-comm (headOf k) (headOf l), add-comm (xOf k - xOf l), add-comm (yOf k - yOf l), add-comm (zOf k - zOf l))
 
 -- a step that stays inside
-module _ (x d : ℕ) (i : inside x d ≡ true) where
+module _ (x d : ℕ) (i : inBox x d ≡ true) where
   inside-low : 2 ≤ x + d
-  unfolding inside
+  unfolding inBox
   inside-low = leb-true 2 (x + d) (and-first (leb 2 (x + d)) (ltb (x + d) 65538) i)
 
   inside-high : x + d < 65538
-  unfolding inside
+  unfolding inBox
   inside-high = ltb-true (x + d) 65538 (and-second (leb 2 (x + d)) (ltb (x + d) 65538) i)
 
   move-small : moveTo x d < 65536
@@ -46,7 +46,7 @@ module _ (x d : ℕ) (i : inside x d ≡ true) where
 
 -- the key that an offset leads to, where it stays inside
 Inside : ℕ → Offset → Type 0
-Inside k o = (inside (xOf k) (o .0) ≡ true) × (inside (yOf k) (o .1) ≡ true) × (inside (zOf k) (o .2) ≡ true)
+Inside k o = (inBox (xOf k) (o .0) ≡ true) × (inBox (yOf k) (o .1) ≡ true) × (inBox (zOf k) (o .2) ≡ true)
 
 unfoldable pub led : ℕ → Offset → ℕ
 led k o = keyOf (headOf k) (moveTo (xOf k) (o .0)) (moveTo (yOf k) (o .1)) (moveTo (zOf k) (o .2))
@@ -66,9 +66,9 @@ shown-cond true false r key l m = absurd (List·Memᴰ·not-nil m)
 shown-cond false q r key l m = absurd (List·Memᴰ·not-nil m)
 
 module _ (k l : ℕ) (o : Offset) (m : List·Memᴰ l (shown (reached k o))) where
-  parts : (inside (xOf k) (o .0) ≡ true) × (inside (yOf k) (o .1) ≡ true) × (inside (zOf k) (o .2) ≡ true) × (l ≡ led k o)
+  parts : (inBox (xOf k) (o .0) ≡ true) × (inBox (yOf k) (o .1) ≡ true) × (inBox (zOf k) (o .2) ≡ true) × (l ≡ led k o)
   unfolding reachedFrom led
-  parts = shown-cond (inside (xOf k) (o .0)) (inside (yOf k) (o .1)) (inside (zOf k) (o .2)) (led k o) l m
+  parts = shown-cond (inBox (xOf k) (o .0)) (inBox (yOf k) (o .1)) (inBox (zOf k) (o .2)) (led k o) l m
 
   head-led : headOf l ≡ headOf k
   unfolding led
@@ -205,7 +205,7 @@ module _ (x y : ℕ) (near : apart x y ≤ 2) where
   from-small : y + 2 - x < 5
   from-small = omega arith
 
-  from-inside : y < 65536 → inside x (y + 2 - x) ≡ true
+  from-inside : y < 65536 → inBox x (y + 2 - x) ≡ true
   from-inside l = within x (y + 2 - x) (omega arith) (omega arith)
 
   from-to : moveTo x (y + 2 - x) ≡ y
@@ -344,7 +344,7 @@ offsets-small : all steps-small offsets ≡ true
 unfolding all steps-small offsets
 offsets-small = refl
 
-far : (x d : ℕ) → 2 ≤ x → x ≤ 65533 → ltb d 5 ≡ true → inside x d ≡ true
+far : (x d : ℕ) → 2 ≤ x → x ≤ 65533 → ltb d 5 ≡ true → inBox x d ≡ true
 far x d l h s = let d5 = ltb-true d 5 s in within x d (omega arith) (omega arith)
 
 module _ (k : ℕ) (lx : 2 ≤ xOf k) (hx : xOf k ≤ 65533) (ly : 2 ≤ yOf k) (hy : yOf k ≤ 65533) (lz : 2 ≤ zOf k) (hz : zOf k ≤ 65533) where

@@ -17,14 +17,14 @@ use Rattle.refusals.specs.declared.Refusal.the-variants.{Lengths, OffLattice, N
 use Rattle.lists.proofs.PaddingLaws.{padded-more, padded-front}
 use Rattle.neighbors.specs.declared.Cell.{Cell}
 use Rattle.neighbors.specs.declared.Cell.the-variants as cell
-use Rattle.neighbors.specs.Neighbors.{Offset, offsets, offsetAt, inside, reached, shown, neighboursBy, neighbours, listedOf, listingOf}
+use Rattle.neighbors.specs.Neighbors.{Offset, offsets, offsetAt, inBox, reached, shown, neighboursBy, neighbours, listedOf, listingOf}
 use Rattle.ids.specs.Key.{onLattice}
 use lib.Dec.{ltb, leb, lit≤}
 use native.Mathlib.Nat.{sub-zero}
 
 -- a step that stays inside
-pub within : (x d : ℕ) → 2 ≤ x + d → x + d ≤ 65537 → inside x d ≡ true
-unfolding inside
+pub within : (x d : ℕ) → 2 ≤ x + d → x + d ≤ 65537 → inBox x d ≡ true
+unfolding inBox
 within x d l h = rw (le-leb 2 (x + d) l, lt-ltb (x + d) 65538 (omega arith))
 
 -- the neighbours by two lists of offsets, one after the other

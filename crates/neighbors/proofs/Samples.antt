@@ -4,7 +4,7 @@ use mathlib.Core.Path.{_≡_, refl}
 use mathlib.Core.List.{[], _∷_, map}
 use Rattle.ids.specs.Morton.{respaced, morton}
 use Rattle.ids.specs.Key.{keyOf}
-use Rattle.neighbors.specs.Neighbors.{offsets, inside, reachedFrom, shown, neighboursBy, neighbours}
+use Rattle.neighbors.specs.Neighbors.{offsets, inBox, reachedFrom, shown, neighboursBy, neighbours}
 
 pub samples :
     map neighbours (keyOf 7 10 10 10 ∷ keyOf 0 0 0 0 ∷ keyOf 65535 65535 65535 65535 ∷ [])
@@ -13,5 +13,5 @@ pub samples :
     ∷ (keyOf 0 1 1 1 ∷ keyOf 0 2 0 0 ∷ keyOf 0 0 2 0 ∷ keyOf 0 0 0 2 ∷ [])
     ∷ (keyOf 65535 65534 65534 65534 ∷ keyOf 65535 65533 65535 65535 ∷ keyOf 65535 65535 65533 65535 ∷ keyOf 65535 65535 65535 65533 ∷ [])
     ∷ []
-unfolding respaced morton offsets inside reachedFrom shown neighboursBy
+unfolding respaced morton offsets inBox reachedFrom shown neighboursBy
 samples = refl

@@ -18,7 +18,7 @@ use Rattle.ids.proofs.MortonLaws.{respaced-more, spread-low, morton-spread, mor
 use Rattle.ids.proofs.KeyLaws.{coord-small}
 use Rattle.lists.proofs.Table.{every, below}
 use Rattle.neighbors.specs.declared.Cell.the-variants as cell
-use Rattle.neighbors.specs.Neighbors.{Offset, offsets, offsetAt, inside, moveTo, reachedFrom, reached}
+use Rattle.neighbors.specs.Neighbors.{Offset, offsets, offsetAt, inBox, moveTo, reachedFrom, reached}
 use Rattle.neighbors.proofs.NeighborLaws.{fourteen}
 use Rattle.neighbors.specs.Steps.{moved, joinOf, lowOf, cellOf}
 
@@ -113,8 +113,8 @@ module _ (x d : ℕ) (l : x < 65536) (s : d ≤ 4) where
       let b : (x + (d + 131070)) / 65536 ≡ 2 = omega arith in
       omega (arith, split17)
 
-  fate-inside : Fate x d (inside x d)
-  unfolding inside
+  fate-inside : Fate x d (inBox x d)
+  unfolding inBox
   fate-inside = fate (leb 2 (x + d)) (ltb (x + d) 65538) refl refl
 
 -- the cell of a lower part, inside and outside
@@ -161,7 +161,7 @@ unfolding lowOf reachedFrom
 cell-reached k p l =
     let o = offsetAt p in
     rw (part-at k offsets p (rw fourteen l))
-    (cell-by k (xOf k) (yOf k) (zOf k) o (inside (xOf k) (o .0)) (inside (yOf k) (o .1)) (inside (zOf k) (o .2))
+    (cell-by k (xOf k) (yOf k) (zOf k) o (inBox (xOf k) (o .0)) (inBox (yOf k) (o .1)) (inBox (zOf k) (o .2))
     (fate-inside (xOf k) (o .0) (coord-small k) (few-steps p l .0))
     (fate-inside (yOf k) (o .1) (coord-small (k / 2)) (few-steps p l .1))
     (fate-inside (zOf k) (o .2) (coord-small (k / 4)) (few-steps p l .2)))

@@ -47,8 +47,8 @@ abbrev pub offsetAt : ℕ → Offset
 offsetAt place = getD offsets place (0, 0, 0)
 
 -- a coordinate moved by a step is within 0 to 65535
-unfoldable pub inside : ℕ → ℕ → Bool
-inside x d = leb 2 (x + d) && ltb (x + d) 65538
+unfoldable pub inBox : ℕ → ℕ → Bool
+inBox x d = leb 2 (x + d) && ltb (x + d) 65538
 
 -- the coordinate moved by a step, where it is inside
 abbrev pub moveTo : ℕ → ℕ → ℕ
@@ -57,7 +57,7 @@ moveTo x d = x + d - 2
 -- the cell that an offset leads to from head, x, y, z
 unfoldable pub reachedFrom : ℕ → ℕ → ℕ → ℕ → Offset → Cell
 reachedFrom head x y z o =
-    cond (inside x (o .0) && (inside y (o .1) && inside z (o .2)))
+    cond (inBox x (o .0) && (inBox y (o .1) && inBox z (o .2)))
     (cell.At (keyOf head (moveTo x (o .0)) (moveTo y (o .1)) (moveTo z (o .2))))
     cell.Outside
 

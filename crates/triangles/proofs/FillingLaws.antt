@@ -9,8 +9,8 @@ use lib.ListN.{length, getD, take, drop, length-append, length-map, drop-of-leng
 use lib.Seq.{sets, drop-cons}
 use Rattle.lists.specs.Lists.{joined}
 use Rattle.lists.proofs.PaddingLaws.{padded-front, padded-length}
-use Rattle.groups.specs.declared.Group.{Group}
-use Rattle.groups.specs.Near.{held}
+use Rattle.handful.specs.declared.Handful.{Handful}
+use Rattle.handful.specs.Handfuls.{held}
 use Rattle.lists.specs.Threes.{Three, threes, threesOf, column0, column1, column2}
 use Rattle.triangles.specs.Building.{Source, groupAt, groupsAt, trianglesAt}
 use Rattle.triangles.specs.Steps.{filledWith}
@@ -113,13 +113,13 @@ module _ (s : Source) (cells : List ℕ) (g₀ x₀ y₀ z₀ : List ℕ) where
         )
 
 -- a cell's group as the program holds it
-pub group-known : (g : Group) (l : List ℕ) → g ≡ held l → length l ≤ 14 →
+pub group-known : (g : Handful) (l : List ℕ) → g ≡ held l → length l ≤ 14 →
     (g .count ≤ 14) × (length (g .numbers) ≡ 14) × (take (g .count) (g .numbers) ≡ l) × (g .count ≡ length (take (g .count) (g .numbers)))
 group-known g l e h =
-    let n : g .count ≡ length l = ap (λ (y : Group). y .count) e in
-    let t : take (g .count) (g .numbers) ≡ l = ap (λ (y : Group). take (y .count) (y .numbers)) e ∙ padded-front 0 14 l in (
+    let n : g .count ≡ length l = ap (λ (y : Handful). y .count) e in
+    let t : take (g .count) (g .numbers) ≡ l = ap (λ (y : Handful). take (y .count) (y .numbers)) e ∙ padded-front 0 14 l in (
       omega arith,
-      ap (λ (y : Group). length (y .numbers)) e ∙ padded-length 0 14 l h,
+      ap (λ (y : Handful). length (y .numbers)) e ∙ padded-length 0 14 l h,
       t,
       n ∙ sym (ap length t),
     )

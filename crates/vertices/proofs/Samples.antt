@@ -7,7 +7,7 @@ use lib.Ieee.{binary32, ofBits, toBits, add, sub, mul, div, neg, lt, ne, ofInt}
 use Rattle.floats.specs.Floats.{f32, one32}
 use Rattle.ids.specs.Morton.{respaced, morton}
 use Rattle.ids.specs.Key.{keyOf}
-use Rattle.neighbors.specs.Neighbors.{offsets, inside, reachedFrom, shown, neighboursBy}
+use Rattle.neighbors.specs.Neighbors.{offsets, inBox, reachedFrom, shown, neighboursBy}
 use Rattle.table.specs.Table.{Row, row}
 use Rattle.table.specs.Rows.{stored}
 use Rattle.edges.specs.Edges.{edges}
@@ -29,6 +29,6 @@ vertices = let es = zeroCrossingEdges rows in verticesOf (distanceIn rows) one32
 
 pub samples : map (λ xs. map (toBits binary32) xs) (xsOf vertices ∷ ysOf vertices ∷ zsOf vertices ∷ [])
     ≡ (0x4128_0000 ∷ []) ∷ (0x4128_0000 ∷ []) ∷ (0x4128_0000 ∷ []) ∷ []
-unfolding vertices rows edges verticesOf vertexAt vertexOf partOf orZero distanceOf stored crossing offsets inside
+unfolding vertices rows edges verticesOf vertexAt vertexOf partOf orZero distanceOf stored crossing offsets inBox
     reachedFrom shown neighboursBy respaced morton add sub mul div neg lt ne ofInt ofBits toBits
 samples = refl

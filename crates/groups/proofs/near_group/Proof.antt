@@ -10,8 +10,9 @@ use Rattle.lists.proofs.PaddingLaws.{padded-front, padded-length}
 use Rattle.neighbors.specs.Neighbors.{neighbours}
 use Rattle.neighbors.specs.declared.Near.{Near}
 use Rattle.neighbors.proofs.NeighborLaws.{at-most-14}
+use Rattle.handful.specs.Handfuls.{held}
 use Rattle.groups.specs.CellEdges.{edgesIn}
-use Rattle.groups.specs.Near.{gathered, held, groupIn}
+use Rattle.groups.specs.Near.{gathered, groupIn}
 use Rattle.groups.proofs.CountingLaws.{pairs-known}
 use borrow.Author.Needs.{needs}
 use Rattle.groups.proofs.near_group.Statement.{statement}

@@ -1,0 +1,2 @@
+pub mod PlacingLaws
+pub mod Determined
