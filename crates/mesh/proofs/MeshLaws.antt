@@ -15,11 +15,11 @@ use borrow.Author.Tests.{le-leb, leb-true, eqb-true}
 use Rattle.floats.specs.Floats.{zero32}
 use Rattle.lists.specs.Padding.{padded}
 use Rattle.lists.specs.Places.{clearedFrom}
-use Rattle.lists.specs.Listing.{roomFor, countOf, heldFor}
+use Rattle.lists.specs.Listing.{countOf}
 use Rattle.lists.specs.declared.Listed.{Listed}
 use Rattle.lists.specs.declared.Listed.the-variants as listed
-use Rattle.lists.proofs.Bools.{cases, and-first, and-second, and-eq}
-use Rattle.lists.proofs.PaddingLaws.{padded-length, padded-front}
+use Rattle.lists.proofs.Bools.{cases, and-first, and-second}
+use Rattle.lists.proofs.PaddingLaws.{padded-front}
 use Rattle.lists.proofs.Writing.{sets-front, cleared-whole}
 use Rattle.refusals.specs.declared.Refusal.{Refusal}
 use Rattle.refusals.specs.declared.Refusal.the-variants.{Setting, Lengths, NoPlace}
@@ -41,7 +41,7 @@ use Rattle.vertices.specs.StoredRows.{distanceIn}
 use Rattle.slopes.specs.Vertices.{xsOf, ysOf, zsOf, verticesOf as besideOf}
 use Rattle.slopes.specs.Normals.{normalsOf, partsX, partsY, partsZ}
 use Rattle.vertices.proofs.TableLaws.{distance-by, vertices-of-edges}
-use Rattle.lists.specs.Threes.{Three, column0, column1, column2}
+use Rattle.lists.specs.Threes.{column0, column1, column2}
 use Rattle.triangles.specs.Building.{Rooms as Lent, rooms as roomsFor}
 use Rattle.mesh.specs.declared.Rooms.{Rooms}
 use Rattle.mesh.specs.declared.Drawn.{Drawn}

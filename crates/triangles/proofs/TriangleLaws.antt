@@ -15,7 +15,8 @@ use Rattle.edges.specs.Edges.{Edge, edge}
 use Rattle.groups.specs.Groups.{edgeAt, groupOf}
 use Rattle.triangles.specs.Triangles.{trianglesAt, triangles, trianglesOf}
 use Rattle.triangles.specs.TriangleList.{Meet, Before, IsTriangleList}
-use Rattle.groups.proofs.GroupLaws.{compared, numbers-length, group-in, in-group, group-ordered}
+use Rattle.handful.proofs.PlacingLaws.{compared}
+use Rattle.groups.proofs.GroupLaws.{numbers-length, group-in, in-group, group-ordered}
 use Rattle.groups.proofs.PartLaws.{Covers, cell-in}
 
 -- how long the triangle list is
