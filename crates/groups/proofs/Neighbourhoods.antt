@@ -71,104 +71,98 @@ pair-end a b c h = ⊎-elim (λ l. up l h) (λ r. ⊎-elim (λ l. down l h) (λ 
 absent-at : (i : ℕ) → Absent ≡ At i → ⊥
 absent-at i e = let z : _≡_ {A = ℕ} 0 1 = cc in omega arith
 
-module _ (es : List Edge) (cell : ℕ) where
+module _ (look : ℕ → Found) where
   -- no more numbers than cells
-  pub gathered-few : (others : List ℕ) → length (gathered es cell others) ≤ length others
+  pub gathered-few : (others : List ℕ) → length (gathered look others) ≤ length others
   unfolding gathered withNumber
   gathered-few [] = omega arith
-  gathered-few (o ∷ others) = go (pairNumber es cell o) (gathered-few others)
+  gathered-few (o ∷ others) = go (look o) (gathered-few others)
     where
-      go : (f : Found) → length (gathered es cell others) ≤ length others → length (withNumber f (gathered es cell others)) ≤ length (o ∷ others)
-      go (At i) h = omega (arith, placed-length i (gathered es cell others))
+      go : (f : Found) → length (gathered look others) ≤ length others → length (withNumber f (gathered look others)) ≤ length (o ∷ others)
+      go (At i) h = omega (arith, placed-length i (gathered look others))
       go Absent h = omega arith
 
-  -- each is the number of the edge to one of the cells
-  gathered-in : (others : List ℕ) (i : ℕ) → i ∈ gathered es cell others → (o : ℕ) × (o ∈ others) × (pairNumber es cell o ≡ At i)
+  -- each is found of one of the cells
+  pub gathered-in : (others : List ℕ) (i : ℕ) → i ∈ gathered look others → (o : ℕ) × (o ∈ others) × (look o ≡ At i)
   unfolding gathered withNumber
   gathered-in [] i m = absurd (List·Memᴰ·not-nil m)
-  gathered-in (o ∷ others) i m = go (pairNumber es cell o) refl (λ t. let r = gathered-in others i t in (r .0, List·Memᴰ·tail (r .1), r .2)) m
+  gathered-in (o ∷ others) i m = go (look o) refl (λ t. let r = gathered-in others i t in (r .0, List·Memᴰ·tail (r .1), r .2)) m
     where
-      go : (f : Found) → pairNumber es cell o ≡ f → (i ∈ gathered es cell others → (p : ℕ) × (p ∈ (o ∷ others)) × (pairNumber es cell p ≡ At i)) →
-          i ∈ withNumber f (gathered es cell others) → (p : ℕ) × (p ∈ (o ∷ others)) × (pairNumber es cell p ≡ At i)
-      go (At j) e rest t = ⊎-elim (λ q. (o, List·Memᴰ·head refl, e ∙ ap At (sym q))) rest (placed-only j (gathered es cell others) i t)
+      go : (f : Found) → look o ≡ f → (i ∈ gathered look others → (p : ℕ) × (p ∈ (o ∷ others)) × (look p ≡ At i)) →
+          i ∈ withNumber f (gathered look others) → (p : ℕ) × (p ∈ (o ∷ others)) × (look p ≡ At i)
+      go (At j) e rest t = ⊎-elim (λ q. (o, List·Memᴰ·head refl, e ∙ ap At (sym q))) rest (placed-only j (gathered look others) i t)
       go Absent e rest t = rest t
 
-  in-gathered : (others : List ℕ) (o i : ℕ) → o ∈ others → pairNumber es cell o ≡ At i → i ∈ gathered es cell others
+  pub in-gathered : (others : List ℕ) (o i : ℕ) → o ∈ others → look o ≡ At i → i ∈ gathered look others
   unfolding gathered withNumber
   in-gathered [] o i m e = absurd (List·Memᴰ·not-nil m)
   in-gathered (p ∷ others) o i m e =
-      ⊎-elim (λ q. here (pairNumber es cell p) (ap (λ (k : ℕ). pairNumber es cell k) (sym q) ∙ e))
-      (λ t. there (pairNumber es cell p) (in-gathered others o i t e)) (List·Memᴰ·cases-cons m)
+      ⊎-elim (λ q. here (look p) (ap look (sym q) ∙ e)) (λ t. there (look p) (in-gathered others o i t e)) (List·Memᴰ·cases-cons m)
     where
-      here : (f : Found) → f ≡ At i → i ∈ withNumber f (gathered es cell others)
-      here (At j) q = let same : i ≡ j = cc in rw same (placed-here j (gathered es cell others))
+      here : (f : Found) → f ≡ At i → i ∈ withNumber f (gathered look others)
+      here (At j) q = let same : i ≡ j = cc in rw same (placed-here j (gathered look others))
       here Absent q = absurd (absent-at i q)
 
-      there : (f : Found) → i ∈ gathered es cell others → i ∈ withNumber f (gathered es cell others)
-      there (At j) t = placed-kept j (gathered es cell others) i t
+      there : (f : Found) → i ∈ gathered look others → i ∈ withNumber f (gathered look others)
+      there (At j) t = placed-kept j (gathered look others) i t
       there Absent t = t
 
-  -- an edge leads to one cell
-  pair-other : (a b : ℕ) → pairOf cell a ≡ pairOf cell b → a ≡ b
-  pair-other a b e =
-      let low : min cell a ≡ min cell b = ap (λ (x : Edge). x .first) e in
-      let top : max cell a ≡ max cell b = ap (λ (x : Edge). x .second) e in
-      omega arith
-
-  -- ascending, where each cell is named once
-  gathered-ordered : (others : List ℕ) → Distinct others → Ordered _<_ (gathered es cell others)
+  -- ascending, where each cell is named once and none is found where another is
+  pub gathered-ordered : ((a b i : ℕ) → look a ≡ At i → look b ≡ At i → a ≡ b) → (others : List ℕ) → Distinct others → Ordered _<_ (gathered look others)
   unfolding gathered withNumber Ordered
-  gathered-ordered [] d = tt
-  gathered-ordered (o ∷ others) d = go (pairNumber es cell o) refl (gathered-ordered others (d .1))
+  gathered-ordered only [] d = tt
+  gathered-ordered only (o ∷ others) d = go (look o) refl (gathered-ordered only others (d .1))
     where
-      new : (i : ℕ) → pairNumber es cell o ≡ At i → i ∈ gathered es cell others → ⊥
-      new i e t =
-          let r = gathered-in others i t in
-          let one = number-sound (min cell o) (max cell o) es i e .1 in
-          let two = number-sound (min cell (r .0)) (max cell (r .0)) es i (r .2) .1 in
-          d .0 (r .0) (r .1) (pair-other o (r .0) (sym one ∙ two))
-
-      go : (f : Found) → pairNumber es cell o ≡ f → Ordered _<_ (gathered es cell others) → Ordered _<_ (withNumber f (gathered es cell others))
-      go (At i) e rest = placed-ordered i (gathered es cell others) rest (new i e)
+      go : (f : Found) → look o ≡ f → Ordered _<_ (gathered look others) → Ordered _<_ (withNumber f (gathered look others))
+      go (At i) e rest =
+          placed-ordered i (gathered look others) rest
+          (λ t. let r = gathered-in others i t in d .0 (r .0) (r .1) (only o (r .0) i e (r .2)))
       go Absent e rest = rest
+
+-- an edge leads to one cell
+pair-other : (cell a b : ℕ) → pairOf cell a ≡ pairOf cell b → a ≡ b
+pair-other cell a b e =
+    let low : min cell a ≡ min cell b = ap (λ (x : Edge). x .first) e in
+    let top : max cell a ≡ max cell b = ap (λ (x : Edge). x .second) e in
+    omega arith
 
 -- no group worked out so has more than 14 numbers
 pub group-few : (first second : List ℕ) (count cell : ℕ) → length (groupIn first second count cell) ≤ 14
 unfolding groupIn
 group-few first second count cell =
     cases (λ (b : Bool). length (cond b (nearGroup (edgesIn first second count) cell) []) ≤ 14) (pairsOk (length first) (length second) count)
-    (λ e. omega (arith, gathered-few (edgesIn first second count) cell (neighbours cell), at-most-14 cell))
+    (λ e. omega (arith, gathered-few (pairNumber (edgesIn first second count) cell) (neighbours cell), at-most-14 cell))
     (λ e. omega arith)
 
 -- ---- the loop, from the last cell down
 
 pub gather-begun :
-    (es : List Edge) (cell : ℕ) (others : List ℕ) (i : ℕ)
+    (look : ℕ → Found) (others : List ℕ) (i : ℕ)
     → length others ≤ i
-    → record { numbers = replicate 14 0; count = 0 } ≡ held (gathered es cell (drop i others))
+    → record { numbers = replicate 14 0; count = 0 } ≡ held (gathered look (drop i others))
 unfolding gathered padded
-gather-begun es cell others i h = rw (drop-of-length-le others {i = i} h)
+gather-begun look others i h = rw (drop-of-length-le others {i = i} h)
 
-module _ (es : List Edge) (cell : ℕ) (others : List ℕ) (i : ℕ) (g : Handful)
-    (e : g ≡ held (gathered es cell (drop i others))) (up : 0 < i) (h : i ≤ length others) where
+module _ (look : ℕ → Found) (others : List ℕ) (i : ℕ) (g : Handful)
+    (e : g ≡ held (gathered look (drop i others))) (up : 0 < i) (h : i ≤ length others) where
   pub gather-roomy : length others ≤ 14 → Roomy g
   gather-roomy m =
-      rw e (held-roomy (gathered es cell (drop i others)) (omega (arith, gathered-few es cell (drop i others), length-drop i others)))
+      rw e (held-roomy (gathered look (drop i others)) (omega (arith, gathered-few look (drop i others), length-drop i others)))
 
   pub gather-turn :
       (f : Found) (r : Handful)
-      → f ≡ pairNumber es cell (getD others (i - 1) 0)
+      → f ≡ look (getD others (i - 1) 0)
       → r ≡ held (withNumber f (numbersOf g))
-      → r ≡ held (gathered es cell (drop (i - 1) others))
+      → r ≡ held (gathered look (drop (i - 1) others))
   unfolding gathered
   gather-turn f r q t =
       let next : suc (i - 1) ≡ i = omega arith in
       let rest : drop (i - 1) others ≡ getD others (i - 1) 0 ∷ drop i others =
       drop-cons others (i - 1) 0 (omega arith) ∙ ap (λ (k : ℕ). getD others (i - 1) 0 ∷ drop k others) next in
-      let held-now : numbersOf g ≡ gathered es cell (drop i others) =
-      ap numbersOf e ∙ held-numbers (gathered es cell (drop i others)) in
+      let held-now : numbersOf g ≡ gathered look (drop i others) =
+      ap numbersOf e ∙ held-numbers (gathered look (drop i others)) in
       t ∙ ap (λ (y : Found). held (withNumber y (numbersOf g))) q
-      ∙ ap (λ (l : List ℕ). held (withNumber (pairNumber es cell (getD others (i - 1) 0)) l)) held-now
+      ∙ ap (λ (l : List ℕ). held (withNumber (look (getD others (i - 1) 0)) l)) held-now
       ∙ rw rest
 
 -- ---- on the edge list of a table
@@ -203,11 +197,11 @@ module _ (near : ℕ → List ℕ) (adjacent : ℕ → ℕ → Bool) (crosses : 
       (ordered-weaken (Before near) (λ e f. e .first ≤ f .first) es (λ e f i j b. ⊎-elim (λ l. omega arith) (λ p. omega (arith, p .0)) b) (h .ordered))
 
   -- what is gathered from a cell's neighbours is its group
-  pub gathered-is-group : (cell : ℕ) → gathered es cell (near cell) ≡ groupOf es cell
+  pub gathered-is-group : (cell : ℕ) → gathered (pairNumber es cell) (near cell) ≡ groupOf es cell
   gathered-is-group cell =
-      group-only es cell (gathered es cell (near cell)) (gathered-ordered es cell (near cell) (nb .once cell))
+      group-only es cell (gathered (pairNumber es cell) (near cell)) (gathered-ordered (pairNumber es cell) one-other (near cell) (nb .once cell))
       (λ i m.
-      let r = gathered-in es cell (near cell) i m in
+      let r = gathered-in (pairNumber es cell) (near cell) i m in
       let s = number-sound (min cell (r .0)) (max cell (r .0)) es i (r .2) in
       record { numbered = s .0; ends = rw (s .1) (end-of cell (r .0)) })
       (λ i h.
@@ -215,7 +209,12 @@ module _ (near : ℕ → List ℕ) (adjacent : ℕ → ℕ → Bool) (crosses : 
       let f = number-complete (min cell (t .0)) (max cell (t .0)) es firsts-ascend i (h .numbered) (t .2) in
       let s = number-sound (min cell (t .0)) (max cell (t .0)) es (f .0) (f .1) in
       let same : f .0 ≡ i = one-number (f .0) i (s .0) (h .numbered) (s .1 ∙ sym (t .2)) in
-      in-gathered es cell (near cell) (t .0) i (t .1) (f .1 ∙ ap At same))
+      in-gathered (pairNumber es cell) (near cell) (t .0) i (t .1) (f .1 ∙ ap At same))
     where
+      one-other : (a b i : ℕ) → pairNumber es cell a ≡ At i → pairNumber es cell b ≡ At i → a ≡ b
+      one-other a b i e f =
+          pair-other cell a b
+          (sym (number-sound (min cell a) (max cell a) es i e .1) ∙ number-sound (min cell b) (max cell b) es i f .1)
+
       end-of : (a b : ℕ) → (min a b ≡ a) ⊎ (max a b ≡ a)
       end-of a b = ⊎-elim (λ l. inl (omega arith)) (λ r. inr (⊎-elim (λ l. omega arith) (λ e. omega arith) r)) (compared a b)

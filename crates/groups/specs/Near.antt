@@ -33,17 +33,17 @@ unfolding placedIn
 withNumber (At i) numbers = placedIn i numbers
 withNumber Absent numbers = numbers
 
--- the numbers of the edges between a cell and others
-unfoldable pub gathered : List Edge → ℕ → List ℕ → List ℕ
-unfolding withNumber numberBy
-gathered es cell [] = []
-gathered es cell (other ∷ others) = withNumber (pairNumber es cell other) (gathered es cell others)
+-- what a search finds of each of some cells
+unfoldable pub gathered : (ℕ → Found) → List ℕ → List ℕ
+unfolding withNumber
+gathered look [] = []
+gathered look (other ∷ others) = withNumber (look other) (gathered look others)
 
--- those between a cell and its neighbours
+-- the numbers of the edges between a cell and its neighbours
 abbrev pub nearGroup : List Edge → ℕ → List ℕ
-nearGroup es cell = gathered es cell (neighbours cell)
+nearGroup es cell = gathered (pairNumber es cell) (neighbours cell)
 
 -- the group of a cell from two lists of edges; empty where 2 would refuse them
 unfoldable pub groupIn : List ℕ → List ℕ → ℕ → ℕ → List ℕ
-unfolding gathered paired
+unfolding gathered numberBy paired
 groupIn first second count cell = cond (pairsOk (length first) (length second) count) (nearGroup (edgesIn first second count) cell) []

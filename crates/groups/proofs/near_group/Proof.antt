@@ -12,7 +12,7 @@ use Rattle.neighbors.specs.declared.Near.{Near}
 use Rattle.neighbors.proofs.NeighborLaws.{at-most-14}
 use Rattle.handful.specs.Handfuls.{held}
 use Rattle.groups.specs.CellEdges.{edgesIn}
-use Rattle.groups.specs.Near.{gathered, groupIn}
+use Rattle.groups.specs.Near.{pairNumber, gathered, groupIn}
 use Rattle.groups.proofs.CountingLaws.{pairs-known}
 use borrow.Author.Needs.{needs}
 use Rattle.groups.proofs.near_group.Statement.{statement}
@@ -46,8 +46,8 @@ returns-2 c =
     let cell = s .args .cell in
     rw (yes (c .before .before .before .before .pairs-ok .ensures) (c .before .before .before .if1 .left))
     (c .gather .ensures
-    ∙ ap (λ (y : Near). held (gathered es cell (take (y .count) (y .keys)))) (c .before .before .around .ensures)
-    ∙ ap (λ (l : List ℕ). held (gathered es cell l)) (padded-front 0 14 (neighbours cell)))
+    ∙ ap (λ (y : Near). held (gathered (pairNumber es cell) (take (y .count) (y .keys)))) (c .before .before .around .ensures)
+    ∙ ap (λ (l : List ℕ). held (gathered (pairNumber es cell) l)) (padded-front 0 14 (neighbours cell)))
 
 pub near-group-spec : {M : Type 1} → statement M
 near-group-spec =
