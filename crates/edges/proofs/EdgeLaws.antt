@@ -69,7 +69,7 @@ module _ (near : ℕ → List ℕ) (adjacent : ℕ → ℕ → Bool) (crosses : 
 
   module _ (nb : Neighbourhood near adjacent) where
     -- what is listed is two rows that cross, the smaller key first
-    edges-in :
+    pub edges-in :
         {e : Edge}
         → e ∈ edges near crosses rows
         → (r : Row) × (s : Row) × Crossing adjacent crosses rows r s × (r .key < s .key) × (e ≡ edge (r .key) (s .key))
@@ -117,7 +117,7 @@ module _ (near : ℕ → List ℕ) (adjacent : ℕ → ℕ → Bool) (crosses : 
           (λ k l p q a. inr (refl, a))
           (kept-ordered (Ahead (near (r .key))) (listed near crosses rows r) (near (r .key)) (ahead-ordered (near (r .key)))))
 
-      edges-ordered : Ordered (Before near) (edges near crosses rows)
+      pub edges-ordered : Ordered (Before near) (edges near crosses rows)
       unfolding edges
       edges-ordered =
           joined-ordered (Before near) (edgesOf near crosses rows) rows (λ r m. row-ordered r)

@@ -19,7 +19,7 @@ use Rattle.edges.specs.EdgeList.{Neighbourhood, Symmetric, IsEdgeList}
 use Rattle.edges.specs.ZeroCrossing.{crossing, crossesZero, zeroCrossingEdges}
 use Rattle.edges.proofs.EdgeLaws.{edges-are, edges-only}
 
-unlike-comm : (s t : Bool) → unlike s t ≡ unlike t s
+pub unlike-comm : (s t : Bool) → unlike s t ≡ unlike t s
 unlike-comm true true = refl
 unlike-comm true false = refl
 unlike-comm false true = refl

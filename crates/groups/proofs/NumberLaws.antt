@@ -60,7 +60,7 @@ reaches k ks o (suc f) lo hi p q h g =
     (λ t. reaches k ks o f lo (mid lo hi) p (place-le k ks (mid lo hi) (ltb-false _ _ t) n) (omega arith) (omega arith)))
     (λ e. omega (arith, ltb-false lo hi e))
 
-halved-place : (k : ℕ) (ks : List ℕ) → Ordered _≤_ ks → halved k ks ≡ placeOf k ks
+pub halved-place : (k : ℕ) (ks : List ℕ) → Ordered _≤_ ks → halved k ks ≡ placeOf k ks
 halved-place k ks o = reaches k ks o (length ks) 0 (length ks) zero-le (place-length k ks) (omega arith) (omega arith)
 
 -- at and past the place of a no key is below a
@@ -72,7 +72,7 @@ at-place a ks o i h g =
 
 -- ---- the loop: the edges from a place on say what all of them say
 
-firsts-taken : (first second : List ℕ) (n : ℕ) → length second ≡ length first → firsts (edgesIn first second n) ≡ take n first
+pub firsts-taken : (first second : List ℕ) (n : ℕ) → length second ≡ length first → firsts (edgesIn first second n) ≡ take n first
 unfolding paired
 firsts-taken first second zero p = refl
 firsts-taken [] second (suc n) p = refl
