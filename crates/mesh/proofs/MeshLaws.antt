@@ -1,7 +1,7 @@
 -- The mesh of a surface that is drawn: where the tests pass and the edges have room, the two lists hold the edge list, so that vertices and normals are
 -- document 01's; and what each list holds once it is settled by the answer.
 -- Assumes nothing.
-use Prim.Native.Nat.{ℕ, _-_, _≤_}
+use Prim.Native.Nat.{ℕ, _≤_}
 use native.Mathlib.Nat.{le-refl, sub-self}
 use native.Mathlib.Omega.{arith}
 use mathlib.Core.Path.{_≡_, refl, sym, ap, ap₂, _∙_}
@@ -231,7 +231,9 @@ module _ {o : Surface} {s : Settings} {ks : List ℕ} {ds ws : List Float} {cnt 
   unfolding meshAnswerOn answerFor meshedOn
   answer-is = run .answered ∙ ap (λ (c : Checked). answerFor c (d .edges) (r .px) (d .built)) (run .tested) ∙ go (meshCheck s t r) refl
     where
-      passed : meshCheck s t r ≡ Passed → withEdges (d .edges) (r .px) (d .built) ≡ cond (haveRoomOn o t r) (Done (length es) (length (trianglesOn o t))) (Refused NoPlace)
+      passed :
+          meshCheck s t r ≡ Passed
+          → withEdges (d .edges) (r .px) (d .built) ≡ cond (haveRoomOn o t r) (Done (length es) (length (trianglesOn o t))) (Refused NoPlace)
       passed pass =
           cases
           (λ (p : Bool).
@@ -330,7 +332,8 @@ module _ {o : Surface} {s : Settings} {ks : List ℕ} {ds ws : List Float} {cnt 
   normals-known-as i j q =
       let p = passes i j q in
       let f = fitting i j q in (
-        ap (λ (x : List ℕ). normalsOf (distanceBy ks ds cnt) (s .«voxel_size» .0) x) (ap₂ take (n-count p f) (drawing p .first f)) ∙ normals-are o s ks ds ws cnt r p f,
+        ap (λ (x : List ℕ). normalsOf (distanceBy ks ds cnt) (s .«voxel_size» .0) x) (ap₂ take (n-count p f) (drawing p .first f))
+            ∙ normals-are o s ks ds ws cnt r p f,
         length-map (firsts es) _ ∙ length-map es (λ (x : Edge). x .first),
       )
 

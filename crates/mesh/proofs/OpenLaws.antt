@@ -167,9 +167,12 @@ module _ (s : Settings) (ks : List ℕ) (ds ws : List Float) (cnt a b : ℕ) (l 
           second = s-held;
           built = λ fits. built ∙ ap (λ (x : Source). builtAnswer x l) (src-is fits) ∙ built-is fits;
           groups = λ fits. filled-as fits (l .groups) (λ (x : Source). groupsAt x (cellsOf x)) (groupsOf t) (groups-are fits) g' g-is;
-          t0 = λ fits. filled-as fits (l .t0) (λ (x : Source). column0 (trianglesAt x (cellsOf x))) (column0 (trianglesOf t)) (ap column0 (triangles-are fits)) x' x-is;
-          t1 = λ fits. filled-as fits (l .t1) (λ (x : Source). column1 (trianglesAt x (cellsOf x))) (column1 (trianglesOf t)) (ap column1 (triangles-are fits)) y' y-is;
-          t2 = λ fits. filled-as fits (l .t2) (λ (x : Source). column2 (trianglesAt x (cellsOf x))) (column2 (trianglesOf t)) (ap column2 (triangles-are fits)) z' z-is;
+          t0 = λ fits. filled-as fits (l .t0) (λ (x : Source). column0 (trianglesAt x (cellsOf x))) (column0 (trianglesOf t))
+              (ap column0 (triangles-are fits)) x' x-is;
+          t1 = λ fits. filled-as fits (l .t1) (λ (x : Source). column1 (trianglesAt x (cellsOf x))) (column1 (trianglesOf t))
+              (ap column1 (triangles-are fits)) y' y-is;
+          t2 = λ fits. filled-as fits (l .t2) (λ (x : Source). column2 (trianglesAt x (cellsOf x))) (column2 (trianglesOf t))
+              (ap column2 (triangles-are fits)) z' z-is;
         }
 
 -- document 01's surface is the only one there is
