@@ -4,6 +4,7 @@ use mathlib.Core.Path.{_≡_, sym, _∙_}
 use denote.Ref.{now}
 use Rattle.groups.proofs.cell_span.Reads as cell_span
 use Rattle.groups.proofs.cell_edges.Reads as cell_edges
+use Rattle.groups.proofs.number_between.Reads as number_between
 use Rattle.groups.proofs.near_group.Reads as near_group
 
 pub cell-span-determined : (κs : _) (a : _) (r r' : _) (s s' : _) → cell_span.Post κs a r s → cell_span.Post κs a r' s' → r ≡ r'
@@ -14,3 +15,6 @@ cell-edges-determined κs a r r' s s' p q = p ∙ sym q
 
 pub near-group-determined : (κs : _) (a : _) (r r' : _) (s s' : _) → near_group.Post κs a r s → near_group.Post κs a r' s' → r ≡ r'
 near-group-determined κs a r r' s s' p q = p ∙ sym q
+
+pub number-between-determined : (κs : _) (a : _) (r r' : _) (s s' : _) → number_between.Post κs a r s → number_between.Post κs a r' s' → r ≡ r'
+number-between-determined κs a r r' s s' p q = p .0 ∙ sym (q .0)

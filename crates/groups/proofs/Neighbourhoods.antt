@@ -68,7 +68,7 @@ pair-end a b c h = ⊎-elim (λ l. up l h) (λ r. ⊎-elim (λ l. down l h) (λ 
 
 -- ---- what is gathered, on any edge list
 
-absent-at : (i : ℕ) → Absent ≡ At i → ⊥
+pub absent-at : (i : ℕ) → Absent ≡ At i → ⊥
 absent-at i e = let z : _≡_ {A = ℕ} 0 1 = cc in omega arith
 
 module _ (look : ℕ → Found) where

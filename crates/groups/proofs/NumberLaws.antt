@@ -11,63 +11,30 @@ use mathlib.Core.List.{List, [], _∷_}
 use lib.Dec.{ltb, eqb}
 use lib.ListN.{length, getD, take, drop, length-drop, length-map}
 use lib.Seq.{getD-drop}
-use borrow.Author.Tests.{lt-ltb, ltb-true, ltb-false, eqb-true, ne-eqb, eq-eqb}
+use borrow.Author.Tests.{ltb-true, ltb-false, eqb-true, ne-eqb, eq-eqb}
 use Rattle.lists.specs.Lists.{Ordered}
 use Rattle.lists.proofs.Bools.{cases}
-use Rattle.lists.proofs.ListLaws.{at-in, ordered-at}
-use Rattle.search.specs.Keys.{placeOf, halving, halved}
+use Rattle.lists.proofs.ListLaws.{ordered-at}
+use Rattle.search.specs.Keys.{placeOf, halved}
+use Rattle.search.specs.Nearby.{placeNear}
+use Rattle.search.specs.declared.Found.{Found}
 use Rattle.search.specs.declared.Found.the-variants.{At, Absent}
-use Rattle.search.proofs.KeyLaws.{place-le, place-length, mid, halfway}
+use Rattle.search.proofs.KeyLaws.{place-le, ordered-lt-place, ordered-halved}
+use Rattle.search.proofs.NearbyLaws.{near-place}
 use Rattle.edges.specs.Edges.{Edge, edge}
 use Rattle.edges.specs.Listing.{firsts}
 use Rattle.groups.specs.Groups.{edgeAt}
 use Rattle.groups.specs.CellEdges.{paired, edgesIn}
-use Rattle.groups.specs.Near.{scanned, numberBy}
+use Rattle.groups.specs.Near.{scanned, numberFrom, numberBy}
 use Rattle.groups.proofs.CountingLaws.{edge-next, none-left}
 
--- ---- the search by halves, where keys may be equal
-
--- a key below k stands before the place of k
-lt-place : (k : ℕ) (ks : List ℕ) (i : ℕ) → Ordered _≤_ ks → getD ks i 0 < k → i < length ks → i < placeOf k ks
-unfolding placeOf Ordered
-lt-place k [] i o h g = absurd (not-suc-le-zero g)
-lt-place k (l ∷ ks) zero o h g = rw (lt-ltb l k h) (suc-le-suc zero-le)
-lt-place k (l ∷ ks) (suc i) o h g =
-    let b = o .0 (getD ks i 0) (at-in ks 0 i (le-of-suc-le-suc g)) in
-    rw (lt-ltb l k (omega arith)) (suc-le-suc (lt-place k ks i (o .1) h (le-of-suc-le-suc g)))
-
--- the search ends at the place of k
-reaches :
-    (k : ℕ) (ks : List ℕ)
-    → Ordered _≤_ ks
-    → (f lo hi : ℕ)
-    → lo ≤ placeOf k ks
-    → placeOf k ks ≤ hi
-    → hi ≤ length ks
-    → hi ≤ lo + f
-    → halving f k ks lo hi ≡ placeOf k ks
-unfolding halving
-reaches k ks o zero lo hi p q h g = omega arith
-reaches k ks o (suc f) lo hi p q h g =
-    cases (λ (b : Bool). cond b (halfway k ks f lo hi) lo ≡ placeOf k ks) (ltb lo hi)
-    (λ e.
-    let l : lo < hi = ltb-true lo hi e in
-    let n : mid lo hi < length ks = omega arith in
-    cases (λ (b : Bool). cond b (halving f k ks (mid lo hi + 1) hi) (halving f k ks lo (mid lo hi)) ≡ placeOf k ks) (ltb (getD ks (mid lo hi) 0) k)
-    (λ t.
-    let u : mid lo hi < placeOf k ks = lt-place k ks (mid lo hi) o (ltb-true _ _ t) n in
-    reaches k ks o f (mid lo hi + 1) hi (omega arith) q h (omega arith))
-    (λ t. reaches k ks o f lo (mid lo hi) p (place-le k ks (mid lo hi) (ltb-false _ _ t) n) (omega arith) (omega arith)))
-    (λ e. omega (arith, ltb-false lo hi e))
-
-pub halved-place : (k : ℕ) (ks : List ℕ) → Ordered _≤_ ks → halved k ks ≡ placeOf k ks
-halved-place k ks o = reaches k ks o (length ks) 0 (length ks) zero-le (place-length k ks) (omega arith) (omega arith)
+-- ---- the search, where keys may be equal
 
 -- at and past the place of a no key is below a
 at-place : (a : ℕ) (ks : List ℕ) → Ordered _≤_ ks → (i : ℕ) → placeOf a ks ≤ i → i < length ks → a ≤ getD ks i 0
 at-place a ks o i h g =
     cases (λ (t : Bool). ltb (getD ks i 0) a ≡ t → a ≤ getD ks i 0) (ltb (getD ks i 0) a)
-    (λ t q. let l = lt-place a ks i o (ltb-true _ _ q) g in let un : ⊥ = omega arith in absurd un)
+    (λ t q. let l = ordered-lt-place a ks i o (ltb-true _ _ q) g in let un : ⊥ = omega arith in absurd un)
     (λ t q. ltb-false _ _ q) refl
 
 -- ---- the loop: the edges from a place on say what all of them say
@@ -83,9 +50,18 @@ module _ (first second : List ℕ) (n a b : ℕ) (p : length second ≡ length f
   abbrev es : List Edge
   es = edgesIn first second n
 
-  pub number-started : numberBy a b es ≡ scanned (halved a (take n first)) a b (drop (halved a (take n first)) es)
+  number-started : numberBy a b es ≡ numberFrom (halved a (take n first)) a b es
   unfolding numberBy
   number-started = rw (firsts-taken first second n p)
+
+  -- what is found from the place of a on
+  pub number-found : (place : ℕ) → place ≡ halved a (take n first) → (r : Found) → r ≡ numberFrom place a b es → r ≡ numberBy a b es
+  number-found place q r e = e ∙ ap (λ (i : ℕ). numberFrom i a b es) q ∙ sym number-started
+
+  -- where the first keys ascend, a search from near finds the same
+  pub near-number : Ordered _≤_ (take n first) → (near : ℕ) → numberFrom (placeNear a (take n first) near) a b es ≡ numberBy a b es
+  near-number o near =
+      number-found _ (near-place a (take n first) near o ∙ sym (ordered-halved a (take n first) o)) _ refl
 
   pub number-ended : (i : ℕ) → n ≤ i → Absent ≡ scanned i a b (drop i es)
   unfolding scanned
@@ -188,6 +164,6 @@ module _ (a b : ℕ) (es : List Edge) where
       let low : p ≤ i = place-le a (firsts es) i (omega arith) (rw (length-map es (λ (e : Edge). e .first)) l) in
       let at : (k : ℕ) → edgeAt (drop p es) k ≡ edgeAt es (p + k) = λ k. getD-drop p es k (edge 0 0) in
       let step : p + (i - p) ≡ i = omega arith in
-      rw (halved-place a (firsts es) o)
+      rw (ordered-halved a (firsts es) o)
       (scanned-complete p a b (drop p es) (i - p) (rw (length-drop p es) (omega arith)) (at (i - p) ∙ rw step e)
       (λ k h. ap (λ (y : Edge). y .first) (at k) ∙ between o i l start (p + k) (omega arith) (omega arith)))

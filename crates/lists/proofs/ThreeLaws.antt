@@ -4,10 +4,10 @@ use Prim.Native.Nat.{ℕ, suc, _+_, _<_}
 use native.Mathlib.Omega.{arith}
 use mathlib.Core.Path.{_≡_, refl, ap, ap₂, _∙_}
 use mathlib.Core.Logic.{_⊎_, inl, inr, ⊎-elim}
-use mathlib.Core.List.{List, [], _∷_, List·Memᴰ·head, List·Memᴰ·tail, List·Memᴰ·not-nil, List·Memᴰ·cases-cons, List·Memᴰ·append-cases, Memᴰ·append-left, Memᴰ·append-right, Memᴰ·cast}
+use mathlib.Core.List.{List, [], _∷_, _++_, List·Memᴰ·head, List·Memᴰ·tail, List·Memᴰ·not-nil, List·Memᴰ·cases-cons, List·Memᴰ·append-cases, Memᴰ·append-left, Memᴰ·append-right, Memᴰ·cast}
 use lib.ListN.{length, length-append}
 use Rattle.lists.specs.Lists.{_∈_, Ordered}
-use Rattle.lists.specs.Threes.{Three, three, Dictionary, withThird, withTwo, threes, twosOf, threesOf}
+use Rattle.lists.specs.Threes.{Three, three, Dictionary, withThird, withTwo, threes, twosOf, threesOf, column0, column1, column2, rejoined, threesIn}
 use Rattle.lists.proofs.ListLaws.{append-ordered}
 
 -- ---- how many
@@ -135,3 +135,11 @@ dictionary-asym t u (inr p) (inr q) = go (p .1) (q .1)
     go (inl g) (inr h) = let e = h .0 in omega arith
     go (inr g) (inl h) = let e = g .0 in omega arith
     go (inr g) (inr h) = let d = g .1 in let e = h .1 in omega arith
+
+-- ---- in three lists
+
+-- the columns, whatever follows them, give the threes back
+pub threes-back : (ts : List (Three ℕ)) (xs ys zs : List ℕ) → threesIn (column0 ts ++ xs) (column1 ts ++ ys) (column2 ts ++ zs) (length ts) ≡ ts
+unfolding rejoined
+threes-back [] xs ys zs = refl
+threes-back (t ∷ ts) xs ys zs = ap {B = List (Three ℕ)} (λ r. t ∷ r) (threes-back ts xs ys zs)

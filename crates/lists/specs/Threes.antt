@@ -3,6 +3,7 @@ use Prim.Native.Nat.{ℕ, zero, suc, _+_, _<_}
 use mathlib.Core.Path.{_≡_}
 use mathlib.Core.Logic.{_⊎_}
 use mathlib.Core.List.{List, [], _∷_, _++_, map}
+use lib.ListN.{take}
 
 -- three in a row
 pub record Three (A : Type 0) : Type 0 where
@@ -51,3 +52,14 @@ column1 ts = map (λ (t : Three ℕ). t .b) ts
 
 abbrev pub column2 : List (Three ℕ) → List ℕ
 column2 ts = map (λ (t : Three ℕ). t .c) ts
+
+-- threes by their columns again, as far as all three go
+unfoldable pub rejoined : List ℕ → List ℕ → List ℕ → List (Three ℕ)
+rejoined [] bs cs = []
+rejoined (a ∷ as') [] cs = []
+rejoined (a ∷ as') (b ∷ bs) [] = []
+rejoined (a ∷ as') (b ∷ bs) (c ∷ cs) = three a b c ∷ rejoined as' bs cs
+
+-- the first n threes that three lists hold
+abbrev pub threesIn : List ℕ → List ℕ → List ℕ → ℕ → List (Three ℕ)
+threesIn as' bs cs n = take n (rejoined as' bs cs)

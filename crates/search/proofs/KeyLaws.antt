@@ -5,7 +5,7 @@ use mathlib.Core.Bool.{Bool, true, false, cond, _&&_, and-false}
 use mathlib.Core.List.{List, [], _∷_, List·Memᴰ·not-nil, List·Memᴰ·cases-cons}
 use mathlib.Core.Logic.{⊎-elim}
 use Prim.Native.Nat.{ℕ, zero, suc, _+_, _-_, _/_, _<_, _≤_, min, zero-le, suc-le-suc}
-use native.Mathlib.Nat.{not-suc-le-zero, le-of-suc-le-suc, lt-trans, zero-min, min-zero, suc-min-suc}
+use native.Mathlib.Nat.{not-suc-le-zero, le-of-suc-le-suc, le-of-lt, lt-trans, zero-min, min-zero, suc-min-suc}
 use native.Mathlib.Numerals.{add-one}
 use native.Mathlib.Omega.{arith}
 use borrow.Author.Tests.{lt-ltb, le-ltb, ltb-true, ltb-false, ne-eqb, eq-eqb, eqb-true, eqb-false}
@@ -17,6 +17,7 @@ use Rattle.search.specs.declared.Found.{Found}
 use Rattle.search.specs.declared.Found.the-variants.{At, Absent}
 use Rattle.lists.specs.Lists.{_∈_, Ordered}
 use Rattle.lists.proofs.Bools.{and-first, and-second, cases}
+use Rattle.lists.proofs.ListLaws.{at-in, ordered-weaken}
 
 -- the first n of a list are as many of them as there are
 pub take-least : (n : ℕ) (ks : List ℕ) → take (min n (length ks)) ks ≡ take n ks
@@ -111,14 +112,21 @@ place-le k (l ∷ ks) (suc i) h g =
     (λ e. suc-le-suc (place-le k ks i h (le-of-suc-le-suc g)))
     (λ e. zero-le)
 
--- on ascending keys, a key below k stands before the place of k
+-- ascending keys are in order
+pub ascending-order : (ks : List ℕ) → ascending ks ≡ true → Ordered _≤_ ks
+ascending-order ks a = ordered-weaken _<_ _≤_ ks (λ x y m n l. le-of-lt l) (ascending-keys ks a)
+
+-- on keys in order, equal ones too, a key below k stands before the place of k
+pub ordered-lt-place : (k : ℕ) (ks : List ℕ) (i : ℕ) → Ordered _≤_ ks → getD ks i 0 < k → i < length ks → i < placeOf k ks
+unfolding placeOf Ordered
+ordered-lt-place k [] i o h g = absurd (not-suc-le-zero g)
+ordered-lt-place k (l ∷ ks) zero o h g = rw (lt-ltb l k h) (suc-le-suc zero-le)
+ordered-lt-place k (l ∷ ks) (suc i) o h g =
+    let b = o .0 (getD ks i 0) (at-in ks 0 i (le-of-suc-le-suc g)) in
+    rw (lt-ltb l k (omega arith)) (suc-le-suc (ordered-lt-place k ks i (o .1) h (le-of-suc-le-suc g)))
+
 pub lt-place : (k : ℕ) (ks : List ℕ) (i : ℕ) → ascending ks ≡ true → getD ks i 0 < k → i < length ks → i < placeOf k ks
-unfolding placeOf ascending
-lt-place k [] i a h g = absurd (not-suc-le-zero g)
-lt-place k (l ∷ ks) zero a h g = rw (lt-ltb l k h) (suc-le-suc zero-le)
-lt-place k (l ∷ ks) (suc i) a h g =
-    rw (lt-ltb l k (lt-trans (first-below l ks i a (le-of-suc-le-suc g)) h))
-    (suc-le-suc (lt-place k ks i (tail-ascends l ks a) h (le-of-suc-le-suc g)))
+lt-place k ks i a h g = ordered-lt-place k ks i (ascending-order ks a) h g
 
 pub place-length : (k : ℕ) (ks : List ℕ) → placeOf k ks ≤ length ks
 unfolding placeOf
@@ -170,24 +178,36 @@ module _ (k : ℕ) (ks : List ℕ) where
   ends zero lo hi l = refl
   ends (suc f) lo hi l = rw (le-ltb lo hi l)
 
-  -- on ascending keys it ends at the place of k
-  pub reaches : ascending ks ≡ true → (f lo hi : ℕ) → lo ≤ placeOf k ks → placeOf k ks ≤ hi → hi ≤ length ks → hi ≤ lo + f → halving f k ks lo hi ≡ placeOf k ks
+  -- on keys in order it ends at the place of k
+  pub ordered-reaches : Ordered _≤_ ks
+      → (f lo hi : ℕ)
+      → lo ≤ placeOf k ks
+      → placeOf k ks ≤ hi
+      → hi ≤ length ks
+      → hi ≤ lo + f
+      → halving f k ks lo hi ≡ placeOf k ks
   unfolding halving
-  reaches a zero lo hi p q h g = omega arith
-  reaches a (suc f) lo hi p q h g =
+  ordered-reaches o zero lo hi p q h g = omega arith
+  ordered-reaches o (suc f) lo hi p q h g =
       cases (λ (b : Bool). cond b (halfway f lo hi) lo ≡ placeOf k ks) (ltb lo hi)
       (λ e.
       let l : lo < hi = ltb-true lo hi e in
       let n : mid lo hi < length ks = omega arith in
       cases (λ (b : Bool). cond b (halving f k ks (mid lo hi + 1) hi) (halving f k ks lo (mid lo hi)) ≡ placeOf k ks) (ltb (getD ks (mid lo hi) 0) k)
       (λ t.
-      let u : mid lo hi < placeOf k ks = lt-place k ks (mid lo hi) a (ltb-true _ _ t) n in
-      reaches a f (mid lo hi + 1) hi (omega arith) q h (omega arith))
-      (λ t. reaches a f lo (mid lo hi) p (place-le k ks (mid lo hi) (ltb-false _ _ t) n) (omega arith) (omega arith)))
+      let u : mid lo hi < placeOf k ks = ordered-lt-place k ks (mid lo hi) o (ltb-true _ _ t) n in
+      ordered-reaches o f (mid lo hi + 1) hi (omega arith) q h (omega arith))
+      (λ t. ordered-reaches o f lo (mid lo hi) p (place-le k ks (mid lo hi) (ltb-false _ _ t) n) (omega arith) (omega arith)))
       (λ e. omega (arith, ltb-false lo hi e))
 
+  pub ordered-halved : Ordered _≤_ ks → halved k ks ≡ placeOf k ks
+  ordered-halved o = ordered-reaches o (length ks) 0 (length ks) zero-le (place-length k ks) (omega arith) (omega arith)
+
+  pub reaches : ascending ks ≡ true → (f lo hi : ℕ) → lo ≤ placeOf k ks → placeOf k ks ≤ hi → hi ≤ length ks → hi ≤ lo + f → halving f k ks lo hi ≡ placeOf k ks
+  reaches a = ordered-reaches (ascending-order ks a)
+
   pub halved-place : ascending ks ≡ true → halved k ks ≡ placeOf k ks
-  halved-place a = reaches a (length ks) 0 (length ks) zero-le (place-length k ks) (omega arith) (omega arith)
+  halved-place a = ordered-halved (ascending-order ks a)
 
 -- ---- finding a key
 

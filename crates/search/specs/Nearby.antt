@@ -1,5 +1,5 @@
 -- A search from a place on, of a key that is expected near.
-use Prim.Native.Nat.{ℕ, _+_}
+use Prim.Native.Nat.{ℕ, _+_, _-_}
 use mathlib.Core.Bool.{cond, _&&_}
 use mathlib.Core.List.{List}
 use lib.ListN.{length, getD}
@@ -27,3 +27,19 @@ standsAt k ks p = cond (ltb p (length ks) && eqb (getD ks p 0) k) (At p) Absent
 -- that place, if k stands there. On ascending keys of which those before `from` are below k, this finds k (find-above of proofs/NearbyLaws.antt).
 abbrev pub findAbove : ℕ → List ℕ → ℕ → Found
 findAbove k ks from = standsAt k ks (placeAbove k ks from)
+
+-- the place `step` back, if the key before it is below k; else `low`
+unfoldable pub behind : ℕ → List ℕ → ℕ → ℕ → ℕ → ℕ
+behind k ks from step low = cond (ltb step from && (leb (from - step) (length ks) && ltb (getD ks (from - step - 1) 0) k)) (from - step) low
+
+-- where a search begins that is expected to end near a place: there, 16 or 256 places back, or with the list
+abbrev pub startNear : ℕ → List ℕ → ℕ → ℕ
+startNear k ks from = behind k ks from 0 (behind k ks from 16 (behind k ks from 256 0))
+
+-- Where it ends, and that place if k stands there. On keys in order the one is the place of k, and on ascending keys the other finds it, whatever was
+-- expected (near-place, find-near of proofs/NearbyLaws.antt).
+abbrev pub placeNear : ℕ → List ℕ → ℕ → ℕ
+placeNear k ks from = placeAbove k ks (startNear k ks from)
+
+abbrev pub findNear : ℕ → List ℕ → ℕ → Found
+findNear k ks from = findAbove k ks (startNear k ks from)

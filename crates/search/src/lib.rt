@@ -3,7 +3,7 @@ ghost use mathlib.Core.Path.{_≡_};
 ghost use Prim.Native.Nat.{_≤_, min};
 ghost use lib.ListN.{length, take};
 ghost use Rattle.search.specs.Keys.{ascending, halving, halved, findBy};
-ghost use Rattle.search.specs.Nearby.{nearer as nearerEnd, endAbove, findAbove};
+ghost use Rattle.search.specs.Nearby.{nearer as nearerEnd, endAbove, findAbove, behind as behindStart, startNear, placeNear, findNear};
 
 // Where a key stands.
 pub enum Found {
@@ -91,9 +91,15 @@ fn nearer(keys: &[u64], from: usize, step: usize, key: u64, end: usize) -> usize
 fn end_above(keys: &[u64], from: usize, key: u64) -> usize
     ensures { λ r. ⌜ r ≡ endAbove key (now (keys .entry)) from ⌝ }
 {
-    let far = nearer(keys, from, 4096, key, keys.len());
-    let middle = nearer(keys, from, 256, key, far);
-    nearer(keys, from, 16, key, middle)
+    let near = nearer(keys, from, 16, key, keys.len());
+    if near < keys.len() {
+        return near;
+    }
+    let middle = nearer(keys, from, 256, key, keys.len());
+    if middle < keys.len() {
+        return middle;
+    }
+    nearer(keys, from, 4096, key, keys.len())
 }
 
 // Where `key` stands, if at `from` or above it: the neighbours of a cell mostly stand within a few rows.
@@ -107,4 +113,65 @@ pub fn find_above(keys: &[u64], from: usize, key: u64) -> Found
         }
     }
     Found::Absent
+}
+
+// The place `step` back, if the key before it is below `key`; else `low`.
+fn behind(keys: &[u64], from: usize, step: usize, key: u64, low: usize) -> usize
+    ensures { λ r. ⌜ r ≡ behindStart key (now (keys .entry)) from step low ⌝ }
+{
+    if step < from {
+        let place = from - step;
+        if place <= keys.len() {
+            if keys[place - 1] < key {
+                return place;
+            }
+        }
+    }
+    low
+}
+
+// Where a search begins that is expected to end near a place: there, 16 or 256 places back, or with the list.
+fn start_near(keys: &[u64], from: usize, key: u64) -> usize
+    ensures { λ r. ⌜ r ≡ startNear key (now (keys .entry)) from ⌝ }
+{
+    let here = behind(keys, from, 0, key, 0);
+    if 0 < here {
+        return here;
+    }
+    let back = behind(keys, from, 16, key, 0);
+    if 0 < back {
+        return back;
+    }
+    behind(keys, from, 256, key, 0)
+}
+
+// Where a search ends that is expected to end near a place.
+fn place_from(keys: &[u64], from: usize, key: u64) -> usize
+    ensures { λ r. ⌜ r ≡ placeNear key (now (keys .entry)) from ⌝ }
+{
+    let start = start_near(keys, from, key);
+    place_between(keys, start, end_above(keys, start, key), key)
+}
+
+// The place that `key` has or would take among the first `count` keys, expected near a place.
+pub fn place_near(keys: &[u64], count: usize, from: usize, key: u64) -> usize
+    ensures { λ r. ⌜ r ≡ placeNear key (take count (now (keys .entry))) from ⌝ }
+{
+    let end = least(count, keys.len());
+    place_from(&keys[..end], from, key)
+}
+
+// Where `key` stands, expected near a place.
+fn find_from(keys: &[u64], from: usize, key: u64) -> Found
+    ensures { λ r. ⌜ r ≡ findNear key (now (keys .entry)) from ⌝ }
+{
+    find_above(keys, start_near(keys, from, key), key)
+}
+
+// Where `key` stands among the first `count` keys, expected near a place.
+pub fn find_near(keys: &[u64], count: usize, from: usize, key: u64) -> Found
+    ensures { λ r. ⌜ r ≡ findNear key (take count (now (keys .entry))) from ⌝ }
+{
+    let end = least(count, keys.len());
+    find_from(&keys[..end], from, key)
 }

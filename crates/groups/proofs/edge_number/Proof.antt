@@ -1,11 +1,11 @@
 -- `groups::edge_number` meets its contract: the edges from a place on say what all of them say.
 -- Assumes nothing.
 use Prim.Native.Nat.{_-_}
-use mathlib.Core.Path.{_≡_, sym, _∙_}
+use mathlib.Core.Path.{_≡_, refl, sym, _∙_}
 use lib.ListN.{drop}
 use Rattle.groups.specs.CellEdges.{edgesIn}
-use Rattle.groups.specs.Near.{scanned, numberBy}
-use Rattle.groups.proofs.NumberLaws.{number-started, number-here, number-next, number-gone, number-ended}
+use Rattle.groups.specs.Near.{scanned, numberFrom}
+use Rattle.groups.proofs.NumberLaws.{number-here, number-next, number-gone, number-ended}
 use borrow.Author.Needs.{needs}
 use Rattle.groups.proofs.edge_number.Statement.{statement}
 use Rattle.groups.proofs.edge_number.Tie as tie
@@ -13,15 +13,13 @@ use Rattle.groups.proofs.edge_number.Tie as tie
 abbrev Inv-loop : tie.InvT-loop
 Inv-loop first second count place a b i₀ i =
     let es = edgesIn first second count in
-    numberBy a b es ≡ scanned i a b (drop i es)
+    numberFrom place a b es ≡ scanned i a b (drop i es)
 
 abbrev μ-loop : tie.MeasureT-loop
 μ-loop first second count place a b i₀ i = count - i
 
 loop-holds : tie.Need-loop-holds Inv-loop μ-loop
-loop-holds c =
-    let a = c .args in
-    rw (c .pre .1) (number-started (a .first .now) (a .second .now) (a .count) (a .a) (a .b) (c .pre .0 .equal))
+loop-holds c = refl
 
 mul-if1 : tie.Need-mul-if1 Inv-loop μ-loop
 mul-if1 c = search needs
@@ -35,7 +33,7 @@ returns c =
     let s = l .before in
     let a = s .args in
     let t = c .before .before .loop-test .taken in (
-      number-gone (a .first .now) (a .second .now) (a .count) (a .a) (a .b) (s .pre .0 .equal) (s .pre .0 .fits)
+      number-gone (a .first .now) (a .second .now) (a .count) (a .a) (a .b) (s .pre .equal) (s .pre .fits)
           (l .loop .i) t (c .if1 .taken)
           ∙ sym (l .loop .inv),
       tt,
@@ -53,7 +51,7 @@ returns-2 c =
     let s = l .before in
     let a = s .args in
     let t = c .before .before .before .before .loop-test .taken in (
-      number-here (a .first .now) (a .second .now) (a .count) (a .a) (a .b) (s .pre .0 .equal) (s .pre .0 .fits)
+      number-here (a .first .now) (a .second .now) (a .count) (a .a) (a .b) (s .pre .equal) (s .pre .fits)
           (l .loop .i) t (c .before .before .if1 .left) (c .if2 .taken)
           ∙ sym (l .loop .inv),
       t,
@@ -72,7 +70,7 @@ loop-again c =
     let a = s .args in
     let t = c .before .before .before .before .loop-test .taken in
     l .loop .inv
-    ∙ number-next (a .first .now) (a .second .now) (a .count) (a .a) (a .b) (s .pre .0 .equal) (s .pre .0 .fits)
+    ∙ number-next (a .first .now) (a .second .now) (a .count) (a .a) (a .b) (s .pre .equal) (s .pre .fits)
     (l .loop .i) t (c .before .before .if1 .left) (c .if2 .left)
 
 returns-3 : tie.Need-returns-3 Inv-loop μ-loop
@@ -80,7 +78,7 @@ returns-3 c =
     let l = c .before in
     let s = l .before in
     let a = s .args in
-    (number-ended (a .first .now) (a .second .now) (a .count) (a .a) (a .b) (s .pre .0 .equal) (l .loop .i) (c .loop-test .left) ∙ sym (l .loop .inv), tt)
+    (number-ended (a .first .now) (a .second .now) (a .count) (a .a) (a .b) (s .pre .equal) (l .loop .i) (c .loop-test .left) ∙ sym (l .loop .inv), tt)
 
 pub edge-number-spec : {M : Type 1} → statement M
 edge-number-spec =
