@@ -1,4 +1,5 @@
 pub mod StepLaws
+pub mod WayLaws
 pub mod NeighborLaws
 pub mod Adjacency
 pub mod Samples

@@ -8,8 +8,8 @@ ghost use mathlib.Core.List.{map};
 ghost use lib.ListN.{length, take};
 ghost use Rattle.ids.specs.Morton.{gather};
 ghost use Rattle.lists.specs.Padding.{padded};
-ghost use Rattle.neighbors.specs.Neighbors.{offsets, neighbours, listedOf, listingOf, nearOf};
-ghost use Rattle.neighbors.specs.Steps.{stepsAlong, Narrow, joinOf, lowOf, cellOf};
+ghost use Rattle.neighbors.specs.Neighbors.{offsets, neighbours, adjacent, listedOf, listingOf, nearOf};
+ghost use Rattle.neighbors.specs.Steps.{stepsAlong, Narrow, joinOf, lowOf, cellOf, wayAlong, byOne, byTwo, stepBy};
 
 // Where the head begins.
 const HEAD: u64 = 0x1_0000_0000_0000;
@@ -116,6 +116,49 @@ pub fn around(key: u64) -> Near
         place += 1;
     }
     Near { keys, count }
+}
+
+// The way from b to a along the axis that begins at the lowest bit, over 17 bits, three apart. What is added is past them all, so that nothing goes below
+// 0; a borrow passes the zeros between them.
+fn way_along(a: u64, b: u64) -> u64
+    ensures { λ r. ⌜ r ≡ wayAlong (gather 16 a) (gather 16 b) ⌝ }
+{
+    ((a & AXIS) + (0x8_0000_0000_0000 - (b & AXIS))) & WIDER
+}
+
+// A way of 1, up or down.
+fn is_one(way: u64) -> bool
+    ensures { λ r. ⌜ r ≡ byOne way ⌝ }
+{
+    (way == 1) | (way == WIDER)
+}
+
+// A way of 2, up or down.
+fn is_two(way: u64) -> bool
+    ensures { λ r. ⌜ r ≡ byTwo way ⌝ }
+{
+    (way == 8) | (way == 0x1_2492_4924_9248)
+}
+
+// Three ways are by 1 on all three axes, or by 2 on one and 0 on the others.
+fn is_step(x: u64, y: u64, z: u64) -> bool
+    ensures { λ r. ⌜ r ≡ stepBy x y z ⌝ }
+{
+    let slanted = is_one(x) & (is_one(y) & is_one(z));
+    let along_x = is_two(x) & ((y == 0) & (z == 0));
+    let along_y = (x == 0) & (is_two(y) & (z == 0));
+    let along_z = (x == 0) & ((y == 0) & is_two(z));
+    slanted | (along_x | (along_y | along_z))
+}
+
+// Whether two cells are adjacent.
+pub fn are_adjacent(a: u64, b: u64) -> bool
+    ensures { λ r. ⌜ r ≡ adjacent a b ⌝ }
+{
+    let x = way_along(a, b);
+    let y = way_along(a / 2, b / 2);
+    let z = way_along(a / 4, b / 4);
+    (a / HEAD == b / HEAD) & is_step(x, y, z)
 }
 
 // The first n keys, then zeros.

@@ -1,0 +1,4 @@
+pub mod WeightLaws
+pub mod LoopLaws
+pub mod NearLaws
+pub mod Determined
