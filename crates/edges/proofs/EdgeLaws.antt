@@ -126,6 +126,28 @@ module _ (near : ℕ → List ℕ) (adjacent : ℕ → ℕ → Bool) (crosses : 
           rows
           (λ r s p q l u v i j. let a = first-of r u i .0 in let b = first-of s v j .0 in inl (omega arith)) up)
 
+-- two tests that agree on stored rows that are adjacent have the same edges
+module _ (near : ℕ → List ℕ) (adjacent : ℕ → ℕ → Bool) (rows : List Row) (nb : Neighbourhood near adjacent) (up : ascending (keysOf rows) ≡ true) where
+  abbrev Agree : (Row → Row → Bool) → (Row → Row → Bool) → Type 0
+  Agree p q = (r s : Row) → r ∈ rows → s ∈ rows → adjacent (r .key) (s .key) ≡ true → p r s ≡ q r s
+
+  stays : (p q : Row → Row → Bool) → Agree p q → (e : Edge) → e ∈ edges near p rows → e ∈ edges near q rows
+  stays p q agree e m =
+      let h = edges-in near adjacent p rows nb m in
+      let r : Row = h .0 in
+      let s : Row = h .1 in
+      let c = h .2 in
+      let crossing : q r s ≡ true = sym (agree r s (c .stored) (c .beside) (c .adjacency)) ∙ c .crossing in
+      Memᴰ·cast (h .4)
+      (in-edges near adjacent q rows nb (ascending-rows rows up) r s
+      (record { stored = c .stored; beside = c .beside; adjacency = c .adjacency; crossing = crossing }) (h .3))
+
+  pub same-edges : (p q : Row → Row → Bool) → Agree p q → edges near p rows ≡ edges near q rows
+  same-edges p q agree =
+      one-order (Before near) (before-asym near (nb .once)) (edges near p rows) (edges near q rows)
+      (edges-ordered near adjacent p rows nb (ascending-rows rows up)) (edges-ordered near adjacent q rows nb (ascending-rows rows up))
+      (stays p q agree) (stays q p (λ r s i j a. sym (agree r s i j a)))
+
 module _ (near : ℕ → List ℕ) (adjacent : ℕ → ℕ → Bool) (crosses : Row → Row → Bool) (rows : List Row)
     (nb : Neighbourhood near adjacent) (both : Symmetric crosses) (up : ascending (keysOf rows) ≡ true) where
   rising : Ordered (λ r s. r .key < s .key) rows

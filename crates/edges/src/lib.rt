@@ -14,15 +14,18 @@ ghost use Rattle.lists.specs.Places.{clearedFrom};
 ghost use Rattle.search.specs.Keys.{ascending, findBy};
 ghost use Rattle.table.specs.Table.{table, rowsOf};
 ghost use Rattle.neighbors.specs.Neighbors.{neighbours};
+ghost use Rattle.rings.specs.Rings.{crossesScan};
 ghost use Rattle.edges.specs.Edges.{listed, edgesOf};
 ghost use Rattle.edges.specs.ZeroCrossing.{crossing};
 ghost use Rattle.edges.specs.Surfaces.{crossesOn, edgesOn};
 ghost use Rattle.edges.specs.Listing.{firsts, seconds, outputsOk, checkedFor, answerIf, crossingsAnswer, firstsOn, secondsOn, edgesAnswer, firstsHeld, secondsHeld};
 ghost use Rattle.edges.specs.Steps.{Accepted, rowAt, Wrote};
 
-// Which surface is asked for: document 01's, whose edges are the zero crossings.
+// Which surface is asked for: document 01's, whose edges are the zero crossings; or the one that closes (document 02, No. 14), whose edges are the
+// crossed edges of tetrahedra.
 pub enum Surface {
     Open,
+    Closed,
 }
 
 // Both weights are nonzero and the product of the distances is below zero.
@@ -38,6 +41,32 @@ fn find_beside(keys: &[u64], count: usize, row: usize, key: u64) -> Found
     ensures { λ r. ⌜ r ≡ findBy key (take count (now (keys .entry))) ⌝ }
 {
     search::find_above(&keys[..count], row + 1, key)
+}
+
+// Whether the rows at two places are of opposite sides, with a tetrahedron around them. Few are of opposite sides, so that is tested first.
+fn crosses_scan(
+    keys: &[u64],
+    distances: &[f32],
+    weights: &[f32],
+    count: usize,
+    row: usize,
+    place: usize,
+) -> bool
+    requires { ⌜ Accepted (now keys) (now distances) (now weights) count × (row < count) × (place < count) ⌝ }
+    ensures { λ r. ⌜ r ≡ crossesScan
+        (rowsOf (now (keys .entry)) (now (distances .entry)) (now (weights .entry)) count)
+        (rowAt (now (keys .entry)) (now (distances .entry)) (now (weights .entry)) row)
+        (rowAt (now (keys .entry)) (now (distances .entry)) (now (weights .entry)) place) ⌝ }
+{
+    if !rings::are_opposed(
+        distances[row],
+        weights[row],
+        distances[place],
+        weights[place],
+    ) {
+        return false;
+    }
+    rings::is_joint(keys, weights, count, row, keys[row], keys[place])
 }
 
 // Whether the rows at two places cross.
@@ -63,6 +92,7 @@ fn crosses_at(
             distances[place],
             weights[place],
         ),
+        Surface::Closed => crosses_scan(keys, distances, weights, count, row, place),
     }
 }
 

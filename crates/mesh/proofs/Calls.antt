@@ -26,6 +26,7 @@ use Rattle.table.proofs.Checking.{not-passed, setting-spares, lengths-spare, ta
 use Rattle.edges.specs.Edges.{Edge}
 use Rattle.edges.specs.EdgeList.{IsEdgeList}
 use Rattle.edges.specs.ZeroCrossing.{crossesZero}
+use Rattle.edges.specs.declared.Surface.{Surface}
 use Rattle.edges.specs.declared.Surface.the-variants.{Open}
 use Rattle.edges.specs.Listing.{firsts, seconds}
 use Rattle.edges.proofs.ZeroCrossingLaws.{demand-3-edges}
@@ -37,7 +38,7 @@ use Rattle.triangles.proofs.Demand3.{zero-crossing-triangles}
 use Rattle.mesh.specs.declared.Rooms.{Rooms}
 use Rattle.mesh.specs.declared.Meshed.{Meshed}
 use Rattle.mesh.specs.declared.Meshed.the-variants.{Done, Refused}
-use Rattle.mesh.specs.Mesh.{edgesOf, groupsOf, trianglesOf, roomsOk, meshCheck, haveRoom, meshedOn, meshedIf, meshAnswerOn, meshAnswer, heldIn}
+use Rattle.mesh.specs.Mesh.{surfaceEdges, groupsOn, trianglesOn, edgesOf, groupsOf, trianglesOf, roomsOk, meshCheck, haveRoomOn, haveRoom, meshedOn, meshAnswerOn, meshAnswer, heldIn}
 use Rattle.mesh.proofs.OpenLaws.{rise, pairs}
 use Rattle.mesh.proofs.MeshLaws.{fit}
 
@@ -76,6 +77,72 @@ module _ (n first px m groups k t0 : ℕ) where
   outgrown (inr (inr (inr h))) e =
       let l = leb-true k t0 (and-second (leb m groups) _ (and-second (leb n px) _ (and-second (leb n first) _ e))) in omega arith
 
+-- ---- of any surface
+
+module _ (o : Surface) (s : Settings) (t : Table) (r : Rooms) where
+  -- what an answer that is a mesh tells
+  done : (c : Checked) (i j : ℕ)
+      → meshedOn o c t r ≡ Done i j
+      → (c ≡ Passed) × (haveRoomOn o t r ≡ true) × (i ≡ length (surfaceEdges o t)) × (j ≡ length (trianglesOn o t))
+  unfolding meshedOn
+  done Passed i j e = go (haveRoomOn o t r) refl e
+    where
+      go :
+          (b : Bool)
+          → haveRoomOn o t r ≡ b
+          → cond b (Done (length (surfaceEdges o t)) (length (trianglesOn o t))) (Refused NoPlace) ≡ Done i j
+          → (Passed ≡ Passed) × (haveRoomOn o t r ≡ true) × (i ≡ length (surfaceEdges o t)) × (j ≡ length (trianglesOn o t))
+      go true q f = let x : i ≡ length (surfaceEdges o t) = cc in let y : j ≡ length (trianglesOn o t) = cc in (refl, q, x, y)
+      go false q f = absurd (never NoPlace i j f)
+  done (Rejected why) i j e = absurd (never why i j e)
+
+  pub done-on : (i j : ℕ)
+      → meshAnswerOn o s t r ≡ Done i j
+      → (meshCheck s t r ≡ Passed) × (haveRoomOn o t r ≡ true) × (i ≡ length (surfaceEdges o t)) × (j ≡ length (trianglesOn o t))
+  unfolding meshAnswerOn
+  done-on i j e = done (meshCheck s t r) i j e
+
+  abbrev outgrown-on : Type 0
+  outgrown-on =
+      Outgrown (length (surfaceEdges o t)) (r .first) (r .px) (length (groupsOn o t)) (r .groups) (length (trianglesOn o t)) (r .t0)
+
+  refused : (c : Checked) → (c ≡ Rejected NoPlace → ⊥) → (meshedOn o c t r ≡ Refused NoPlace) ↔ ((c ≡ Passed) × outgrown-on)
+  unfolding meshedOn
+  refused Passed spare = (λ e. (refl, go (haveRoomOn o t r) refl e), λ p. back (haveRoomOn o t r) refl (p .1))
+    where
+      go :
+          (b : Bool)
+          → haveRoomOn o t r ≡ b
+          → cond b (Done (length (surfaceEdges o t)) (length (trianglesOn o t))) (Refused NoPlace) ≡ Refused NoPlace
+          → outgrown-on
+      go true q e = absurd (never NoPlace (length (surfaceEdges o t)) (length (trianglesOn o t)) (sym e))
+      go false q e = small (length (surfaceEdges o t)) (r .first) (r .px) (length (groupsOn o t)) (r .groups) (length (trianglesOn o t)) (r .t0) q
+
+      back :
+          (b : Bool)
+          → haveRoomOn o t r ≡ b
+          → outgrown-on
+          → cond b (Done (length (surfaceEdges o t)) (length (trianglesOn o t))) (Refused NoPlace) ≡ Refused NoPlace
+      back true q w =
+          absurd
+          (outgrown (length (surfaceEdges o t)) (r .first) (r .px) (length (groupsOn o t)) (r .groups) (length (trianglesOn o t)) (r .t0) w q)
+      back false q w = refl
+  refused (Rejected why) spare = (λ e. absurd (spare (cc)), λ p. absurd (not-passed why (p .0)))
+
+  tests-spare-room : meshCheck s t r ≡ Rejected NoPlace → ⊥
+  unfolding meshCheck
+  tests-spare-room = setting-spares (settingsOk s) _ (lengths-spare (roomsOk r) _ (table-spares s t))
+
+  -- Refused with 6 exactly when no earlier test refuses and edges, vertices, groups or triangles would outgrow their own list.
+  pub refused-for-room-on : (meshAnswerOn o s t r ≡ Refused NoPlace) ↔
+      ((meshCheck s t r ≡ Passed)
+      × ((r .first < length (surfaceEdges o t))
+      ⊎ ((r .px < length (surfaceEdges o t)) ⊎ ((r .groups < length (groupsOn o t)) ⊎ (r .t0 < length (trianglesOn o t))))))
+  unfolding meshAnswerOn
+  refused-for-room-on = refused (meshCheck s t r) tests-spare-room
+
+-- ---- of document 01's surface
+
 module _ (s : Settings) (ks : List ℕ) (ds ws : List Float) (cnt : ℕ) (r : Rooms) where
   abbrev t : Table
   t = table ks ds ws cnt
@@ -83,64 +150,17 @@ module _ (s : Settings) (ks : List ℕ) (ds ws : List Float) (cnt : ℕ) (r : Ro
   abbrev es : List Edge
   es = edgesOf t
 
-  tests-spare-room : meshCheck s t r ≡ Rejected NoPlace → ⊥
-  unfolding meshCheck
-  tests-spare-room = setting-spares (settingsOk s) _ (lengths-spare (roomsOk r) _ (table-spares s t))
-
-  -- what an answer that is a mesh tells
-  done : (c : Checked) (i j : ℕ) → meshedIf c t r ≡ Done i j → (c ≡ Passed) × (haveRoom t r ≡ true) × (i ≡ length es) × (j ≡ length (trianglesOf t))
-  unfolding meshedOn
-  done Passed i j e = go (haveRoom t r) refl e
-    where
-      go :
-          (b : Bool)
-          → haveRoom t r ≡ b
-          → cond b (Done (length es) (length (trianglesOf t))) (Refused NoPlace) ≡ Done i j
-          → (Passed ≡ Passed) × (haveRoom t r ≡ true) × (i ≡ length es) × (j ≡ length (trianglesOf t))
-      go true q f = let x : i ≡ length es = cc in let y : j ≡ length (trianglesOf t) = cc in (refl, q, x, y)
-      go false q f = absurd (never NoPlace i j f)
-  done (Rejected why) i j e = absurd (never why i j e)
-
-  refused :
-      (c : Checked)
-      → (c ≡ Rejected NoPlace → ⊥)
-      → (meshedIf c t r ≡ Refused NoPlace) ↔
-      ((c ≡ Passed)
-      × Outgrown (length es) (r .first) (r .px) (length (groupsOf t)) (r .groups) (length (trianglesOf t)) (r .t0))
-  unfolding meshedOn
-  refused Passed spare = (λ e. (refl, go (haveRoom t r) refl e), λ p. back (haveRoom t r) refl (p .1))
-    where
-      go :
-          (b : Bool)
-          → haveRoom t r ≡ b
-          → cond b (Done (length es) (length (trianglesOf t))) (Refused NoPlace) ≡ Refused NoPlace
-          → Outgrown (length es) (r .first) (r .px) (length (groupsOf t)) (r .groups) (length (trianglesOf t)) (r .t0)
-      go true q e = absurd (never NoPlace (length es) (length (trianglesOf t)) (sym e))
-      go false q e = small (length es) (r .first) (r .px) (length (groupsOf t)) (r .groups) (length (trianglesOf t)) (r .t0) q
-
-      back :
-          (b : Bool)
-          → haveRoom t r ≡ b
-          → Outgrown (length es) (r .first) (r .px) (length (groupsOf t)) (r .groups) (length (trianglesOf t)) (r .t0)
-          → cond b (Done (length es) (length (trianglesOf t))) (Refused NoPlace) ≡ Refused NoPlace
-      back true q o = absurd (outgrown (length es) (r .first) (r .px) (length (groupsOf t)) (r .groups) (length (trianglesOf t)) (r .t0) o q)
-      back false q o = refl
-  refused (Rejected why) spare = (λ e. absurd (spare (cc)), λ p. absurd (not-passed why (p .0)))
-
-  -- Refused with 6 exactly when no earlier test refuses and edges, vertices, groups or triangles would outgrow their own list.
   pub refused-for-room : (meshAnswer s t r ≡ Refused NoPlace) ↔
       ((meshCheck s t r ≡ Passed)
       × ((r .first < length es)
       ⊎ ((r .px < length es) ⊎ ((r .groups < length (groupsOf t)) ⊎ (r .t0 < length (trianglesOf t))))))
-  unfolding meshAnswerOn
-  refused-for-room = refused (meshCheck s t r) tests-spare-room
+  refused-for-room = refused-for-room-on Open s t r
 
   -- ---- a mesh
 
   module _ (i j : ℕ) (e : meshAnswer s t r ≡ Done i j) where
     known : (meshCheck s t r ≡ Passed) × (haveRoom t r ≡ true) × (i ≡ length es) × (j ≡ length (trianglesOf t))
-    unfolding meshAnswerOn
-    known = done (meshCheck s t r) i j e
+    known = done-on Open s t r i j e
 
     -- The edges and the triangles are those of demand 3, and the counts are theirs; each edge has two places in the groups.
     pub mesh-edges : IsEdgeList neighbours adjacent crossesZero (rows t) es × (i ≡ length es)

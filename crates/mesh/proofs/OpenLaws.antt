@@ -8,7 +8,7 @@ use mathlib.Core.Bool.{Bool, true, cond}
 use mathlib.Core.List.{List}
 use lib.Dec.{eqb}
 use lib.Ieee.{Float}
-use lib.ListN.{length, take, replicate, length-map}
+use lib.ListN.{length, take, replicate, length-map, length-take}
 use borrow.Author.Tests.{le-leb}
 use Rattle.lists.specs.Padding.{padded}
 use Rattle.lists.specs.Listing.{roomFor, countOf, heldFor}
@@ -19,7 +19,7 @@ use Rattle.lists.proofs.Bools.{and-first, and-second, and-eq}
 use Rattle.lists.proofs.PaddingLaws.{padded-length}
 use Rattle.refusals.specs.declared.Refusal.the-variants.{Setting, Lengths}
 use Rattle.search.specs.Keys.{ascending}
-use Rattle.table.specs.Table.{Table, table, rows, settingsOk, tableCheck}
+use Rattle.table.specs.Table.{Table, table, beside, rows, settingsOk, tableCheck}
 use Rattle.table.specs.declared.Settings.{Settings}
 use Rattle.table.specs.declared.Checked.{Checked}
 use Rattle.table.proofs.Laying.{columns}
@@ -28,7 +28,6 @@ use Rattle.table.proofs.Checking.{need-passed}
 use Rattle.edges.specs.Edges.{Edge}
 use Rattle.edges.specs.Listing.{firsts, seconds, outputsOk, checkedFor, answerIf, crossingsAnswer, edgesAnswer, firstsHeld, secondsHeld}
 use Rattle.edges.specs.Steps.{Accepted}
-use Rattle.edges.specs.declared.Surface.{Surface}
 use Rattle.edges.specs.declared.Surface.the-variants.{Open}
 use Rattle.edges.proofs.AnswerLaws.{accepted}
 use Rattle.edges.proofs.ListingLaws.{rows-rise}
@@ -38,7 +37,6 @@ use Rattle.groups.specs.CellEdges.{pairsOk}
 use Rattle.triangles.specs.Triangles.{triangles}
 use Rattle.triangles.specs.Building.{Source, source, Rooms as Lent, groupsAt, trianglesAt, cellsOf, sizesOk, roomForBoth, builtAnswer, groupsHeld, held0, held1, held2}
 use Rattle.triangles.proofs.Built.{groups-built, triangles-built}
-use Rattle.mesh.specs.declared.Drawn.{Drawn}
 use Rattle.mesh.specs.Mesh.{edgesOf, groupsOf, trianglesOf}
 use Rattle.mesh.specs.Steps.{Fit, Drawing}
 
@@ -54,6 +52,9 @@ module _ (s : Settings) (ks : List ℕ) (ds ws : List Float) (cnt a b : ℕ) (l 
 
   pub rise : ascending (keysOf (rows t)) ≡ true
   rise = rows-rise ks ds ws cnt (acc .0)
+
+  pub few : length (rows t) ≤ 65536
+  few = omega (arith, length-take cnt (beside ks ds ws), acc .0 .fits, acc .0 .few)
 
   keys-are : take cnt ks ≡ keysOf (rows t)
   keys-are = sym (columns ks ds ws cnt (acc .0 .distances) (acc .0 .weights) .0)
@@ -174,9 +175,3 @@ module _ (s : Settings) (ks : List ℕ) (ds ws : List Float) (cnt a b : ℕ) (l 
           t2 = λ fits. filled-as fits (l .t2) (λ (x : Source). column2 (trianglesAt x (cellsOf x))) (column2 (trianglesOf t))
               (ap column2 (triangles-are fits)) z' z-is;
         }
-
--- document 01's surface is the only one there is
-pub drawn-on : (o : Surface) (t : Table) (a b : ℕ) (l : Lent) (d : Drawn) (f' s' g' x' y' z' : List ℕ)
-    → Drawing Open t a b l d f' s' g' x' y' z'
-    → Drawing o t a b l d f' s' g' x' y' z'
-drawn-on Open t a b l d f' s' g' x' y' z' h = h

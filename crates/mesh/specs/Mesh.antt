@@ -2,7 +2,7 @@
 use Prim.Native.Nat.{ℕ}
 use mathlib.Core.Path.{_≡_}
 use mathlib.Core.Bool.{Bool, cond, _&&_}
-use mathlib.Core.List.{List, map}
+use mathlib.Core.List.{List, [], map}
 use lib.Dec.{eqb, leb}
 use lib.Ieee.{Float}
 use lib.ListN.{length, replicate}
@@ -18,7 +18,7 @@ use Rattle.table.specs.Rows.{keysOf}
 use Rattle.edges.specs.Edges.{Edge}
 use Rattle.edges.specs.ZeroCrossing.{zeroCrossingEdges}
 use Rattle.edges.specs.declared.Surface.{Surface}
-use Rattle.edges.specs.declared.Surface.the-variants.{Open}
+use Rattle.edges.specs.declared.Surface.the-variants.{Open, Closed}
 use Rattle.edges.specs.Listing.{firsts, seconds, outputsOk}
 use Rattle.slopes.specs.declared.Vertex.{Vertex}
 use Rattle.slopes.specs.declared.Normal.{Normal}
@@ -28,6 +28,8 @@ use Rattle.slopes.specs.Normals.{normalsOf, partsX, partsY, partsZ}
 use Rattle.groups.specs.Groups.{groups}
 use Rattle.lists.specs.Threes.{Three, column0, column1, column2}
 use Rattle.triangles.specs.Triangles.{triangles}
+use Rattle.tetrahedra.specs.ClosedEdges.{closedEdges}
+use Rattle.tetrahedra.specs.ClosedTriangles.{closedTriangles}
 use Rattle.mesh.specs.declared.Rooms.{Rooms}
 use Rattle.mesh.specs.declared.Meshed.{Meshed}
 use Rattle.mesh.specs.declared.Meshed.the-variants.{Done, Refused}
@@ -37,6 +39,7 @@ use Rattle.mesh.specs.declared.Meshed.the-variants.{Done, Refused}
 -- the edges
 abbrev pub surfaceEdges : Surface → Table → List Edge
 surfaceEdges Open t = zeroCrossingEdges (rows t)
+surfaceEdges Closed t = closedEdges (rows t)
 
 -- vertex i comes from edge i
 abbrev pub verticesOn : Surface → Settings → Table → List Vertex
@@ -46,12 +49,14 @@ verticesOn o s t = map (λ (e : Edge). vertexAt (distanceIn (rows t)) (s .«voxe
 abbrev pub normalsOn : Surface → Settings → Table → List Normal
 normalsOn o s t = normalsOf (distanceIn (rows t)) (s .«voxel_size» .0) (firsts (surfaceEdges o t))
 
--- the edge numbers grouped by cell, and the triangles
+-- the edge numbers grouped by cell, of which the closed surface has none, and the triangles
 abbrev pub groupsOn : Surface → Table → List ℕ
 groupsOn Open t = groups (surfaceEdges Open t) (keysOf (rows t))
+groupsOn Closed t = []
 
 abbrev pub trianglesOn : Surface → Table → List (Three ℕ)
 trianglesOn Open t = triangles (surfaceEdges Open t) (keysOf (rows t))
+trianglesOn Closed t = closedTriangles (rows t)
 
 -- the lengths of the twelve lists
 abbrev pub rooms : ℕ → ℕ → ℕ → ℕ → ℕ → ℕ → ℕ → ℕ → ℕ → ℕ → ℕ → ℕ → Rooms
@@ -140,6 +145,15 @@ abbrev pub IsMesh : Settings → Table → Rooms → Meshed → List ℕ → Lis
     → List ℕ → List ℕ → List ℕ → List ℕ
     → Type 0
 IsMesh = IsMeshOn Open
+
+-- ---- of the surface that closes (document 02, No. 14)
+
+-- the answer, and what each of the eleven lists holds: there are no groups
+abbrev pub IsClosedMesh : Settings → Table → Rooms → Meshed → List ℕ → List ℕ
+    → List Float → List Float → List Float → List Float → List Float → List Float
+    → List ℕ → List ℕ → List ℕ
+    → Type 0
+IsClosedMesh s t r a as' bs xs ys zs us vs ws is js ks = IsMeshOn Closed s t r a as' bs xs ys zs us vs ws [] is js ks
 
 -- ---- what is answered
 

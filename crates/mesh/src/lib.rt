@@ -9,9 +9,9 @@ ghost use mathlib.Core.Path.{_≡_};
 ghost use lib.ListN.{length};
 ghost use Rattle.lists.specs.Places.{zeroF, clearedFrom};
 ghost use Rattle.table.specs.Table.{table};
-ghost use Rattle.edges.specs.declared.Surface.the-variants.{Open};
+ghost use Rattle.edges.specs.declared.Surface.the-variants.{Open, Closed};
 ghost use Rattle.triangles.specs.Building.{rooms as lentOf};
-ghost use Rattle.mesh.specs.Mesh.{rooms as roomsOf, roomsOk, meshCheck, IsMeshOn, IsMesh};
+ghost use Rattle.mesh.specs.Mesh.{rooms as roomsOf, roomsOk, meshCheck, IsMeshOn, IsMesh, IsClosedMesh};
 ghost use Rattle.mesh.specs.Steps.{withBuilt, withVertices, withEdges, answerFor, keptOf, Fit, Drawing};
 
 // What is answered to a mesh: how many edges, which are as many vertices, and how many triangles; or why it is refused.
@@ -113,6 +113,49 @@ fn draw_open(
     Drawn { edges, built }
 }
 
+// The edges and the triangles of the surface that closes, which has no groups.
+fn draw_closed(
+    settings: Settings,
+    keys: &[u64],
+    distances: &[f32],
+    weights: &[f32],
+    count: usize,
+    first: &mut [u64],
+    second: &mut [u64],
+    groups: &mut [u32],
+    t0: &mut [u32],
+    t1: &mut [u32],
+    t2: &mut [u32],
+) -> Drawn
+    ensures { λ d. ⌜ (Fit settings (table (now (keys .entry)) (now (distances .entry)) (now (weights .entry)) count)
+        (length (now (first .entry))) (length (now (second .entry)))
+        (lentOf (length (now (groups .entry))) (length (now (t0 .entry))) (length (now (t1 .entry)))
+        (length (now (t2 .entry))))
+        → Drawing Closed (table (now (keys .entry)) (now (distances .entry)) (now (weights .entry)) count)
+        (length (now (first .entry))) (length (now (second .entry)))
+        (lentOf (length (now (groups .entry))) (length (now (t0 .entry))) (length (now (t1 .entry)))
+        (length (now (t2 .entry))))
+        d (now (first .exit)) (now (second .exit)) (now (groups .exit)) (now (t0 .exit)) (now (t1 .exit))
+        (now (t2 .exit))) ⌝ }
+{
+    let closed = cutting::list_closed(
+        settings,
+        keys,
+        distances,
+        weights,
+        count,
+        first,
+        second,
+        t0,
+        t1,
+        t2,
+    );
+    lists::clear_from_u32(groups, 0);
+    let edges = closed.edges;
+    let built = closed.triangles;
+    Drawn { edges, built }
+}
+
 // The edges of a surface, its groups and its triangles.
 fn draw(
     surface: Surface,
@@ -141,6 +184,19 @@ fn draw(
 {
     match surface {
         Surface::Open => draw_open(
+            settings,
+            keys,
+            distances,
+            weights,
+            count,
+            first,
+            second,
+            groups,
+            t0,
+            t1,
+            t2,
+        ),
+        Surface::Closed => draw_closed(
             settings,
             keys,
             distances,
@@ -382,6 +438,56 @@ pub fn extract_mesh_from_tsdf(
         ny,
         nz,
         groups,
+        t0,
+        t1,
+        t2,
+    )
+}
+
+// The closed mesh of a table, in eleven lists: 1, 2, 3, then 6 exactly when edges, vertices or triangles outgrow their own list.
+pub fn extract_closed_mesh(
+    settings: Settings,
+    keys: &[u64],
+    distances: &[f32],
+    weights: &[f32],
+    count: usize,
+    first: &mut [u64],
+    second: &mut [u64],
+    px: &mut [f32],
+    py: &mut [f32],
+    pz: &mut [f32],
+    nx: &mut [f32],
+    ny: &mut [f32],
+    nz: &mut [f32],
+    t0: &mut [u32],
+    t1: &mut [u32],
+    t2: &mut [u32],
+) -> Meshed
+    ensures { λ r. ⌜ IsClosedMesh settings (table (now (keys .entry)) (now (distances .entry)) (now (weights .entry)) count)
+        (roomsOf (length (now (first .entry))) (length (now (second .entry))) (length (now (px .entry)))
+        (length (now (py .entry))) (length (now (pz .entry))) (length (now (nx .entry))) (length (now (ny .entry)))
+        (length (now (nz .entry))) 0 (length (now (t0 .entry)))
+        (length (now (t1 .entry))) (length (now (t2 .entry))))
+        r (now (first .exit)) (now (second .exit)) (now (px .exit)) (now (py .exit)) (now (pz .exit)) (now (nx .exit))
+        (now (ny .exit)) (now (nz .exit)) (now (t0 .exit)) (now (t1 .exit)) (now (t2 .exit)) ⌝ }
+{
+    let mut none = [0u32; 1];
+    extract(
+        Surface::Closed,
+        settings,
+        keys,
+        distances,
+        weights,
+        count,
+        first,
+        second,
+        px,
+        py,
+        pz,
+        nx,
+        ny,
+        nz,
+        &mut none[..0],
         t0,
         t1,
         t2,

@@ -92,7 +92,7 @@ relaid-keys t rs = take-at (keysOf rs) (drop (length (keysOf rs)) (t .keys)) (le
 laid-length : {A : Type 0} (vs l : List A) → length vs ≤ length l → length (laid vs l) ≡ length l
 laid-length vs l h = simp (length-append, length-drop) (omega arith)
 
-lengths-say : (a b c n : ℕ) → n ≤ a → b ≡ a → c ≡ a → a ≤ 65536 → lengthsOk a b c n ≡ true
+pub lengths-say : (a b c n : ℕ) → n ≤ a → b ≡ a → c ≡ a → a ≤ 65536 → lengthsOk a b c n ≡ true
 lengths-say a b c n h p q g = rw (eq-eqb a b (sym p), eq-eqb a c (sym q), le-leb a 65536 g, le-leb n a h)
 
 -- a table that passes, with other rows that pass

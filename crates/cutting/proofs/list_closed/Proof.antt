@@ -1,0 +1,85 @@
+-- `cutting::list_closed` meets its contract: what is listed and cut stays, and the rest is cleared.
+-- Assumes nothing.
+use mathlib.Core.Path.{ap, _∙_}
+use mathlib.Core.List.{List}
+use Prim.Native.Nat.{ℕ}
+use Rattle.table.specs.Table.{table}
+use Rattle.cutting.proofs.ClosedLaws.{closed-answer, firsts-closed, seconds-closed, own-listed, cut-answered, cleared-to}
+use borrow.Author.Needs.{needs}
+use Rattle.cutting.proofs.list_closed.Statement.{statement}
+use Rattle.cutting.proofs.list_closed.Tie as tie
+
+list-crossings-requires : tie.Need-list-crossings-requires
+list-crossings-requires c κs = search needs
+
+cut-checked-requires : tie.Need-cut-checked-requires
+cut-checked-requires c κs =
+    let at-list = c .before .before .before .before .before .before .before .before .before in
+    let e = at-list .list-crossings .ensures in
+    own-listed _ _ _ _ _ _ _ _ _ _ (e .0) (e .1 .0) (e .1 .1)
+
+count-of-requires : tie.Need-count-of-requires
+count-of-requires c κs = search needs
+
+clear-from-u32-requires : tie.Need-clear-from-u32-requires
+clear-from-u32-requires c κs = search needs
+
+clear-from-u32-requires-2 : tie.Need-clear-from-u32-requires-2
+clear-from-u32-requires-2 c κs = search needs
+
+clear-from-u32-requires-3 : tie.Need-clear-from-u32-requires-3
+clear-from-u32-requires-3 c κs = search needs
+
+same-length : tie.Need-same-length
+same-length c = search needs
+
+same-length-2 : tie.Need-same-length-2
+same-length-2 c = search needs
+
+same-length-3 : tie.Need-same-length-3
+same-length-3 c = search needs
+
+same-length-4 : tie.Need-same-length-4
+same-length-4 c = search needs
+
+same-length-5 : tie.Need-same-length-5
+same-length-5 c = search needs
+
+returns : tie.Need-returns
+returns c =
+    let cleared = c .before .before .before .before .before .before in
+    let at-count = cleared .before .before .before .before .before .before in
+    let at-cut = at-count .before .before .before .before .before .before .before in
+    let at-list = at-cut .before .before .before .before .before .before .before .before .before .before in
+    let a = at-list .before .before .before .before .before .before .before .before .before .before .before .args in
+    let e = at-list .list-crossings .ensures in
+    let k = at-cut .cut-checked .ensures in
+    let n = at-count .count-of .ensures in
+    let edges = e .0 ∙ closed-answer (a .settings) (a .keys .now) (a .distances .now) (a .weights .now) (a .count) _ _ in
+    let triangles = cut-answered (a .settings) (table (a .keys .now) (a .distances .now) (a .weights .now) (a .count)) _ _ _ _ _ _ _ edges (k .answer) in
+    record {
+      edges = edges;
+      first = e .1 .0 ∙ firsts-closed (a .settings) (a .keys .now) (a .distances .now) (a .weights .now) (a .count) _ _;
+      second = e .1 .1 ∙ seconds-closed (a .settings) (a .keys .now) (a .distances .now) (a .weights .now) (a .count) _ _;
+      triangles = triangles;
+      t0 = cleared-to _ _ triangles _ n _ _ _ _ (cleared .before .before .before .before .clear-from-u32 .ensures) (k .t0);
+      t1 = cleared-to _ _ triangles _ n _ _ _ _ (cleared .clear-from-u322 .ensures) (k .t1);
+      t2 = cleared-to _ _ triangles _ n _ _ _ _ (c .before .before .clear-from-u323 .ensures) (k .t2);
+    }
+
+pub list-closed-spec : {M : Type 1} → statement M
+list-closed-spec =
+    tie.close
+    (tie.spec
+    list-crossings-requires
+    cut-checked-requires
+    count-of-requires
+    clear-from-u32-requires
+    clear-from-u32-requires-2
+    clear-from-u32-requires-3
+    same-length
+    same-length-2
+    same-length-3
+    same-length-4
+    same-length-5
+    returns)

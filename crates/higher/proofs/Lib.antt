@@ -1,0 +1,4 @@
+pub mod PlaceLaws
+pub mod ColumnLaws
+pub mod HigherLaws
+pub mod Determined

@@ -1,0 +1,16 @@
+pub mod Lattice
+pub mod FourLaws
+pub mod Corners
+pub mod Counting
+pub mod Numbers
+pub mod Local
+pub mod TetrahedronLaws
+pub mod ClosedEdgeLaws
+pub mod CutLaws
+pub mod ClosingLaws
+pub mod Samples
+pub mod ClosedTriangleLaws
+pub mod NearLaws
+pub mod JointLaws
+pub mod ScanLaws
+pub mod RoomLaws
