@@ -1,5 +1,5 @@
 /* host.c: what a plug-in does. Two passes over a small last are fused, the surface is meshed, and counts, area and box are
- * printed; then one refusal. All lists are the host's own. */
+ * printed; then the mesh that closes, its counts and area, and one refusal. All lists are the host's own. */
 #include "akfelzun.h"
 
 #include <stdio.h>
@@ -65,6 +65,15 @@ int main(void) {
                               &high[2]);
     printf("box: answer %u, (%.3f, %.3f, %.3f) to (%.3f, %.3f, %.3f)\n", answer, low[0], low[1], low[2], high[0], high[1],
            high[2]);
+
+    /* the mesh that closes, in the same lists; it has no groups */
+    answer = akf_extract_closed_mesh(SETTINGS, TABLE_IN, rows, first, EDGES, second, EDGES, px, EDGES, py, EDGES, pz, EDGES,
+                                     nx, EDGES, ny, EDGES, nz, EDGES, t0, TRIANGLES, t1, TRIANGLES, t2, TRIANGLES, &edges,
+                                     &triangles);
+    printf("closed mesh: answer %u, vertices %zu, triangles %zu\n", answer, edges, triangles);
+    answer = akf_surface_area(px, EDGES, py, EDGES, pz, EDGES, edges, t0, TRIANGLES, t1, TRIANGLES, t2, TRIANGLES,
+                              triangles, &area);
+    printf("its area: answer %u, %.3f\n", answer, area);
 
     /* coordinates of mixed parity make no key: refusal 4, and the key handed back is 0 */
     uint64_t key = 1;

@@ -1,5 +1,5 @@
-/* What a call takes of the stack: a batch of 5,000 readings, an edge list and a march of them, each in a thread of its own whose stack is painted
-   beforehand. Exits 1 where one takes more than 192 KB. docs/LINKING.md says so to a host that lends a small stack. */
+/* What a call takes of the stack: a batch of 5,000 readings, an edge list, a closed mesh and a march of them, each in a thread of its own whose stack is
+   painted beforehand. Exits 1 where one takes more than 192 KB. docs/LINKING.md says so to a host that lends a small stack. */
 #define _XOPEN_SOURCE 700
 #include "akfelzun.h"
 #include <pthread.h>
@@ -7,11 +7,13 @@
 #include <stdlib.h>
 #include <string.h>
 
-enum { ROWS = 65536, READINGS = 5000, WAITING = 100000, MARCHED = 200000, STACK = 1 << 20, MOST = 192 * 1024 };
+enum { ROWS = 65536, READINGS = 5000, EDGES = 7 * READINGS, TRIANGLES = 12 * READINGS, WAITING = 100000, MARCHED = 200000, STACK = 1 << 20, MOST = 192 * 1024 };
 #define SETTINGS 1.0f, 100.0f, 0.02f, 0.1f
 static uint64_t keys[ROWS], batch[READINGS], first[WAITING], second[WAITING], marched[MARCHED], cells[WAITING];
 static float distances[ROWS], weights[ROWS], read_distances[READINGS], confidences[READINGS], far_distances[MARCHED], estimates[WAITING];
-static size_t count;
+static float px[EDGES], py[EDGES], pz[EDGES], nx[EDGES], ny[EDGES], nz[EDGES];
+static uint32_t t0[TRIANGLES], t1[TRIANGLES], t2[TRIANGLES];
+static size_t count, triangles;
 static uint32_t answer;
 
 static void *fuse(void *unused) {
@@ -24,6 +26,13 @@ static void *fuse(void *unused) {
 static void *list(void *unused) {
     size_t edges;
     answer = akf_get_zero_crossing_edges(SETTINGS, keys, ROWS, distances, ROWS, weights, ROWS, count, first, WAITING, second, WAITING, &edges);
+    return unused;
+}
+
+static void *close_up(void *unused) {
+    size_t edges;
+    answer = akf_extract_closed_mesh(SETTINGS, keys, ROWS, distances, ROWS, weights, ROWS, count, first, EDGES, second, EDGES, px, EDGES, py, EDGES,
+                                     pz, EDGES, nx, EDGES, ny, EDGES, nz, EDGES, t0, TRIANGLES, t1, TRIANGLES, t2, TRIANGLES, &edges, &triangles);
     return unused;
 }
 
@@ -55,13 +64,15 @@ static int took_too_much(const char *name, void *(*call)(void *)) {
 
 int main(void) {
     for (uint32_t i = 0; i < READINGS; i++) {
-        uint32_t x = i * 40503u % READINGS;
-        akf_index64_new(0x8000, 2 * (x % 17), 2 * (x / 17 % 17), 2 * (x / 289), &batch[i]);
+        /* even and odd cells, side by side */
+        uint32_t x = i * 40503u % READINGS, cell = x / 2, odd = x % 2;
+        akf_index64_new(0x8000, 2 * (cell % 17) + odd, 2 * (cell / 17 % 17) + odd, 2 * (cell / 289) + odd, &batch[i]);
         read_distances[i] = x % 2 ? 0.01f : -0.01f;
         confidences[i] = 1.0f;
     }
     int wrong = took_too_much("a batch", fuse);
     wrong += took_too_much("an edge list", list);
+    wrong += took_too_much("a closed mesh", close_up) + (triangles == 0);
     wrong += took_too_much("a march", march);
     return wrong != 0;
 }

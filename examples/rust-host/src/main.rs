@@ -1,8 +1,9 @@
 //! What a plug-in in Rust does. Two passes over a small last are fused, the surface is meshed, and counts, area and box are
-//! printed; then refusals and what is far.
+//! printed; then the mesh that closes, refusals and what is far.
 mod akfelzun;
 
-use akfelzun::{key, root, Answer, Room, Settings, Table};
+use akfelzun::{key, root, Answer, Mesh, Room, Settings, Table};
+use std::collections::BTreeMap;
 
 /// How far a cell lies outside a ball.
 fn outside_ball(cell: [u16; 3], centre: [u16; 3], radius: f32) -> f32 {
@@ -37,6 +38,19 @@ fn scan(off: f32) -> (Vec<u64>, Vec<f32>) {
         }
     }
     (keys, distances)
+}
+
+/// How many sides belong to two triangles, and how many there are.
+fn shared_sides(mesh: &Mesh) -> (usize, usize) {
+    let mut triangles_of: BTreeMap<[u32; 2], usize> = BTreeMap::new();
+    for i in 0..mesh.triangles[0].len() {
+        let t = [0, 1, 2].map(|corner: usize| mesh.triangles[corner][i]);
+        for (a, b) in [(t[0], t[1]), (t[1], t[2]), (t[2], t[0])] {
+            *triangles_of.entry([a.min(b), a.max(b)]).or_default() += 1;
+        }
+    }
+    let shared = triangles_of.values().filter(|&&n| n == 2).count();
+    (shared, triangles_of.len())
 }
 
 fn main() {
@@ -77,6 +91,26 @@ fn main() {
         }
         other => println!("mesh: {:?}", other.refusal()),
     }
+    let room = |triangles| Room {
+        edges: 16384,
+        groups: 0,
+        triangles,
+    };
+    match table.closed_mesh(room(262144)) {
+        Answer::Done(mesh) => println!(
+            "closed mesh: vertices {}, triangles {}, sides of two triangles {} of {}, area {:.3?}",
+            mesh.positions[0].len(),
+            mesh.triangles[0].len(),
+            shared_sides(&mesh).0,
+            shared_sides(&mesh).1,
+            mesh.area()
+        ),
+        other => println!("closed mesh: {:?}", other.refusal()),
+    }
+    println!(
+        "closed mesh with room for one triangle: {:?}",
+        table.closed_mesh(room(1)).refusal()
+    );
     println!("key of (16, 16, 17): {:?}", key(0, 16, 16, 17));
     println!(
         "mesh with room for one triangle: {:?}",
