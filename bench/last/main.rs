@@ -1,11 +1,13 @@
 // bench_last [quick] [ROWS]: synthetic lasts of 16,384, 32,768 and 65,536 rows, the most that a table holds: the Rust with its own hash tables and the C face
 // in one process on the same input. Prints the best of five runs of each, their ratio, and how each grows when the rows double.
+// The closed mesh, which the Rust does not have, stands beside the mesh of the same run, face against face; and of odd fields beside that of the last.
 // The march goes to about five times the rows, and to about sixteen times, the most that a marched list holds; `quick` leaves it out. ROWS leaves larger
 // lasts out.
 use compare::face::{FACE, LANDED};
 use compare::last::{rows_nearest, shuffled, SIZE};
+use compare::plain::keys::key_of;
 use compare::rng::Rng;
-use compare::shape::{Lists, Settings, Table, TableMut};
+use compare::shape::{ClosedLists, Lists, Settings, Table, TableMut};
 use std::hint::black_box;
 
 #[cfg(rust)]
@@ -75,7 +77,7 @@ fn done(ms: f64, gave: usize) -> Done {
     Done { ms: Some(ms), gave }
 }
 
-const WORK: [(&str, &str); 7] = [
+const WORK: [(&str, &str); 8] = [
     ("batch, keys ascending", "rows"),
     ("batch, shuffled", "rows"),
     ("edges", "edges"),
@@ -83,9 +85,15 @@ const WORK: [(&str, &str); 7] = [
     ("march", "rows"),
     ("march, farther", "rows"),
     ("root, a million", ""),
+    ("closed mesh", "triangles"),
 ];
+const MESH: usize = 3;
 const MARCH: usize = 4;
 const ROOT: usize = 6;
+const CLOSED: usize = 7;
+
+// What each work took.
+type Took = [Done; WORK.len()];
 
 fn roots() -> Vec<f32> {
     let mut r = Rng::new(1, "roots");
@@ -93,7 +101,7 @@ fn roots() -> Vec<f32> {
 }
 
 #[cfg(rust)]
-fn rust(f: &Field) -> [Done; 7] {
+fn rust(f: &Field) -> Took {
     let readings: Vec<(Index64, f32, f32)> = (0..f.keys.len()).map(|i| (Index64::from_value(f.keys[i]).unwrap(), f.distances[i], 1.0)).collect();
     let shuffled: Vec<(Index64, f32, f32)> = f.order.iter().map(|&i| readings[i]).collect();
     let made = |readings: &[(Index64, f32, f32)]| {
@@ -101,13 +109,13 @@ fn rust(f: &Field) -> [Done; 7] {
         l.batch_update(readings).unwrap();
         l
     };
-    let mut t = [Done::default(); 7];
+    let mut t = Took::default();
     t[0] = done(best(|| drop(black_box(made(&readings)))), readings.len());
     t[1] = done(best(|| drop(black_box(made(&shuffled)))), readings.len());
     let l = made(&readings);
     let mut gave = 0;
     t[2] = done(best(|| gave = black_box(l.get_zero_crossing_edges()).len()), gave);
-    t[3] = done(best(|| gave = black_box(extract_mesh_from_tsdf(&l).unwrap()).triangles.len()), gave);
+    t[MESH] = done(best(|| gave = black_box(extract_mesh_from_tsdf(&l).unwrap()).triangles.len()), gave);
     for (i, &far) in f.far.iter().enumerate().filter(|_| !quick()) {
         let march = || {
             let mut e = ESDFLayer::new(f.settings.voxel_size, far);
@@ -125,7 +133,7 @@ fn rust(f: &Field) -> [Done; 7] {
 }
 
 #[cfg(not(rust))]
-fn rust(_: &Field) -> [Done; 7] {
+fn rust(_: &Field) -> Took {
     Default::default()
 }
 
@@ -188,6 +196,37 @@ fn face_mesh(f: &Field, rows: Table) -> Done {
     done(ms, triangles)
 }
 
+// Lists for a closed mesh, each as long as any may be.
+struct Lent {
+    edges: [Vec<u64>; 2],
+    parts: [Vec<f32>; 6],
+    corners: [Vec<u32>; 3],
+}
+
+fn lent() -> Lent {
+    Lent { edges: [0; 2].map(|_| vec![0; LONGEST]), parts: [0; 6].map(|_| vec![0.0; LONGEST]), corners: [0; 3].map(|_| vec![0; LONGEST]) }
+}
+
+// The closed mesh in these lists, of which those for triangles have `room` places: milliseconds, the answer, edges and triangles.
+fn closed_in(lent: &mut Lent, settings: Settings, rows: Table, room: usize) -> (f64, u32, usize, usize) {
+    let (mut answer, mut edges, mut triangles) = (0, 0, 0);
+    let ms = best(|| {
+        let [first, second] = &mut lent.edges;
+        let [px, py, pz, nx, ny, nz] = &mut lent.parts;
+        let [t0, t1, t2] = &mut lent.corners;
+        let corners = [&mut t0[..room], &mut t1[..room], &mut t2[..room]];
+        let lists = ClosedLists { edges: [first, second], places: [px, py, pz], normals: [nx, ny, nz], triangles: corners };
+        answer = (FACE.extract_closed_mesh)(settings, rows, lists, &mut edges, &mut triangles);
+    });
+    (ms, answer, edges, triangles)
+}
+
+fn face_closed_mesh(f: &Field, rows: Table) -> Done {
+    let (ms, answer, _, triangles) = closed_in(&mut lent(), f.settings, rows, LONGEST);
+    assert!(answer == 0, "closed mesh: answer {answer}");
+    done(ms, triangles)
+}
+
 fn face_march(f: &Field, rows: Table, far: f32) -> Done {
     let (mut keys, mut distances) = (vec![0; LONGEST], vec![0.0; LONGEST]);
     let (mut estimates, mut waiting) = (vec![0.0; LONGEST], vec![0; LONGEST]);
@@ -224,8 +263,8 @@ fn face_root() -> Done {
     done(ms, 0)
 }
 
-fn face(f: &Field) -> [Done; 7] {
-    let mut t = [Done::default(); 7];
+fn face(f: &Field) -> Took {
+    let mut t = Took::default();
     let ones = vec![1.0; f.keys.len()];
     let rows = Table { keys: &f.keys, distances: &f.distances, weights: &ones, count: f.keys.len() };
     if landed("akf_batch_update") {
@@ -236,7 +275,10 @@ fn face(f: &Field) -> [Done; 7] {
         t[2] = face_edges(f, rows);
     }
     if landed("akf_extract_mesh_from_tsdf") {
-        t[3] = face_mesh(f, rows);
+        t[MESH] = face_mesh(f, rows);
+    }
+    if landed("akf_extract_closed_mesh") {
+        t[CLOSED] = face_closed_mesh(f, rows);
     }
     if landed("akf_compute_from_tsdf") && !quick() {
         for (i, &far) in f.far.iter().enumerate() {
@@ -257,11 +299,95 @@ fn over(a: Option<f64>, b: Option<f64>) -> String {
     shown(a.zip(b).map(|(a, b)| a / b))
 }
 
+// The closed mesh beside today's, both by the face, in this run.
+fn beside_the_mesh(measured: &[(usize, Took, Took)]) {
+    if measured.iter().all(|m| m.2[CLOSED].ms.is_none()) {
+        println!("the face has no closed mesh yet");
+        return;
+    }
+    println!("| rows | mesh, ms | gives | closed mesh, ms | gives | closed / mesh |");
+    println!("|---|---|---|---|---|---|");
+    for (rows, _, face) in measured {
+        let (mesh, closed) = (face[MESH], face[CLOSED]);
+        let ratio = over(closed.ms, mesh.ms);
+        println!("| {rows} | {} | {} triangles | {} | {} triangles | {ratio} |", shown(mesh.ms), mesh.gave, shown(closed.ms), closed.gave);
+    }
+}
+
+// A block of cells of which so many in a hundred are stored, under so many heads; so many in a hundred have weight 0, and so many of the rest are inside.
+struct Block {
+    name: &'static str,
+    stored: usize,
+    heads: usize,
+    weightless: usize,
+    inside: usize,
+}
+
+const fn block(name: &'static str, stored: usize, heads: usize, weightless: usize, inside: usize) -> Block {
+    Block { name, stored, heads, weightless, inside }
+}
+
+const BLOCKS: [Block; 8] = [
+    block("all cells, half of them inside", 100, 1, 0, 50),
+    block("80 in 100 cells, half of them inside", 80, 1, 0, 50),
+    block("60 in 100", 60, 1, 0, 50),
+    block("40 in 100", 40, 1, 0, 50),
+    block("20 in 100", 20, 1, 0, 50),
+    block("all cells, half of them of weight 0", 100, 1, 50, 50),
+    block("all cells, 5 in 100 inside", 100, 1, 0, 5),
+    block("all cells, under 64 heads, half inside", 100, 64, 0, 50),
+];
+
+// Exactly 65,536 rows of such a block: key, distance, weight.
+fn rows_of(b: &Block) -> Vec<(u64, f32, f32)> {
+    let mut r = Rng::new(1, b.name);
+    let mut rows = Vec::new();
+    for x in 0u16.. {
+        for y in 0..60 {
+            for z in 0..60 {
+                if (x + y) % 2 == 0 && (y + z) % 2 == 0 && r.below(100) < b.stored {
+                    let head = 0x8000 + r.below(b.heads) as u16;
+                    let weight = if r.below(100) < b.weightless { 0.0 } else { 1.0 };
+                    let distance = if r.below(100) < b.inside { -0.01 } else { 0.01 };
+                    rows.push((key_of(head, 1000 + x, 1000 + y, 1000 + z), distance, weight));
+                }
+            }
+        }
+        if rows.len() >= 65_536 {
+            break;
+        }
+    }
+    rows.truncate(65_536);
+    rows.sort_unstable_by_key(|row| row.0);
+    rows
+}
+
+// The closed mesh of odd fields, and of each once more with a place too few for its triangles.
+fn odd_fields() {
+    println!("| closed mesh of 65,536 rows | vertices | triangles | ms | ns a row, vertex or triangle | refused with 6, ms |");
+    println!("|---|---|---|---|---|---|");
+    let settings = Settings { truncation: 1.0, max_weight: 100.0, voxel_size: SIZE, max_distance: 0.0 };
+    let mut lists = lent();
+    let mut tell = |name: &str, rows: &[(u64, f32, f32)]| {
+        let (keys, distances, weights): (Vec<u64>, Vec<f32>, Vec<f32>) = (rows.iter().map(|r| r.0).collect(), rows.iter().map(|r| r.1).collect(), rows.iter().map(|r| r.2).collect());
+        let table = Table { keys: &keys, distances: &distances, weights: &weights, count: keys.len() };
+        let (ms, answer, edges, triangles) = closed_in(&mut lists, settings, table, LONGEST);
+        assert!(answer == 0 && triangles > 0, "{name}: answer {answer}");
+        let (refused, why, ..) = closed_in(&mut lists, settings, table, triangles - 1);
+        assert!(why == 6, "{name}: answer {why}");
+        let each = ms * 1e6 / (keys.len() + edges + triangles) as f64;
+        println!("| {name} | {edges} | {triangles} | {ms:.1} | {each:.0} | {refused:.1} |");
+    };
+    let (keys, distances) = rows_nearest(65_536);
+    tell("the last", &keys.into_iter().zip(distances).map(|(k, d)| (k, d, 1.0)).collect::<Vec<_>>());
+    BLOCKS.iter().for_each(|b| tell(b.name, &rows_of(b)));
+}
+
 fn main() {
     if !cfg!(rust) {
         println!("The Rust isn't at ../shared/docs/src beside this repository: only the C face is measured.");
     }
-    let measured: Vec<(usize, [Done; 7], [Done; 7])> = SIZES
+    let measured: Vec<(usize, Took, Took)> = SIZES
         .iter()
         .filter(|size| size.0 <= most())
         .map(|&(rows, cells)| {
@@ -278,7 +404,7 @@ fn main() {
             if i == ROOT && n > 0 || rust[i].ms.is_none() && face[i].ms.is_none() {
                 continue;
             }
-            let grows = |of: fn(&(usize, [Done; 7], [Done; 7])) -> &[Done; 7]| {
+            let grows = |of: fn(&(usize, Took, Took)) -> &Took| {
                 if n == 0 { "-".to_string() } else { over(of(&measured[n])[i].ms, of(&measured[n - 1])[i].ms) }
             };
             let gives = if i == ROOT { "-".to_string() } else { format!("{} {unit}", if face[i].ms.is_some() { face[i].gave } else { rust[i].gave }) };
@@ -286,5 +412,11 @@ fn main() {
             let (r, f) = (rust[i].ms, face[i].ms);
             println!("| {work} | {rows} | {gives} | {} | {} | {} | {} | {} |", shown(r), shown(f), over(f, r), grows(|m| &m.1), grows(|m| &m.2));
         }
+    }
+    println!();
+    beside_the_mesh(&measured);
+    if landed("akf_extract_closed_mesh") {
+        println!();
+        odd_fields();
     }
 }

@@ -2,7 +2,7 @@
 // The plain reading and the C face have the same shape, so that one way of asking serves both.
 use crate::case::{rubbish, Bits, Case, Outcome};
 use crate::plain;
-use crate::shape::{Lists, Marched, Places, Settings, Table, TableMut, Triangles};
+use crate::shape::{ClosedLists, Lists, Marched, Places, Settings, Table, TableMut, Triangles};
 
 // One side: a function for each declaration of the header, slices in the place of pointers and lengths.
 pub struct Side {
@@ -30,6 +30,7 @@ pub struct Side {
     pub get_voxels_within_distance: fn(Marched, f32, &mut [u64], &mut [f32], &mut usize) -> u32,
     pub esdf_stats: fn(Marched, &mut usize, &mut usize, &mut usize, &mut f32, &mut f32) -> u32,
     pub extract_mesh_from_tsdf: fn(Settings, Table, Lists, &mut usize, &mut usize) -> u32,
+    pub extract_closed_mesh: fn(Settings, Table, ClosedLists, &mut usize, &mut usize) -> u32,
     pub cell_edges: fn(&[u32], &[u64], &[u64], usize, u64, &mut usize, &mut usize),
     pub surface_area: fn(Places, Triangles, &mut f32) -> u32,
     pub bounding_box: fn(Places, &mut [[f32; 3]; 2]) -> u32,
@@ -64,6 +65,7 @@ macro_rules! reading {
             get_voxels_within_distance: $of::marched::get_voxels_within_distance,
             esdf_stats: $of::marched::esdf_stats,
             extract_mesh_from_tsdf: $of::mesh::extract_mesh_from_tsdf,
+            extract_closed_mesh: $of::closed::extract_closed_mesh,
             cell_edges: $of::mesh::cell_edges,
             surface_area: $of::mesh::surface_area,
             bounding_box: $of::mesh::bounding_box,
@@ -271,6 +273,36 @@ pub fn extract_mesh_from_tsdf(side: &Side, c: &Case) -> Outcome {
         .list("ny", &ny)
         .list("nz", &nz)
         .list("groups", &groups)
+        .list("t0", &t0)
+        .list("t1", &t1)
+        .list("t2", &t2)
+}
+
+pub fn extract_closed_mesh(side: &Side, c: &Case) -> Outcome {
+    let r = &c.rooms;
+    let (mut first, mut second) = (rubbish(r[0]), rubbish(r[1]));
+    let (mut px, mut py, mut pz) = (rubbish(r[2]), rubbish(r[3]), rubbish(r[4]));
+    let (mut nx, mut ny, mut nz) = (rubbish(r[5]), rubbish(r[6]), rubbish(r[7]));
+    let (mut t0, mut t1, mut t2) = (rubbish(r[8]), rubbish(r[9]), rubbish(r[10]));
+    let (mut edges, mut triangles) = (dirty(), dirty());
+    let lists = ClosedLists {
+        edges: [&mut first, &mut second],
+        places: [&mut px, &mut py, &mut pz],
+        normals: [&mut nx, &mut ny, &mut nz],
+        triangles: [&mut t0, &mut t1, &mut t2],
+    };
+    let a = (side.extract_closed_mesh)(c.settings(), c.table(), lists, &mut edges, &mut triangles);
+    Outcome::answer(a)
+        .number("edges", edges)
+        .number("triangles", triangles)
+        .list("first", &first)
+        .list("second", &second)
+        .list("px", &px)
+        .list("py", &py)
+        .list("pz", &pz)
+        .list("nx", &nx)
+        .list("ny", &ny)
+        .list("nz", &nz)
         .list("t0", &t0)
         .list("t1", &t1)
         .list("t2", &t2)

@@ -1,7 +1,7 @@
 // The C face, include/akfelzun.h: its declarations, and functions of the plain reading's shape over them. An empty list is
 // handed over as a null pointer, which the header allows.
 use crate::calls::Side;
-use crate::shape::{Lists, Marched, Places, Settings, Table, TableMut, Triangles};
+use crate::shape::{ClosedLists, Lists, Marched, Places, Settings, Table, TableMut, Triangles};
 use std::ptr::{null, null_mut};
 
 include!(concat!(env!("OUT_DIR"), "/landed.rs"));
@@ -286,6 +286,43 @@ extern "C" {
         edges: *mut usize,
         triangles: *mut usize,
     ) -> u32;
+    fn akf_extract_closed_mesh(
+        truncation: f32,
+        max_weight: f32,
+        voxel_size: f32,
+        max_distance: f32,
+        keys: *const u64,
+        keys_len: usize,
+        distances: *const f32,
+        distances_len: usize,
+        weights: *const f32,
+        weights_len: usize,
+        count: usize,
+        first: *mut u64,
+        first_len: usize,
+        second: *mut u64,
+        second_len: usize,
+        px: *mut f32,
+        px_len: usize,
+        py: *mut f32,
+        py_len: usize,
+        pz: *mut f32,
+        pz_len: usize,
+        nx: *mut f32,
+        nx_len: usize,
+        ny: *mut f32,
+        ny_len: usize,
+        nz: *mut f32,
+        nz_len: usize,
+        t0: *mut u32,
+        t0_len: usize,
+        t1: *mut u32,
+        t1_len: usize,
+        t2: *mut u32,
+        t2_len: usize,
+        edges: *mut usize,
+        triangles: *mut usize,
+    ) -> u32;
     fn akf_cell_edges(
         groups: *const u32,
         groups_len: usize,
@@ -543,6 +580,42 @@ fn extract_mesh_from_tsdf(s: Settings, t: Table, l: Lists, edges: &mut usize, tr
     )
 }
 
+fn extract_closed_mesh(s: Settings, t: Table, l: ClosedLists, edges: &mut usize, triangles: &mut usize) -> u32 {
+    let [first, second] = l.edges;
+    let [px, py, pz] = l.places;
+    let [nx, ny, nz] = l.normals;
+    let [t0, t1, t2] = l.triangles;
+    on_table!(
+        akf_extract_closed_mesh,
+        s,
+        t,
+        written(first),
+        first.len(),
+        written(second),
+        second.len(),
+        written(px),
+        px.len(),
+        written(py),
+        py.len(),
+        written(pz),
+        pz.len(),
+        written(nx),
+        nx.len(),
+        written(ny),
+        ny.len(),
+        written(nz),
+        nz.len(),
+        written(t0),
+        t0.len(),
+        written(t1),
+        t1.len(),
+        written(t2),
+        t2.len(),
+        edges,
+        triangles
+    )
+}
+
 fn cell_edges(groups: &[u32], first: &[u64], second: &[u64], edges: usize, cell: u64, start: &mut usize, length: &mut usize) {
     unsafe { akf_cell_edges(read(groups), groups.len(), read(first), first.len(), read(second), second.len(), edges, cell, start, length) }
 }
@@ -605,6 +678,7 @@ pub const FACE: Side = Side {
     get_voxels_within_distance,
     esdf_stats,
     extract_mesh_from_tsdf,
+    extract_closed_mesh,
     cell_edges,
     surface_area,
     bounding_box,

@@ -1,7 +1,8 @@
 // Large fields, where the plain reading's searches from the front would take hours: the C face beside the Rust alone, on a last of
-// about 60,000 rows. Its readings come ascending, shuffled, and in passes that come back to every cell.
+// about 60,000 rows. Its readings come ascending, shuffled, and in passes that come back to every cell. The Rust has no closed mesh: there the plain reading
+// is waited for, on a last of 16,384 rows.
 use crate::beside;
-use crate::calls::{self, Side};
+use crate::calls::{self, Side, PLAIN};
 use crate::case::{Case, Outcome};
 use crate::face::{FACE, LANDED};
 use crate::last;
@@ -10,7 +11,10 @@ use crate::table::{judge, Judged};
 type Large = (&'static str, &'static str, fn() -> Case, fn(&Side, &Case) -> Outcome, fn(&Case) -> Option<Outcome>);
 
 fn field() -> Case {
-    let (keys, distances) = last::rows(1.0, 4.6);
+    of_rows(last::rows(1.0, 4.6))
+}
+
+fn of_rows((keys, distances): (Vec<u64>, Vec<f32>)) -> Case {
     let weights = vec![1.0; keys.len()];
     let settings = [1.0, 100.0, last::SIZE, 23.5 * last::SIZE];
     let mut c = Case { settings, count: keys.len(), keys, distances, weights, ..Case::default() };
@@ -71,5 +75,20 @@ pub fn run() -> usize {
         };
         println!("{name:31} a last of 60,797 rows{}{how}: {said}", if how.is_empty() { "" } else { ", " });
     }
-    differ
+    differ + closed_mesh()
+}
+
+// The closed mesh beside the plain reading, which takes some seconds.
+fn closed_mesh() -> usize {
+    if !LANDED.contains(&"akf_extract_closed_mesh") {
+        return 0;
+    }
+    let case = rooms(of_rows(last::rows_nearest(16_384)), &[12_000, 12_000, 12_000, 12_000, 12_000, 12_000, 12_000, 12_000, 23_000, 23_000, 23_000]);
+    let plain = calls::extract_closed_mesh(&PLAIN, &case);
+    let said = match judge(&plain, &calls::extract_closed_mesh(&FACE, &case), false) {
+        Judged::Differs(what) => format!("differs: {what}"),
+        _ => "same".to_string(),
+    };
+    println!("the closed mesh of a last of 16,384 rows, {} vertices and {} triangles: {said}", plain.numbers[0].1, plain.numbers[1].1);
+    (said != "same") as usize
 }

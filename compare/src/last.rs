@@ -1,13 +1,31 @@
 // A synthetic last: lattice cells within the truncation of its surface, with their distances.
 use crate::plain::keys::key_of;
 use crate::rng::Rng;
+use std::f64::consts::PI;
 
 pub const SIZE: f32 = 0.001;
 pub const HEAD: u16 = 0x8000;
 
+// Between the middles of heel and toe, and the radii of both, in cells.
+fn measures(scale: f64) -> (f64, f64, f64) {
+    (150.0 * scale, 26.0 * scale, 17.0 * scale)
+}
+
+// From end to end, in cells.
+pub fn length(scale: f64) -> f64 {
+    let (length, heel, toe) = measures(scale);
+    heel + length + toe
+}
+
+// Of the body where the distance is below zero, in cells: discs from heel to toe, and half a ball at either end.
+pub fn volume(scale: f64) -> f64 {
+    let (length, heel, toe) = measures(scale);
+    PI * length * (heel * heel + heel * toe + toe * toe) / 3.0 + 2.0 / 3.0 * PI * (heel.powi(3) + toe.powi(3))
+}
+
 // The distance, in cells: a rounded cone from heel to toe, bent upwards at the toe.
 fn distance(at: [f64; 3], scale: f64) -> f64 {
-    let (length, heel, toe) = (150.0 * scale, 26.0 * scale, 17.0 * scale);
+    let (length, heel, toe) = measures(scale);
     let x = at[0].clamp(0.0, length);
     let along = x / length;
     let rise = 12.0 * scale * along * along;

@@ -1,6 +1,7 @@
 // Runs beside the Rust: the plain reading of document 01, the Rust with ordered tables, and the C face, over the same cases.
 pub mod calls;
 pub mod case;
+pub mod closing;
 pub mod face;
 pub mod inputs;
 pub mod last;

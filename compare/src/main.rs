@@ -85,7 +85,7 @@ fn run(c: &Compared, seed: u64, cases: usize, answers: &mut BTreeMap<u32, usize>
     (rust, face)
 }
 
-// Document 01's samples: how many do not hold.
+// The samples of documents 01 and 02: how many do not hold.
 fn samples() -> usize {
     let (mut face, mut failed) = (0, 0);
     for sample in SAMPLES {
@@ -98,7 +98,7 @@ fn samples() -> usize {
             }
         }
     }
-    println!("document 01's samples: {} by the plain reading, {face} by the C face, {failed} differ", SAMPLES.len());
+    println!("samples of documents 01 and 02: {} by the plain reading, {face} by the C face, {failed} differ", SAMPLES.len());
     failed
 }
 
@@ -190,6 +190,9 @@ fn misread(_: u64, _: usize, _: &[String]) -> ExitCode {
 
 fn main() -> ExitCode {
     let arguments: Vec<String> = std::env::args().skip(1).collect();
+    if arguments.first().is_some_and(|a| a == "closed") {
+        return ExitCode::from(!compare::closing::run() as u8);
+    }
     if !cfg!(rust) {
         println!("The Rust isn't at ../shared/docs/src beside this repository: nothing is compared.");
         return ExitCode::SUCCESS;

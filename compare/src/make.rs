@@ -2,7 +2,7 @@
 use crate::case::Case;
 use crate::plain::keys::{coords_of, head_of, key_of, neighbours, on_lattice};
 use crate::plain::table::{edges, near_surface, rows_ok, rows_of, settings_ok, lengths_ok};
-use crate::plain::{march, mesh, LISTS_LIMIT, ROWS_LIMIT};
+use crate::plain::{closed, march, mesh, LISTS_LIMIT, ROWS_LIMIT};
 use crate::rng::Rng;
 
 // Floats
@@ -564,7 +564,7 @@ pub fn for_stats(r: &mut Rng) -> Case {
     c
 }
 
-fn accepted(c: &Case) -> bool {
+pub fn accepted(c: &Case) -> bool {
     settings_ok(c.settings()) && lengths_ok(c.table()) && rows_ok(c.settings(), c.table())
 }
 
@@ -631,6 +631,173 @@ pub fn for_mesh(r: &mut Rng) -> Case {
     c.rooms.extend([rooms[1]; 6]);
     c.rooms.push(rooms[2]);
     c.rooms.extend([rooms[3]; 3]);
+    damaged(r, &mut c, &[spoil_table, spoil_rooms]);
+    c
+}
+
+// Bodies: fields that lie closed in their table, but for what a border, a hole or a weight of 0 takes away
+
+type Body = fn(&mut Rng) -> Box<dyn Fn([f32; 3]) -> f32>;
+
+fn length_to(at: [f32; 3], middle: [f32; 3]) -> f32 {
+    (0..3).map(|i| (at[i] - middle[i]) * (at[i] - middle[i])).sum::<f32>().sqrt()
+}
+
+// How many cells a place lies outside a ball, about the origin; a radius of 1 crosses the edges of a single cell.
+fn ball(r: &mut Rng) -> Box<dyn Fn([f32; 3]) -> f32> {
+    let middle = [0; 3].map(|_| r.pick(&[0.0, 0.5, 1.0, 0.3]));
+    let radius = r.pick(&[1.0, 1.5, 2.0, 2.5]);
+    Box::new(move |at| length_to(at, middle) - radius)
+}
+
+// Heel and toe.
+fn small_last(r: &mut Rng) -> Box<dyn Fn([f32; 3]) -> f32> {
+    let (heel, toe, length) = (r.pick(&[1.5, 2.0]), r.pick(&[1.0, 1.4]), r.pick(&[2.0, 3.0]));
+    Box::new(move |at| {
+        let x = at[0].clamp(0.0, length);
+        length_to(at, [x, 0.0, 0.0]) - (heel + (toe - heel) * x / length)
+    })
+}
+
+// Two balls, apart or touching.
+fn two_balls(r: &mut Rng) -> Box<dyn Fn([f32; 3]) -> f32> {
+    let far = r.pick(&[2.0, 2.5, 3.0]);
+    Box::new(move |at| (length_to(at, [0.0; 3]) - 1.2).min(length_to(at, [far, 1.0, 0.0]) - 1.2))
+}
+
+// Where a body's own origin stands: inside the box of coordinates, or so near to its border on one to three axes that a part falls off.
+fn stand(r: &mut Rng) -> [i64; 3] {
+    let bordering = r.pick(&[0, 0, 1, 2, 3]);
+    let first = r.below(3);
+    let mut at = [0; 3];
+    for n in 0..3 {
+        let axis = (first + n) % 3;
+        at[axis] = if n < bordering { r.pick(&[0, 1, 3, 65_532, 65_534, 65_535]) } else { r.pick(&[100, 1_023, 32_768]) };
+    }
+    at
+}
+
+// The lattice cells within some cells of a body's surface that lie in the box of coordinates, with their distances in cells.
+fn band(body: &dyn Fn([f32; 3]) -> f32, at: [i64; 3], within: f32) -> Vec<([u16; 3], f32)> {
+    let mut all = Vec::new();
+    for x in -6..=9i64 {
+        for y in -6..=6i64 {
+            for z in -6..=6i64 {
+                let cell = [at[0] + x, at[1] + y, at[2] + z];
+                let lattice = (cell[0] - cell[1]) % 2 == 0 && (cell[1] - cell[2]) % 2 == 0;
+                let d = body([x as f32, y as f32, z as f32]);
+                if lattice && d.abs() <= within && cell.iter().all(|c| (0..=65_535).contains(c)) {
+                    all.push((cell.map(|c| c as u16), d));
+                }
+            }
+        }
+    }
+    all
+}
+
+// The rows of a body: under one head, or some cells under another or under both.
+fn under_heads(r: &mut Rng, cells: &[([u16; 3], f32)]) -> Vec<(u64, f32)> {
+    let base = head(r);
+    let other = base ^ r.pick(&[1, 0x10, 0x1000]);
+    let several = r.one_in(6);
+    let mut rows = Vec::new();
+    for &([x, y, z], d) in cells {
+        let (mine, theirs) = if several { r.pick(&[(true, true), (true, false), (false, true)]) } else { (true, false) };
+        if mine {
+            rows.push((key_of(base, x, y, z), d));
+        }
+        if theirs {
+            rows.push((key_of(other, x, y, z), -d));
+        }
+    }
+    rows.sort_unstable_by_key(|row| row.0);
+    rows
+}
+
+// Takes rows away here and there, or none.
+fn with_holes(r: &mut Rng, rows: &mut Vec<(u64, f32)>) {
+    if r.one_in(3) {
+        let seldom = r.pick(&[60, 15, 4]);
+        rows.retain(|_| !r.one_in(seldom));
+    }
+}
+
+// Puts zeros of both signs, and values about 1e-6 and far below it, in the place of distances here and there, or none.
+fn with_zeros(r: &mut Rng, rows: &mut [(u64, f32)]) {
+    if r.one_in(3) {
+        let seldom = r.pick(&[20, 4, 2]);
+        for row in rows {
+            if r.one_in(seldom) {
+                row.1 = if r.one_in(4) { small_float(r) } else { r.pick(&[0.0, -0.0, 1e-30, -1e-30]) };
+            }
+        }
+    }
+}
+
+// Weights above 0, or here and there a 0 of either sign.
+fn body_weights(r: &mut Rng, n: usize, limit: f32) -> Vec<f32> {
+    let seldom = r.pick(&[0, 0, 40, 8]);
+    (0..n).map(|_| if seldom > 0 && r.one_in(seldom) { r.pick(&[0.0, -0.0]) } else { r.pick(&[limit, limit.min(1.0)]) }).collect()
+}
+
+fn body_table(r: &mut Rng) -> Case {
+    let mut c = Case { settings: settings(r), ..Case::default() };
+    let make: Body = r.pick(&[ball as Body, ball, small_last, two_balls]);
+    let body = make(r);
+    // 2.2 cells are enough to close; with fewer there are holes
+    let cells = band(&*body, stand(r), r.pick(&[2.2, 2.2, 2.5, 1.5]));
+    let mut rows = under_heads(r, &cells);
+    with_holes(r, &mut rows);
+    let size = c.settings[2];
+    rows.iter_mut().for_each(|row| row.1 *= size);
+    with_zeros(r, &mut rows);
+    (c.keys, c.distances) = rows.into_iter().unzip();
+    c.weights = body_weights(r, c.keys.len(), c.settings[1]);
+    c.count = c.keys.len();
+    c.key = asked_key(r, &c.keys);
+    let more = r.pick(&[0, 1, 5]);
+    tail(r, &mut c, more);
+    c
+}
+
+// Every cell of a box stored, with any sides.
+fn full_table(r: &mut Rng) -> Case {
+    let mut c = Case { settings: settings(r), ..Case::default() };
+    let extent = [r.pick(&[2, 3, 4, 5]), r.pick(&[2, 3, 4]), r.pick(&[2, 3, 4])];
+    let at = corner(r, &extent);
+    let mut cells = Vec::new();
+    for x in at[0]..=at[0] + extent[0] {
+        for y in at[1]..=at[1] + extent[1] {
+            for z in at[2]..=at[2] + extent[2] {
+                if (x - y) % 2 == 0 && (y - z) % 2 == 0 {
+                    cells.push(([x as u16, y as u16, z as u16], 0.0));
+                }
+            }
+        }
+    }
+    let rows = under_heads(r, &cells);
+    c.keys = rows.into_iter().map(|row| row.0).collect();
+    c.distances = distances(r, &c.keys.clone(), &c);
+    c.weights = body_weights(r, c.keys.len(), c.settings[1]);
+    c.count = c.keys.len();
+    c.key = asked_key(r, &c.keys);
+    c
+}
+
+// Rooms for edges, vertices and triangles: enough, or for one of the three around what is needed, most often exactly enough or one too few.
+pub fn for_closed_mesh(r: &mut Rng) -> Case {
+    let make = r.pick(&[table as fn(&mut Rng) -> Case, full_table, body_table, body_table]);
+    let mut c = make(r);
+    let m = closed::closed(c.settings(), &rows_of(c.table()));
+    let needed = [m.edges.len(), m.edges.len(), m.triangles.len()];
+    let mut rooms = needed.map(|n| n + r.below(3));
+    if r.one_in(3) {
+        let i = r.below(3);
+        rooms[i] = if r.one_in(2) { needed[i].saturating_sub(r.below(2)) } else { room(r, needed[i]) };
+    }
+    c.rooms = vec![rooms[0]; 2];
+    c.rooms.extend([rooms[1]; 6]);
+    c.rooms.extend([rooms[2]; 3]);
     damaged(r, &mut c, &[spoil_table, spoil_rooms]);
     c
 }

@@ -1,4 +1,4 @@
-// Document 01's "Samples at the edges", held against a side. Truncation 1, maximum weight 100, size 1, confidence and weight 1
+// Document 01's "Samples at the edges", and after them some of document 02's No. 14, held against a side. Truncation 1, maximum weight 100, size 1, confidence and weight 1
 // unless said.
 use crate::calls::{self, Side};
 use crate::case::{Case, Outcome};
@@ -57,6 +57,30 @@ fn meshed(side: &Side, c: &Case, triangles: usize) -> Outcome {
     let mut rooms = vec![64; 9];
     rooms.extend([triangles; 3]);
     calls::extract_mesh_from_tsdf(side, &Case { rooms, ..c.clone() })
+}
+
+// The tetrahedron of (10,10,10), (12,10,10), (11,11,11) and (11,11,9), which rises by keys in the order (11,11,9), (10,10,10), (11,11,11), (12,10,10),
+// with these distances in that order.
+fn tetrahedron(distances: [f32; 4]) -> Case {
+    let keys = [at(11, 11, 9), at(10, 10, 10), at(11, 11, 11), at(12, 10, 10)];
+    rows(&[0, 1, 2, 3].map(|i| (keys[i], distances[i])))
+}
+
+fn closed(side: &Side, c: &Case, triangles: usize) -> Outcome {
+    let mut rooms = vec![64; 8];
+    rooms.extend([triangles; 3]);
+    calls::extract_closed_mesh(side, &Case { rooms, ..c.clone() })
+}
+
+// Edges and triangles; none of either where the call is refused.
+fn closed_counts(side: &Side, c: &Case) -> [u64; 2] {
+    let o = closed(side, c, 64);
+    [o.numbers[0].1, o.numbers[1].1]
+}
+
+// The vertex numbers of a triangle.
+fn triangle(o: &Outcome, i: usize) -> [u64; 3] {
+    [8, 9, 10].map(|l: usize| o.lists[l].1[i])
 }
 
 fn snap(side: &Side, at: [i32; 3]) -> [i32; 3] {
@@ -175,6 +199,56 @@ pub const SAMPLES: &[Sample] = &[
                 && m.numbers.iter().chain(&march.numbers).all(|n| n.1 == 0)
                 && march.answer == Some(DONE)
                 && calls::bounding_box(s, &empty()).answer == Some(ABSENT)
+        },
+    },
+    Sample {
+        what: "a tetrahedron with one corner inside, or one outside: 3 edges, a triangle of vertices 0, 1, 2",
+        calls: &["akf_extract_closed_mesh"],
+        holds: |s| {
+            [[-0.5, 0.5, 0.5, 0.5], [0.5, 0.5, -0.5, 0.5], [-0.5, 0.5, -0.5, -0.5]].into_iter().all(|d| {
+                let c = tetrahedron(d);
+                closed_counts(s, &c) == [3, 1] && triangle(&closed(s, &c, 1), 0) == [0, 1, 2]
+            })
+        },
+    },
+    Sample {
+        what: "two corners inside: 4 edges, triangles (1, 0, 3) and (1, 3, 2); room for one refuses with 6",
+        calls: &["akf_extract_closed_mesh"],
+        holds: |s| {
+            let c = tetrahedron([-0.5, -0.5, 0.5, 0.5]);
+            let m = closed(s, &c, 2);
+            closed_counts(s, &c) == [4, 2] && triangle(&m, 0) == [1, 0, 3] && triangle(&m, 1) == [1, 3, 2] && closed(s, &c, 1).answer == Some(6)
+        },
+    },
+    Sample {
+        what: "zeros of both signs are outside; a crossing by 1e-30 counts, its vertex in the middle",
+        calls: &["akf_extract_closed_mesh"],
+        holds: |s| {
+            let tiny = closed(s, &tetrahedron([1e-30, -1e-30, 1e-30, 1e-30]), 1);
+            closed_counts(s, &tetrahedron([0.0, -0.0, 0.0, 0.5])) == [0, 0]
+                && closed_counts(s, &tetrahedron([-0.0, -0.5, 0.0, -0.0])) == [3, 1]
+                && tiny.numbers[0].1 == 3
+                // between (10,10,10) and (11,11,11), the first neighbour: second in the list, after (11,11,9) and (10,10,10)
+                && (2..5).all(|l| tiny.lists[l].1[1] == 0x4128_0000)
+        },
+    },
+    Sample {
+        what: "a corner of weight 0, and one that is missing, leave no tetrahedron and no vertex",
+        calls: &["akf_extract_closed_mesh"],
+        holds: |s| {
+            let mut light = tetrahedron([-0.5, 0.5, 0.5, 0.5]);
+            light.weights[3] = 0.0;
+            let mut fewer = tetrahedron([-0.5, 0.5, 0.5, 0.5]);
+            fewer.count = 3;
+            closed_counts(s, &light) == [0, 0] && closed_counts(s, &fewer) == [0, 0]
+        },
+    },
+    Sample {
+        what: "a centre with all 14 neighbours on the other side: 14 edges, 24 triangles; room 23 refuses with 6",
+        calls: &["akf_extract_closed_mesh"],
+        holds: |s| {
+            let refused = closed(s, &surrounded(), 23);
+            closed_counts(s, &surrounded()) == [14, 24] && refused.answer == Some(6) && refused.numbers.iter().all(|n| n.1 == 0)
         },
     },
 ];

@@ -46,6 +46,14 @@ pub struct Lists<'a> {
     pub triangles: [&'a mut [u32]; 3],
 }
 
+// The eleven lists of a closed mesh, lent.
+pub struct ClosedLists<'a> {
+    pub edges: [&'a mut [u64]; 2],
+    pub places: [&'a mut [f32]; 3],
+    pub normals: [&'a mut [f32]; 3],
+    pub triangles: [&'a mut [u32]; 3],
+}
+
 // Three lists of vertices' places or normals.
 #[derive(Clone, Copy)]
 pub struct Places<'a> {

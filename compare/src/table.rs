@@ -64,6 +64,8 @@ pub const COMPARED: &[Compared] = &[
     beside!(get_voxels_within_distance, for_within),
     beside!(esdf_stats, for_marched_stats),
     beside!(extract_mesh_from_tsdf, for_mesh),
+    // the Rust has no closed mesh: the plain reading is the judge
+    alone!(1, extract_closed_mesh, for_closed_mesh),
     // the Rust has no list of groups
     alone!(1, cell_edges, for_groups),
     beside!(surface_area, for_shape),

@@ -61,13 +61,19 @@ fn normal(rows: &[Row], at: Row, size: f32) -> [f32; 3] {
     }
 }
 
-pub fn mesh(s: Settings, rows: &[Row]) -> Mesh {
-    let edges = edges(rows);
+// Vertex i comes from edge i.
+pub fn vertices_on(s: Settings, rows: &[Row], edges: &[(u64, u64)]) -> Vec<Vertex> {
     let mut vertices = Vec::new();
-    for &(k1, k2) in &edges {
+    for &(k1, k2) in edges {
         let (a, b) = (find(rows, k1).unwrap(), find(rows, k2).unwrap());
         vertices.push(Vertex { place: crossing(a, b, s.voxel_size), normal: normal(rows, a, s.voxel_size) });
     }
+    vertices
+}
+
+pub fn mesh(s: Settings, rows: &[Row]) -> Mesh {
+    let edges = edges(rows);
+    let vertices = vertices_on(s, rows, &edges);
     let (mut groups, mut triangles) = (Vec::new(), Vec::new());
     for row in rows {
         let of: Vec<u32> = (0..edges.len() as u32).filter(|&i| edges[i as usize].0 == row.key || edges[i as usize].1 == row.key).collect();

@@ -1,6 +1,7 @@
 // A plain reading of document 01, written from its text alone: lists are searched from the front and everything is worked out
 // by the sentence that asks for it. It judges what the Rust does not settle: refusals, rooms, and every place of every lent list.
 // The functions `pub fn` of this module's files that `calls.rs` names take what the C face takes, slices for pointers and lengths.
+pub mod closed;
 pub mod fuse;
 pub mod keys;
 pub mod march;
