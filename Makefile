@@ -1,5 +1,5 @@
 # make test   everything that .ci/run does: every proof, must-fail edit and program, then the quick runs
-# make demo   the main job on a small example: the sole of a last, meshed by lastcheck
+# make demo   the main job on small examples: the sole of a last, meshed by lastcheck; a last that closes, drawn in build/last.png
 # make bench  figures of speed, measured on this machine
 # make lib    build/libakfelzun.a, for x86-64, and build/akfelzun.h, for a plug-in to link
 # make examples  the two hosts and the test of bad input, on this machine
@@ -10,11 +10,12 @@
 test:
 	@.ci/run
 
-# the runs that take seconds: the tools on made-up inputs, the root against the processor's, each call beside the Rust, the hosts, the program on its inputs
+# the runs that take seconds: the tools on made-up inputs, the root against the processor's, each call beside the Rust, what closes, the hosts, the program on its inputs
 quick:
 	@tests/tools/run
 	@bench/root/run quick
 	@compare/run short
+	@compare/run closed
 	@examples/run
 	@tests/lastcheck/run
 
@@ -26,6 +27,7 @@ examples:
 
 demo:
 	@demo/last
+	@demo/closed
 
 seed = 1
 cases = 100000
