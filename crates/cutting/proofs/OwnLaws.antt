@@ -1,5 +1,5 @@
 -- On an accepted table a row's higher neighbours with their sides are the definition's, so what is cut at a row is; and in two lists that hold the
--- closed edges an edge is found by halves.
+-- closed edges each is found.
 -- Assumes nothing.
 use Prim.Native.Nat.{ℕ, suc, _+_, _<_, _≤_}
 use native.Mathlib.Numerals.{add-one}

@@ -1,4 +1,4 @@
--- Looking up a weight: what the search by halves finds, by cases.
+-- Looking up a weight: what the search finds, by cases.
 -- Assumes nothing.
 use mathlib.Core.Path.{_≡_}
 use mathlib.Core.Bool.{false}
