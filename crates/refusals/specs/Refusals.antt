@@ -1,7 +1,7 @@
--- The numbers of answers: document 01's of the refusals, and the header's of Absent.
+-- The numbers of answers: documents 01's and 02's of the refusals, and the header's of Absent.
 use Prim.Native.Nat.{ℕ}
 use Rattle.refusals.specs.declared.Refusal.{Refusal}
-use Rattle.refusals.specs.declared.Refusal.the-variants.{Setting, Lengths, BadRow, OffLattice, BadReading, NoPlace, TooLarge, NoWaitingPlace, OutOfRange, BadVertex}
+use Rattle.refusals.specs.declared.Refusal.the-variants.{Setting, Lengths, BadRow, OffLattice, BadReading, NoPlace, TooLarge, NoWaitingPlace, OutOfRange, BadVertex, BadLength}
 
 -- the number of a refusal
 abbrev pub numberOf : Refusal → ℕ
@@ -15,6 +15,7 @@ numberOf TooLarge = 7
 numberOf NoWaitingPlace = 8
 numberOf OutOfRange = 9
 numberOf BadVertex = 10
+numberOf BadLength = 11
 
 -- the number of Absent, which is no refusal: a key that is not stored, no gradient, no box
 abbrev pub absentNumber : ℕ

@@ -1,4 +1,4 @@
-// Why a call refuses: document 01, "Refusal numbers".
+// Why a call refuses: document 01, "Refusal numbers", and document 02's additions.
 ghost use mathlib.Core.Path.{_≡_};
 ghost use Rattle.refusals.specs.Refusals.{numberOf};
 
@@ -23,6 +23,8 @@ pub enum Refusal {
     OutOfRange,
     // 10: an area or box vertex is not taken, or a triangle names no vertex
     BadVertex,
+    // 11: a file's length is not that of a binary STL (document 02, No. 1)
+    BadLength,
 }
 
 // The refusal's number.
@@ -40,5 +42,6 @@ pub fn number(refusal: Refusal) -> u32
         Refusal::NoWaitingPlace => 8,
         Refusal::OutOfRange => 9,
         Refusal::BadVertex => 10,
+        Refusal::BadLength => 11,
     }
 }
