@@ -124,7 +124,7 @@ module _ (o : Surface) (s : Settings) (ks : List ℕ) (ds ws : List Float) (cnt 
   own-edges = surfaceEdges o own
 
   module _ (pass : meshCheck s own r ≡ Passed) where
-    tests : (settingsOk s ≡ true) × (roomsOk r ≡ true) × (tableCheck s own ≡ Passed)
+    pub tests : (settingsOk s ≡ true) × (roomsOk r ≡ true) × (tableCheck s own ≡ Passed)
     unfolding meshCheck
     tests =
         let a = need-passed (settingsOk s) Setting (need (roomsOk r) Lengths (tableCheck s own)) pass in

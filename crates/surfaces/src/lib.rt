@@ -77,7 +77,7 @@ fn area_between(v0: Vertex, v1: Vertex, v2: Vertex) -> f32
 }
 
 // The vertex at a place.
-fn vertex_at(px: &[f32], py: &[f32], pz: &[f32], i: usize) -> Vertex
+pub fn vertex_at(px: &[f32], py: &[f32], pz: &[f32], i: usize) -> Vertex
     requires { ⌜ (i < length (now px)) × (i < length (now py)) × (i < length (now pz)) ⌝ }
     ensures { λ r. ⌜ r ≡ vertex (getD (now (px .entry)) i nan) (getD (now (py .entry)) i nan) (getD (now (pz .entry)) i nan) ⌝ }
 {

@@ -1,0 +1,232 @@
+-- A mesh call leaves lists that area, box and STL take: each set fits its room, vertices of an accepted table are in range, and triangles name its edges.
+-- Assumes nothing.
+use Prim.Native.Nat.{ℕ, _+_, _-_, _*_, _<_, _≤_}
+use native.Mathlib.Omega.{arith}
+use mathlib.Core.Path.{_≡_, refl, sym, ap, _∙_}
+use mathlib.Core.Bool.{Bool, true, _&&_}
+use mathlib.Core.List.{List, [], _∷_, _++_, map, map-id, List·Memᴰ·head, List·Memᴰ·tail}
+use lib.Dec.{eqb, leb, ltb}
+use lib.Ieee.{Float}
+use lib.ListN.{length, take, replicate, length-map}
+use borrow.Author.Tests.{eqb-true, eq-eqb, leb-true, le-leb, lt-ltb}
+use Rattle.floats.specs.Floats.{zero32, thousand, million, isFinite, positiveTo}
+use Rattle.lists.specs.Lists.{_∈_}
+use Rattle.lists.specs.Listing.{roomFor}
+use Rattle.lists.specs.Padding.{padded}
+use Rattle.lists.specs.Threes.{Three}
+use Rattle.lists.proofs.Bools.{and-first, and-second, and-eq}
+use Rattle.lists.proofs.PaddingLaws.{padded-length}
+use Rattle.search.specs.Keys.{ascending}
+use Rattle.table.specs.Table.{Table, table, rows, settingsOk, tableCheck}
+use Rattle.table.specs.Rows.{keysOf}
+use Rattle.table.specs.declared.Settings.{Settings}
+use Rattle.table.specs.declared.Checked.the-variants.{Passed}
+use Rattle.table.proofs.Checking.{sound}
+use Rattle.edges.specs.Edges.{Edge}
+use Rattle.edges.specs.Listing.{firsts, seconds, outputsOk}
+use Rattle.edges.specs.declared.Surface.{Surface}
+use Rattle.edges.specs.declared.Surface.the-variants.{Open, Closed}
+use Rattle.slopes.specs.declared.Vertex.{Vertex}
+use Rattle.slopes.specs.Stored.{orZero}
+use Rattle.vertices.specs.StoredRows.{distanceIn}
+use Rattle.vertices.proofs.TableLaws.{stored-finite, vertices-of-edges}
+use Rattle.triangles.proofs.Demand3.{zero-crossing-triangles}
+use Rattle.tetrahedra.specs.Closing.{names}
+use Rattle.tetrahedra.proofs.Corners.{or-first-true, or-second-true}
+use Rattle.tetrahedra.proofs.ClosingLaws.{side-small}
+use Rattle.corners.specs.Corners.{setOk, beside, every, vertex, verticesIn, vertexOk, triangle, trianglesIn, triangleOk}
+use Rattle.surfaces.specs.declared.Area.the-variants.{Square}
+use Rattle.surfaces.specs.Areas.{areaFrom, areaAnswer}
+use Rattle.surfaces.specs.Boxes.{boxOf, boxAnswer}
+use Rattle.surfaces.proofs.Roots.{mesh-ok}
+use Rattle.stl.specs.Calls.{exportAnswer}
+use Rattle.mesh.specs.declared.Rooms.{Rooms}
+use Rattle.mesh.specs.declared.Meshed.{Meshed}
+use Rattle.mesh.specs.declared.Meshed.the-variants.{Done}
+use Rattle.mesh.specs.Mesh.{surfaceEdges, verticesOn, groupsOn, trianglesOn, roomsOk, meshCheck, haveRoomOn, meshAnswerOn, heldIn, IsMeshOn}
+use Rattle.mesh.proofs.OpenLaws.{rise}
+use Rattle.mesh.proofs.MeshLaws.{tests, fit}
+use Rattle.mesh.proofs.Calls.{done-on}
+
+-- ---- lists by their elements
+
+-- what each of a list gives passes a test, where it does of every one that stands there
+every-of :
+    {A B : Type 0} (test : B → Bool) (f : A → B) (l : List A)
+    → ((x : A) → x ∈ l → test (f x) ≡ true)
+    → every test (map f l) ≡ true
+unfolding every
+every-of test f [] h = refl
+every-of test f (x ∷ xs) h = and-eq (h x (List·Memᴰ·head refl)) (every-of test f xs (λ y m. h y (List·Memᴰ·tail m)))
+
+-- ---- three columns side by side
+
+module _ {A B C : Type 0} (make : A → A → A → B) (f g h : C → A) where
+  -- the columns of a list, whatever follows them, give back what is made of each three
+  columns-back :
+      (cs : List C) (xs ys zs : List A)
+      → take (length cs) (beside make (map f cs ++ xs) (map g cs ++ ys) (map h cs ++ zs)) ≡ map (λ (x : C). make (f x) (g x) (h x)) cs
+  unfolding beside
+  columns-back [] xs ys zs = refl
+  columns-back (c ∷ cs) xs ys zs = ap {B = List B} (λ r. make (f c) (g c) (h c) ∷ r) (columns-back cs xs ys zs)
+
+  -- three lists of an answer that is a mesh: each column in its own room, and v after it
+  module _ (w : Meshed) (i j : ℕ) (done : w ≡ Done i j) (v : A) (a b c : ℕ) (cs : List C) (n : ℕ) (count : n ≡ length cs) (xs ys zs : List A)
+      (first : xs ≡ heldIn v w a (map f cs)) (second : ys ≡ heldIn v w b (map g cs)) (third : zs ≡ heldIn v w c (map h cs)) where
+    read-back : take n (beside make xs ys zs) ≡ map (λ (x : C). make (f x) (g x) (h x)) cs
+    unfolding heldIn padded
+    read-back =
+        rw (first, second, third, done, count)
+        (columns-back cs (replicate (a - length (map f cs)) v) (replicate (b - length (map g cs)) v) (replicate (c - length (map h cs)) v))
+
+    -- a list is as long as its room
+    fills : (room : ℕ) (column : C → A) (l : List A) → l ≡ heldIn v w room (map column cs) → length cs ≤ room → length l ≡ room
+    unfolding heldIn
+    fills room column l held fits = rw (held, done) (padded-length v room (map column cs) (omega (arith, length-map cs column)))
+
+    -- rooms that a mesh takes are a set that area and box take
+    set-taken : eqb a b && eqb a c ≡ true → leb a 1048576 ≡ true → length cs ≤ a → setOk (length xs) (length ys) (length zs) n ≡ true
+    set-taken same few fits =
+        let same-second = and-first (eqb a b) _ same in
+        let same-third = and-second (eqb a b) _ same in
+        let x = fills a f xs first fits in
+        let y = fills b g ys second (omega (arith, eqb-true a b same-second)) in
+        let z = fills c h zs third (omega (arith, eqb-true a c same-third)) in
+        rw (x, y, z) (and-eq same-second (and-eq same-third (and-eq few (le-leb n a (omega (arith, count))))))
+
+    -- both at once, since vertices and triangles each need both
+    columns-taken :
+        eqb a b && eqb a c ≡ true
+        → leb a 1048576 ≡ true
+        → length cs ≤ a
+        → (take n (beside make xs ys zs) ≡ map (λ (x : C). make (f x) (g x) (h x)) cs) × (setOk (length xs) (length ys) (length zs) n ≡ true)
+    columns-taken same few fits = (read-back, set-taken same few fits)
+
+-- ---- a triangle of either surface names edges
+
+module _ (t : Table) (up : ascending (keysOf (rows t)) ≡ true) where
+  -- demand 3 says it of document 01's surface, the closing of the other
+  edges-named : (o : Surface) (x : Three ℕ) → x ∈ trianglesOn o t →
+      (x .a < length (surfaceEdges o t)) × (x .b < length (surfaceEdges o t)) × (x .c < length (surfaceEdges o t))
+  unfolding names
+  edges-named Open x m =
+      let w = zero-crossing-triangles (rows t) up .only x m .1 in
+      (w .a-ends .numbered, w .b-ends .numbered, w .c-ends .numbered)
+  edges-named Closed x m = (
+    side-small (rows t) up x m (x .a) (or-first-true (eqb (x .a) (x .a)) _ (eq-eqb (x .a) (x .a) refl)),
+    side-small (rows t) up x m (x .b) (or-second-true (eqb (x .a) (x .b)) _ (or-first-true (eqb (x .b) (x .b)) _ (eq-eqb (x .b) (x .b) refl))),
+    side-small (rows t) up x m (x .c) (or-second-true (eqb (x .a) (x .c)) _ (or-second-true (eqb (x .b) (x .c)) _ (eq-eqb (x .c) (x .c) refl))),
+  )
+
+-- ---- of any surface
+
+module _ (o : Surface) (s : Settings) (ks : List ℕ) (ds ws : List Float) (cnt : ℕ) (r : Rooms) where
+  abbrev t : Table
+  t = table ks ds ws cnt
+
+  abbrev es : List Edge
+  es = surfaceEdges o t
+
+  -- ---- the lists as a mesh call leaves them
+
+  module _ (a : Meshed) (as' bs : List ℕ) (xs ys zs us vs ws' : List Float) (gs is js ls : List ℕ)
+      (m : IsMeshOn o s t r a as' bs xs ys zs us vs ws' gs is js ls) (i j : ℕ) (e : a ≡ Done i j) where
+    answered : meshAnswerOn o s t r ≡ Done i j
+    answered = sym (m .answer) ∙ e
+
+    known : (meshCheck s t r ≡ Passed) × (haveRoomOn o t r ≡ true) × (i ≡ length es) × (j ≡ length (trianglesOn o t))
+    known = done-on o s t r i j answered
+
+    -- ---- what the tests told
+
+    told : (settingsOk s ≡ true) × (roomsOk r ≡ true) × (tableCheck s t ≡ Passed)
+    told = tests o s ks ds ws cnt r (known .0)
+
+    up : ascending (keysOf (rows t)) ≡ true
+    up = rise s ks ds ws cnt (r .first) (r .second) _ (fit o s ks ds ws cnt r (known .0))
+
+    -- the voxel size is in range, and what is stored is finite
+    size-ok : positiveTo thousand (s .«voxel_size» .0) ≡ true
+    size-ok =
+        and-first _ _ (and-second (positiveTo million (s .«max_weight»)) _ (and-second (positiveTo thousand (s .truncation .0)) _ (told .0)))
+
+    finite : (key : ℕ) → isFinite (orZero (distanceIn (rows t) key)) ≡ true
+    finite = stored-finite (s .«max_weight») (rows t) (sound s t (told .2) .ranges)
+
+    -- ---- the vertices
+
+    abbrev places : List Vertex
+    places = verticesOn o s t
+
+    place-count : i ≡ length places
+    place-count = known .2 ∙ sym (length-map es _)
+
+    vertices-taken : (verticesIn xs ys zs i ≡ map (λ (v : Vertex). v) places) × (setOk (length xs) (length ys) (length zs) i ≡ true)
+    vertices-taken =
+        let six = and-first _ _ (and-second (outputsOk (r .first) (r .second)) _ (told .1)) in
+        let room = leb-true (length es) (r .px) (and-first _ _ (and-second (leb (length es) (r .first)) _ (known .1))) in
+        columns-taken vertex (λ (v : Vertex). v .x .0) (λ (v : Vertex). v .y .0) (λ (v : Vertex). v .z .0) (meshAnswerOn o s t r) i j answered zero32
+        (r .px) (r .py) (r .pz) places i place-count xs ys zs (m .px) (m .py) (m .pz)
+        (and-first _ _ (and-first _ _ six))
+        (and-second ((eqb (r .px) (r .py) && eqb (r .px) (r .pz)) && (eqb (r .px) (r .nx) && (eqb (r .px) (r .ny) && eqb (r .px) (r .nz)))) _ six)
+        (omega (arith, place-count, known .2))
+
+    -- Read back from the three lists by the count handed back, the vertices are the surface's.
+    pub mesh-vertices-held : verticesIn xs ys zs i ≡ verticesOn o s t
+    mesh-vertices-held = vertices-taken .0 ∙ map-id places
+
+    vertices-pass : every vertexOk (verticesIn xs ys zs i) ≡ true
+    vertices-pass =
+        ap (every vertexOk) (mesh-vertices-held ∙ sym (vertices-of-edges (distanceIn (rows t)) (s .«voxel_size» .0) es))
+        ∙ mesh-ok (s .«voxel_size» .0) size-ok (distanceIn (rows t)) finite (firsts es) (seconds es)
+
+    -- ---- the triangles
+
+    triangles-taken : (trianglesIn is js ls j ≡ map (λ (x : Three ℕ). triangle (x .a) (x .b) (x .c)) (trianglesOn o t))
+        × (setOk (length is) (length js) (length ls) j ≡ true)
+    triangles-taken =
+        let three = and-second (leb (r .groups) 1048576) _ (fit o s ks ds ws cnt r (known .0) .rest) in
+        let room =
+        leb-true (length (trianglesOn o t)) (r .t0)
+        (and-second (leb (length (groupsOn o t)) (r .groups)) _
+        (and-second (leb (length es) (r .px)) _ (and-second (leb (length es) (r .first)) _ (known .1)))) in
+        columns-taken triangle (λ (x : Three ℕ). x .a) (λ (x : Three ℕ). x .b) (λ (x : Three ℕ). x .c) (meshAnswerOn o s t r) i j answered 0
+        (r .t0) (r .t1) (r .t2) (trianglesOn o t) j (known .3) is js ls (m .t0) (m .t1) (m .t2)
+        (and-first _ _ three) (and-second (eqb (r .t0) (r .t1) && eqb (r .t0) (r .t2)) _ three) room
+
+    -- So are the triangles.
+    pub mesh-triangles-held : trianglesIn is js ls j ≡ map (λ (x : Three ℕ). triangle (x .a) (x .b) (x .c)) (trianglesOn o t)
+    mesh-triangles-held = triangles-taken .0
+
+    triangles-pass : every (triangleOk i) (trianglesIn is js ls j) ≡ true
+    triangles-pass =
+        ap (every (triangleOk i)) mesh-triangles-held
+        ∙ every-of (triangleOk i) (λ (x : Three ℕ). triangle (x .a) (x .b) (x .c)) (trianglesOn o t)
+        (λ x l.
+        let n = edges-named t up o x l in
+        let below : (k : ℕ) → k < length es → ltb k i ≡ true = λ k h. lt-ltb k i (omega (arith, known .2)) in
+        and-eq (below (x .a) (n .0)) (and-eq (below (x .b) (n .1)) (below (x .c) (n .2))))
+
+    -- ---- area and box take them
+
+    -- The lengths pass: never a 2.
+    pub mesh-lengths-pass : setOk (length xs) (length ys) (length zs) i && setOk (length is) (length js) (length ls) j ≡ true
+    mesh-lengths-pass = and-eq (vertices-taken .1) (triangles-taken .1)
+
+    -- The vertices and the triangles pass: never a 10.
+    pub mesh-passes : every vertexOk (verticesIn xs ys zs i) && every (triangleOk i) (trianglesIn is js ls j) ≡ true
+    mesh-passes = and-eq vertices-pass triangles-pass
+
+    -- So the area is answered, and the box.
+    pub mesh-area : areaAnswer xs ys zs i is js ls j ≡ Square (areaFrom (verticesIn xs ys zs i) zero32 (trianglesIn is js ls j))
+    unfolding areaAnswer
+    mesh-area = rw (mesh-lengths-pass, mesh-passes)
+
+    pub mesh-box : boxAnswer xs ys zs i ≡ boxOf (verticesIn xs ys zs i)
+    unfolding boxAnswer
+    mesh-box = rw (vertices-taken .1, vertices-pass)
+
+    -- And the mesh is written as a file, or refused for room alone.
+    pub mesh-written : (room : ℕ) → room ≤ 52428884 → exportAnswer xs ys zs i is js ls j room ≡ roomFor (84 + 50 * j) room
+    unfolding exportAnswer
+    mesh-written room h = rw (vertices-taken .1, triangles-taken .1, le-leb room 52428884 h, mesh-passes)

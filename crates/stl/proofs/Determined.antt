@@ -1,0 +1,20 @@
+-- Every public contract settles its outcome: two that meet it are equal, in the answer and in every lent place.
+-- Assumes nothing.
+use mathlib.Core.Path.{_≡_, sym, _∙_}
+use denote.Ref.{now}
+use Rattle.stl.proofs.export_mesh_stl.Reads as export_mesh_stl
+use Rattle.stl.proofs.import_mesh_stl.Reads as import_mesh_stl
+
+pub export-mesh-stl-determined :
+    (κs : _) (a : _) (r r' : _) (s s' : _)
+    → export_mesh_stl.Post κs a r s
+    → export_mesh_stl.Post κs a r' s'
+    → (r ≡ r') × (now (s .1 .1 .1 .1 .1 .1 .1 .1 .0) ≡ now (s' .1 .1 .1 .1 .1 .1 .1 .1 .0))
+export-mesh-stl-determined κs a r r' s s' p q = (p .0 ∙ sym (q .0), p .1 ∙ sym (q .1))
+
+pub import-mesh-stl-determined :
+    (κs : _) (a : _) (r r' : _) (s s' : _)
+    → import_mesh_stl.Post κs a r s
+    → import_mesh_stl.Post κs a r' s'
+    → (r ≡ r') × (now (s .1 .0) ≡ now (s' .1 .0)) × (now (s .1 .1 .0) ≡ now (s' .1 .1 .0)) × (now (s .1 .1 .1 .0) ≡ now (s' .1 .1 .1 .0))
+import-mesh-stl-determined κs a r r' s s' p q = (p .0 ∙ sym (q .0), p .1 .0 ∙ sym (q .1 .0), p .1 .1 .0 ∙ sym (q .1 .1 .0), p .1 .1 .1 ∙ sym (q .1 .1 .1))
