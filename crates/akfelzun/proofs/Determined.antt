@@ -32,6 +32,8 @@ use Rattle.akfelzun.proofs.meshing.akf_cell_edges.Reads as akf_cell_edg
 use Rattle.akfelzun.proofs.meshing.akf_surface_area.Reads as akf_surface_area
 use Rattle.akfelzun.proofs.meshing.akf_bounding_box.Reads as akf_bounding_box
 use Rattle.akfelzun.proofs.meshing.akf_mesh_stats.Reads as akf_mesh_stats
+use Rattle.akfelzun.proofs.files.akf_export_mesh_stl.Reads as akf_export_mesh_stl
+use Rattle.akfelzun.proofs.files.akf_import_mesh_stl.Reads as akf_import_mesh_stl
 
 pub akf-index64-new-determined :
     (κs : _) (a : _) (r r' : _) (s s' : _)
@@ -403,3 +405,27 @@ pub akf-mesh-stats-determined :
     → akf_mesh_stats.Post κs a r' s'
     → (r ≡ r') × (now (s .1 .1 .1 .1 .0) ≡ now (s' .1 .1 .1 .1 .0))
 akf-mesh-stats-determined κs a r r' s s' p q = (p .0 ∙ sym (q .0), p .1 ∙ sym (q .1))
+
+pub akf-export-mesh-stl-determined :
+    (κs : _) (a : _) (r r' : _) (s s' : _)
+    → akf_export_mesh_stl.Post κs a r s
+    → akf_export_mesh_stl.Post κs a r' s'
+    → (r ≡ r') × (now (s .1 .1 .1 .1 .1 .1 .1 .1 .0) ≡ now (s' .1 .1 .1 .1 .1 .1 .1 .1 .0)) × (now (s .1 .1 .1 .1 .1 .1 .1 .1 .1 .0) ≡ now (s' .1 .1 .1 .1 .1 .1 .1 .1 .1 .0))
+akf-export-mesh-stl-determined κs a r r' s s' p q = (p .0 ∙ sym (q .0), p .1 .0 ∙ sym (q .1 .0), p .1 .1 ∙ sym (q .1 .1))
+
+pub akf-import-mesh-stl-determined :
+    (κs : _) (a : _) (r r' : _) (s s' : _)
+    → akf_import_mesh_stl.Post κs a r s
+    → akf_import_mesh_stl.Post κs a r' s'
+    → (r ≡ r')
+    × (now (s .1 .0) ≡ now (s' .1 .0))
+    × (now (s .1 .1 .0) ≡ now (s' .1 .1 .0))
+    × (now (s .1 .1 .1 .0) ≡ now (s' .1 .1 .1 .0))
+    × (now (s .1 .1 .1 .1 .0) ≡ now (s' .1 .1 .1 .1 .0))
+akf-import-mesh-stl-determined κs a r r' s s' p q = (
+  p .0 ∙ sym (q .0),
+  p .1 .0 ∙ sym (q .1 .0),
+  p .1 .1 .0 ∙ sym (q .1 .1 .0),
+  p .1 .1 .1 .0 ∙ sym (q .1 .1 .1 .0),
+  p .1 .1 .1 .1 ∙ sym (q .1 .1 .1 .1),
+)
