@@ -1,22 +1,26 @@
 # make test   everything that .ci/run does: every proof, must-fail edit and program, then the quick runs
-# make demo   the main job on small examples: the sole of a last, meshed by lastcheck; a last that closes, drawn in build/last.png
+# make demo   the main job on small examples: the sole of a last, meshed by lastcheck; a last that closes, drawn in
+#             build/last.png and written as build/last.stl
 # make bench  figures of speed, measured on this machine
 # make lib    build/libakfelzun.a, for x86-64, and build/akfelzun.h, for a plug-in to link
 # make examples  the two hosts and the test of bad input, on this machine
 # make compare   every call beside the Rust and the plain reading, 100,000 cases each (seed=N cases=N)
-# make misread   misreadings of document 01 on purpose: the comparison must see each
-.PHONY: test demo quick lib examples compare misread bench bench-root bench-last
+# make misread   misreadings of documents 01 and 02 on purpose: the comparison must see each
+# make readers   the demo's STL file, read by Python and by ADMesh, where that is there
+.PHONY: test demo quick lib examples compare misread readers bench bench-root bench-last
 
 test:
 	@.ci/run
 
-# the runs that take seconds: the tools on made-up inputs, the root against the processor's, each call beside the Rust, what closes, the hosts, the program on its inputs
+# the runs that take seconds: the tools on made-up inputs, the root against the processor's, each call beside the Rust,
+# what closes, the hosts, files of STL, the program on its inputs
 quick:
 	@tests/tools/run
 	@bench/root/run quick
 	@compare/run short
 	@compare/run closed
 	@examples/run
+	@tests/stl/run
 	@tests/lastcheck/run
 
 lib:
@@ -36,6 +40,9 @@ compare:
 
 misread:
 	@compare/run misread
+
+readers:
+	@tests/stl/readers
 
 bench: bench-root bench-last
 

@@ -1,9 +1,13 @@
-/* closed.c: a small last that closes. Its body is given by a formula (heel, waist, ball and toe from above, sole and instep from the side); the cells
- * near its surface are read in one pass and fused, and the mesh that closes is written as text: `cells N`, then `v` with a vertex's place in millimetres
- * and its normal, and `t` with a triangle's three vertex numbers, from 0. demo/picture draws it. Exits 1 where a call is refused. */
+/* closed FILE.stl: a small last that closes. Its body is given by a formula (heel, waist, ball and toe from above, sole
+ * and instep from the side); the cells near its surface are read in one pass and fused. The mesh that closes is written
+ * to the file as binary STL, and to standard output as text: `cells N`, then for each vertex `v` with its place and
+ * normal and `b` with the bits of its place, and `t` with a triangle's three vertex numbers, from 0; demo/picture draws
+ * that. The body's lengths are millimetres, and so are the mesh's. Exits 1 where a call is refused or the file can't be
+ * written. */
 #include "akfelzun.h"
 
 #include <stdio.h>
+#include <string.h>
 
 /* millimetres a cell; the table reaches 2.2 cells from the surface, since the corners of a tetrahedron lie at most 2 cells apart */
 #define CELL 9.0f
@@ -18,6 +22,7 @@ static uint64_t keys[ROWS], read_keys[ROWS], first[EDGES], second[EDGES];
 static float distances[ROWS], weights[ROWS], readings[ROWS], confidences[ROWS];
 static float px[EDGES], py[EDGES], pz[EDGES], nx[EDGES], ny[EDGES], nz[EDGES];
 static uint32_t t0[TRIANGLES], t1[TRIANGLES], t2[TRIANGLES];
+static uint8_t file[84 + 50 * TRIANGLES];
 
 /* the least and the largest of two, blended where they differ by less than `over` */
 static float blended_least(float a, float b, float over) {
@@ -90,18 +95,44 @@ static size_t scan(void) {
     return n;
 }
 
-int main(void) {
-    size_t rows = 0, at, vertices, triangles, n = scan();
+static unsigned bits(float x) {
+    uint32_t word;
+    memcpy(&word, &x, sizeof word);
+    return word;
+}
+
+static int put_away(const char *path, size_t bytes) {
+    FILE *opened = fopen(path, "wb");
+    int whole = opened && fwrite(file, 1, bytes, opened) == bytes;
+    return opened && fclose(opened) == 0 && whole;
+}
+
+int main(int words, char **word) {
+    size_t rows = 0, at, vertices, triangles, bytes, n = scan();
+    if (words != 2) {
+        fprintf(stderr, "usage: closed FILE.stl\n");
+        return 2;
+    }
     uint32_t answer = akf_batch_update(SETTINGS, keys, ROWS, distances, ROWS, weights, ROWS, &rows, read_keys, n, readings, n, confidences, n, &at);
     if (answer == AKF_DONE)
         answer = akf_extract_closed_mesh(SETTINGS, keys, ROWS, distances, ROWS, weights, ROWS, rows, first, EDGES, second, EDGES, px, EDGES, py, EDGES,
                                          pz, EDGES, nx, EDGES, ny, EDGES, nz, EDGES, t0, TRIANGLES, t1, TRIANGLES, t2, TRIANGLES, &vertices, &triangles);
+    if (answer == AKF_DONE)
+        answer = akf_export_mesh_stl(px, EDGES, py, EDGES, pz, EDGES, vertices, t0, TRIANGLES, t1, TRIANGLES, t2, TRIANGLES, triangles, file, sizeof file,
+                                     &bytes);
     if (answer != AKF_DONE) {
         fprintf(stderr, "closed: refused with %u\n", answer);
         return 1;
     }
+    if (!put_away(word[1], bytes)) {
+        fprintf(stderr, "closed: %s can't be written\n", word[1]);
+        return 1;
+    }
     printf("cells %zu\n", rows);
-    for (size_t i = 0; i < vertices; i++) printf("v %.3f %.3f %.3f %.4f %.4f %.4f\n", px[i], py[i], pz[i], nx[i], ny[i], nz[i]);
+    for (size_t i = 0; i < vertices; i++) {
+        printf("v %.3f %.3f %.3f %.4f %.4f %.4f\n", px[i], py[i], pz[i], nx[i], ny[i], nz[i]);
+        printf("b %08x %08x %08x\n", bits(px[i]), bits(py[i]), bits(pz[i]));
+    }
     for (size_t i = 0; i < triangles; i++) printf("t %u %u %u\n", t0[i], t1[i], t2[i]);
     return 0;
 }

@@ -1,10 +1,12 @@
 /* host.c: what a plug-in does. Two passes over a small last are fused, the surface is meshed, and counts, area and box are
- * printed; then the mesh that closes, its counts and area, and one refusal. All lists are the host's own. */
+ * printed; then the mesh that closes, its counts and area, the same as an STL file and read back, and two refusals. All
+ * lists are the host's own. */
 #include "akfelzun.h"
 
 #include <stdio.h>
+#include <string.h>
 
-enum { TABLE = 4096, EDGES = 16384, GROUPS = 32768, TRIANGLES = 262144 };
+enum { TABLE = 4096, EDGES = 16384, GROUPS = 32768, TRIANGLES = 262144, FACETS = 2048, CORNERS = 3 * FACETS };
 
 /* truncation, maximum weight, voxel size, maximum distance */
 #define SETTINGS 2.0f, 100.0f, 1.0f, 10.0f
@@ -13,6 +15,8 @@ static uint64_t keys[TABLE], batch_keys[TABLE], first[EDGES], second[EDGES];
 static float distances[TABLE], weights[TABLE], batch_distances[TABLE], batch_confidences[TABLE];
 static float px[EDGES], py[EDGES], pz[EDGES], nx[EDGES], ny[EDGES], nz[EDGES];
 static uint32_t groups[GROUPS], t0[TRIANGLES], t1[TRIANGLES], t2[TRIANGLES];
+static uint8_t file[84 + 50 * FACETS];
+static float cx[CORNERS], cy[CORNERS], cz[CORNERS];
 
 #define TABLE_IN keys, TABLE, distances, TABLE, weights, TABLE
 
@@ -43,8 +47,19 @@ static size_t scan(float off) {
     return n;
 }
 
+/* how many of the corners that were read are those of the mesh, bit for bit */
+static size_t same_corners(size_t triangles) {
+    const uint32_t *numbers[3] = {t0, t1, t2};
+    size_t same = 0;
+    for (size_t v = 0; v < 3 * triangles; v++) {
+        uint32_t number = numbers[v % 3][v / 3];
+        same += !memcmp(&cx[v], &px[number], 4) && !memcmp(&cy[v], &py[number], 4) && !memcmp(&cz[v], &pz[number], 4);
+    }
+    return same;
+}
+
 int main(void) {
-    size_t rows = 0, at, edges, triangles;
+    size_t rows = 0, at, edges, triangles, written, corners;
     for (int pass = 0; pass < 2; pass++) {
         size_t n = scan(pass == 0 ? 0.125f : -0.125f);
         uint32_t answer = akf_batch_update(SETTINGS, TABLE_IN, &rows, batch_keys, n, batch_distances, n,
@@ -74,6 +89,15 @@ int main(void) {
     answer = akf_surface_area(px, EDGES, py, EDGES, pz, EDGES, edges, t0, TRIANGLES, t1, TRIANGLES, t2, TRIANGLES,
                               triangles, &area);
     printf("its area: answer %u, %.3f\n", answer, area);
+
+    /* as a file: 84 bytes and 50 for each triangle; read back, it has three vertices for each */
+    answer = akf_export_mesh_stl(px, EDGES, py, EDGES, pz, EDGES, edges, t0, TRIANGLES, t1, TRIANGLES, t2, TRIANGLES,
+                                 triangles, file, sizeof file, &written);
+    printf("as STL: answer %u, %zu bytes\n", answer, written);
+    answer = akf_import_mesh_stl(file, written, cx, CORNERS, cy, CORNERS, cz, CORNERS, &corners);
+    printf("read back: answer %u, vertices %zu, the mesh's own %zu\n", answer, corners, same_corners(triangles));
+    answer = akf_import_mesh_stl(file, written - 1, cx, CORNERS, cy, CORNERS, cz, CORNERS, &corners);
+    printf("cut short by a byte: refused with %u, vertices %zu\n", answer, corners);
 
     /* coordinates of mixed parity make no key: refusal 4, and the key handed back is 0 */
     uint64_t key = 1;

@@ -1,5 +1,6 @@
-/* bad-input.c: what a host can get wrong, each with a clear answer, by every call that it concerns: null pointers with length 0,
- * lengths that differ, counts past lengths, lists longer than the limits, NaNs and infinities everywhere.
+/* bad-input.c: what a host can get wrong, each with a clear answer, by every call that it concerns: null pointers with
+ * length 0, lengths that differ, counts past lengths, lists longer than the limits, NaNs and infinities everywhere,
+ * files of every length and with any count.
  *
  * All that calls are lent stands in one place. Each case makes it good, where every call answers AKF_DONE, spoils one thing, and asks
  * the calls that take it: the answer's number is as said, numbers handed back are 0, and lists that are written are zero throughout. */
@@ -10,7 +11,8 @@
 #include <stdlib.h>
 #include <string.h>
 
-enum { TABLE_LIMIT = 65536, LIST_LIMIT = 1048576, ROOM = 128, ROWS = 3 };
+/* a file of one triangle has 134 bytes */
+enum { TABLE_LIMIT = 65536, LIST_LIMIT = 1048576, ROOM = 128, ROWS = 3, BARE = 84, ONE = 134 };
 
 static int asked, wrong;
 
@@ -36,11 +38,15 @@ enum {
     PX, PY, PZ, NX, NY, NZ,
     GROUPS,
     T0, T1, T2,
+    FILE_OUT, FILE_IN,
     LISTS
 };
 
 /* lists that are lent together, and have one length */
-enum { TABLE, BATCH, MARCHED, SINGLE, EDGES, WITHIN, MARCH, WAITING, VERTICES, NORMALS, GROUP, TRIANGLES, SETS };
+enum {
+    TABLE, BATCH, MARCHED, SINGLE, EDGES, WITHIN, MARCH, WAITING, VERTICES, NORMALS, GROUP, TRIANGLES, WRITTEN, READ,
+    SETS
+};
 static const struct {
     const char *name;
     int from, to;
@@ -58,6 +64,8 @@ static const struct {
     {"the normals", NX, NZ, LIST_LIMIT},
     {"the groups", GROUPS, GROUPS, LIST_LIMIT},
     {"the triangles", T0, T2, LIST_LIMIT},
+    {"the file that is written", FILE_OUT, FILE_OUT, AKF_FILE_MAX},
+    {"the file that is read", FILE_IN, FILE_IN, AKF_FILE_MAX},
 };
 #define IN(s) (1u << (s))
 
@@ -65,7 +73,7 @@ static const struct {
 static size_t unit(int l) {
     int wide = l == KEYS || l == BATCH_KEYS || l == MARCHED_KEYS || l == OUT || l == FIRST || l == SECOND || l == OUT_KEYS ||
                l == ROW_KEYS || l == WAITING_KEYS;
-    return wide ? 8 : 4;
+    return wide ? 8 : l == FILE_OUT || l == FILE_IN ? 1 : 4;
 }
 
 static void *list[LISTS];
@@ -96,12 +104,37 @@ static void fill_floats(int l, float a, float b, float c) {
 
 static void fill_keys(int l) { memcpy(list[l], cell, sizeof cell); }
 
+static uint32_t bits(float x) {
+    uint32_t word;
+    memcpy(&word, &x, 4);
+    return word;
+}
+
+/* a little-endian word of a file */
+static void put(uint8_t *file, size_t at, uint32_t word) {
+    for (int k = 0; k < 4; k++) file[at + k] = (uint8_t)(word >> 8 * k);
+}
+static uint32_t get(const uint8_t *file, size_t at) {
+    return file[at] | (uint32_t)file[at + 1] << 8 | (uint32_t)file[at + 2] << 16 | (uint32_t)file[at + 3] << 24;
+}
+
+/* the file that is read, of so many bytes, the first triangle whole or in part; header, normal, attribute not zero */
+static const float part[9] = {1.0f, 1.0f, 1.0f, 2.0f, 2.0f, 2.0f, 4.0f, 3.0f, 3.0f};
+static void fill_file(size_t bytes, uint32_t count_in_it) {
+    uint8_t all[ONE];
+    memset(all, 0xc1, ONE);
+    put(all, 80, count_in_it);
+    for (int i = 0; i < 9; i++) put(all, 96 + 4 * i, bits(part[i]));
+    lend(FILE_IN, bytes);
+    memcpy(list[FILE_IN], all, bytes < ONE ? bytes : ONE);
+}
+
 static void good(void) {
     static const float usual[4] = {1.0f, 100.0f, 1.0f, 2.0f};
     memcpy(settings, usual, sizeof usual);
     for (int i = 0; i < ROWS; i++) akf_index64_new(0, 10 + i, 10 + i, 10 + i, &cell[i]);
-    for (int l = 0; l < LISTS; l++)
-        if (len[l] != ROOM) lend(l, ROOM);
+    for (int l = 0; l < LISTS; l++) lend(l, l == FILE_OUT ? ONE : ROOM);
+    fill_file(ONE, 1);
     fill_keys(KEYS), fill_keys(BATCH_KEYS), fill_keys(MARCHED_KEYS);
     fill_floats(DISTANCES, 0.5f, -0.5f, 0.5f), fill_floats(WEIGHTS, 1.0f, 1.0f, 1.0f);
     for (int i = 0; i < ROOM; i++) { /* a batch is as long as its lists */
@@ -139,6 +172,7 @@ static uint32_t back(uint32_t answer, int counts, int lengths, int yesno) {
 #define U64(l) (uint64_t *)list[l], len[l]
 #define F32(l) (float *)list[l], len[l]
 #define U32(l) (uint32_t *)list[l], len[l]
+#define U8(l) (uint8_t *)list[l], len[l]
 #define THE_SETTINGS settings[0], settings[1], settings[2], settings[3]
 #define THE_TABLE U64(KEYS), F32(DISTANCES), F32(WEIGHTS)
 #define THE_MARCHED U64(MARCHED_KEYS), F32(MARCHED_DISTANCES), marched
@@ -186,6 +220,10 @@ static uint32_t area(void) {
 }
 static uint32_t box(void) { return back(akf_bounding_box(F32(PX), F32(PY), F32(PZ), vertices, f, f + 1, f + 2, f + 3, f + 4, f + 5), 0, 6, 0); }
 static uint32_t mesh_stats(void) { return back(akf_mesh_stats(F32(NX), F32(NY), F32(NZ), vertices, &yes), 0, 0, 1); }
+static uint32_t stl_write(void) {
+    return back(akf_export_mesh_stl(F32(PX), F32(PY), F32(PZ), vertices, U32(T0), U32(T1), U32(T2), triangles, U8(FILE_OUT), n), 1, 0, 0);
+}
+static uint32_t stl_read(void) { return back(akf_import_mesh_stl(U8(FILE_IN), F32(PX), F32(PY), F32(PZ), n), 1, 0, 0); }
 static uint32_t snap(void) {
     uint32_t answer = akf_physical_to_bcc_voxel(position[0], position[1], position[2], size, snapped, snapped + 1, snapped + 2);
     return answer == AKF_DONE || zeros(snapped, sizeof snapped) ? answer : 99;
@@ -222,8 +260,10 @@ static const struct {
     {"surface_area", area, IN(VERTICES) | IN(TRIANGLES), 0},
     {"bounding_box", box, IN(VERTICES), 0},
     {"mesh_stats", mesh_stats, IN(NORMALS), 0},
+    {"export_mesh_stl", stl_write, IN(VERTICES) | IN(TRIANGLES) | IN(WRITTEN), IN(WRITTEN)},
+    {"import_mesh_stl", stl_read, IN(READ) | IN(VERTICES), IN(VERTICES)},
 };
-enum { CALLS = sizeof call / sizeof *call };
+enum { CALLS = sizeof call / sizeof *call, EXPORT = CALLS - 2, IMPORT = CALLS - 1 };
 
 /* a copy of the table, since no refusal may touch it */
 static void *table_then[3];
@@ -293,13 +333,14 @@ static void lengthen(int s, size_t places) {
     }
 }
 
-/* lists one place longer than the limit: 2. As long as the limit they are taken (of a batch every place is a reading, so that is not tried) */
+/* lists one place longer than the limit: 2. As long as the limit they are taken (of a batch every place is a reading,
+ * and of a file that is read every byte is its own, so that these are not tried here) */
 static void limits(void) {
     for (int i = 0; i < CALLS; i++)
         for (int s = 0; s < SETS; s++)
             if (call[i].takes & IN(s)) {
                 good(), lengthen(s, set[s].limit + 1), ask(i, 2, set[s].name);
-                if (s != BATCH) good(), lengthen(s, set[s].limit), ask(i, AKF_DONE, set[s].name);
+                if (s != BATCH && s != READ) good(), lengthen(s, set[s].limit), ask(i, AKF_DONE, set[s].name);
             }
     good();
 }
@@ -316,7 +357,7 @@ static void nans(void) {
             if (call[i].takes & IN(MARCHED)) good(), floats(MARCHED_DISTANCES)[2] = x, ask(i, 3, "a marched distance");
             if (call[i].takes & THRESHOLD) good(), threshold = x, ask(i, 5, "the threshold");
             for (int l = PX; l <= PZ; l++)
-                if (call[i].run == area || call[i].run == box) good(), floats(l)[1] = x, ask(i, 10, "a position");
+                if (call[i].run == area || call[i].run == box || i == EXPORT) good(), floats(l)[1] = x, ask(i, 10, "a position");
             for (int l = NX; l <= NZ; l++)
                 if (call[i].run == mesh_stats) good(), floats(l)[1] = x, ask(i, AKF_DONE, "a normal"), expect(yes == 1, "no normal is seen", "mesh_stats", "a normal");
             if (call[i].run == fuse) good(), reading = x, ask(i, 5, "the reading");
@@ -367,13 +408,116 @@ static void closed_rooms(void) {
     good();
 }
 
+/* ---- files of document 02's No. 1 */
+
+/* floats outside the range of vertices, and odd ones within it */
+static const float outside[] = {NAN, -NAN, INFINITY, -INFINITY, 100000008.0f, -100000008.0f, 3.0e38f};
+static const float inside[] = {100000000.0f, -100000000.0f, 0.0f, -0.0f, 1.0e-45f, -1.0e-45f, 1.0e-39f};
+enum { OUTSIDE = sizeof outside / sizeof *outside, INSIDE = sizeof inside / sizeof *inside };
+
+/* what is read of the file of one triangle, in lists of this many places: three vertices, then zeros */
+static void ask_done(const char *spoilt) {
+    ask(IMPORT, AKF_DONE, spoilt);
+    expect(n[0] == 3, "not three vertices", "import_mesh_stl", spoilt);
+    for (int i = 0; i < 9; i++) {
+        expect(bits(floats(PX + i % 3)[i / 3]) == get(list[FILE_IN], 96 + 4 * i), "another vertex", "import_mesh_stl", spoilt);
+    }
+    for (int l = PX; l <= PZ; l++) expect(zeros(floats(l) + 3, (len[l] - 3) * 4), "not zero past the vertices", "import_mesh_stl", spoilt);
+}
+
+static void places(size_t room) {
+    for (int l = PX; l <= PZ; l++) lend(l, room);
+}
+
+/* every length from nothing to two triangles, and counts that do not fit: 11, whatever the vertices are, but after 2 */
+static void file_lengths(void) {
+    for (size_t bytes = 0; bytes <= ONE + 50; bytes++)
+        for (uint32_t c = 0; c < 3; c++) {
+            int fits = bytes == BARE + 50 * c;
+            good(), fill_file(bytes, c);
+            if (fits && c == 2) memset((uint8_t *)list[FILE_IN] + ONE, 0, 50);
+            ask(IMPORT, fits ? AKF_DONE : 11, "a length"), expect(!fits || n[0] == 3 * c, "other vertices", "import_mesh_stl", "a length");
+        }
+    /* 2^31 and 2^31 + 1 give the lengths 84 and 134 where sums wrap at 32 bits */
+    static const uint32_t odd[] = {3, 0x01000000, 0x80000000, 0x80000001, 0x7fffffff, 0xffffffff};
+    for (int i = 0; i < 6; i++)
+        for (size_t bytes = BARE; bytes <= ONE; bytes += 50) good(), fill_file(bytes, odd[i]), ask(IMPORT, 11, "a count");
+    good(), fill_file(ONE + 1, 1), put(list[FILE_IN], 96, bits(NAN)), ask(IMPORT, 11, "a length, and a vertex that is NaN");
+    for (size_t bytes = BARE - 1; bytes <= ONE + 1; bytes += 52) good(), fill_file(bytes, 1), len[PY]--, ask(IMPORT, 2, "a length, and lists that differ");
+    good(), fill_file(ONE + 1, 1), places(0), ask(IMPORT, 11, "a length, and no room");
+    /* as long as a list of bytes may be, with the count that fits; a vertex out of range at the end; another count */
+    good(), fill_file(AKF_FILE_MAX, LIST_LIMIT), memset((uint8_t *)list[FILE_IN] + ONE, 0, AKF_FILE_MAX - ONE), ask(IMPORT, 6, "the longest file");
+    put(list[FILE_IN], AKF_FILE_MAX - 6, bits(INFINITY)), ask(IMPORT, 10, "the longest file, its last vertex infinite");
+    put(list[FILE_IN], 80, LIST_LIMIT - 1), ask(IMPORT, 11, "the longest file, another count");
+}
+
+/* each part of a triangle in turn: a position outside the range is a 10, before 6; normal, header and attribute may be
+ * anything */
+static void file_parts(void) {
+    for (int i = 0; i < 12; i++) {
+        for (int x = 0; x < OUTSIDE; x++) {
+            good(), put(list[FILE_IN], 84 + 4 * i, bits(outside[x]));
+            if (i < 3) ask_done("a normal");
+            else ask(IMPORT, 10, "a position"), places(2), ask(IMPORT, 10, "a position, and no room");
+        }
+        for (int x = 0; x < INSIDE; x++) good(), put(list[FILE_IN], 84 + 4 * i, bits(inside[x])), ask_done("a position within the range");
+    }
+    good(), memset(list[FILE_IN], 0xff, 80), memset((uint8_t *)list[FILE_IN] + ONE - 2, 0xff, 2), ask_done("header and attribute");
+    good(), memcpy(list[FILE_IN], "solid text", 10), ask_done("a header that reads as text");
+    for (size_t room = 0; room < 5; room++) {
+        good(), places(room);
+        if (room < 3) ask(IMPORT, 6, "room");
+        else ask_done("room");
+    }
+}
+
+/* the file of the one triangle that is lent, then zeros */
+static void ask_written(const char *spoilt) {
+    uint8_t all[ONE] = {0};
+    put(all, 80, 1);
+    for (int i = 0; i < 9; i++) put(all, 96 + 4 * i, bits(floats(PX + i % 3)[((uint32_t *)list[T0 + i / 3])[0]]));
+    ask(EXPORT, AKF_DONE, spoilt);
+    expect(n[0] == ONE, "another length", "export_mesh_stl", spoilt);
+    expect(!memcmp(list[FILE_OUT], all, ONE), "another file", "export_mesh_stl", spoilt);
+    expect(zeros((uint8_t *)list[FILE_OUT] + ONE, len[FILE_OUT] - ONE), "not zero past the file", "export_mesh_stl", spoilt);
+}
+
+static void name(int list_of_numbers, uint32_t number) { ((uint32_t *)list[list_of_numbers])[0] = number; }
+
+/* rooms, numbers and vertices of a file that is written: 10 before 6, and 2 before both */
+static void file_written(void) {
+    for (size_t room = 0; room <= ONE + 6; room++) {
+        good(), lend(FILE_OUT, room);
+        if (room < ONE) ask(EXPORT, 6, "room");
+        else ask_written("room");
+    }
+    good(), vertices = triangles = 0, ask(EXPORT, AKF_DONE, "no triangles");
+    expect(n[0] == BARE && zeros(list[FILE_OUT], ONE), "not 84 zeros", "export_mesh_stl", "no triangles");
+    good(), vertices = 0, ask(EXPORT, 10, "no vertices");
+    for (int l = T0; l <= T2; l++) {
+        good(), name(l, ROWS), ask(EXPORT, 10, "a number past the vertices");
+        good(), name(l, UINT32_MAX), lend(FILE_OUT, 0), ask(EXPORT, 10, "a number past the vertices, and no room");
+    }
+    good(), name(T0, 1), name(T2, 1), ask_written("three equal corners");
+    for (int l = PX; l <= PZ; l++) {
+        for (int x = 0; x < OUTSIDE; x++) {
+            good(), floats(l)[2] = outside[x], ask(EXPORT, 10, "a vertex"), lend(FILE_OUT, ONE - 1), ask(EXPORT, 10, "a vertex, and no room");
+            good(), vertices++, floats(l)[ROWS] = outside[x], ask(EXPORT, 10, "a vertex that no triangle names");
+            good(), floats(l)[ROWS] = outside[x], ask_written("a place past the vertices");
+            good(), floats(l)[0] = outside[x], len[l]--, ask(EXPORT, 2, "a vertex, and lists that differ");
+        }
+        for (int x = 0; x < INSIDE; x++) good(), floats(l)[1] = inside[x], ask_written("a vertex within the range");
+    }
+}
+
 /* null pointers with length 0, and counts of 0: each call's own answer to nothing */
 static void nulls(void) {
     static const struct {
         uint32_t (*run)(void);
         uint32_t answer;
     } other[] = {{neighbors, 6}, {fuse, 6}, {fuse_ray, 6}, {tsdf_distance, AKF_ABSENT}, {tsdf_weight, AKF_ABSENT},
-                 {esdf_distance, AKF_ABSENT}, {gradient, AKF_ABSENT}, {box, AKF_ABSENT}, {cell_edges, 2}};
+                 {esdf_distance, AKF_ABSENT}, {gradient, AKF_ABSENT}, {box, AKF_ABSENT}, {cell_edges, 2},
+                 {stl_write, 6}, {stl_read, 11}};
     for (int i = 0; i < CALLS; i++) {
         good();
         void *lent[LISTS];
@@ -400,6 +544,9 @@ int main(void) {
     limits();
     nans();
     closed_rooms();
+    file_lengths();
+    file_parts();
+    file_written();
     printf("bad-input: %d answers, %d not as said\n", asked, wrong);
     return wrong != 0;
 }

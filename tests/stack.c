@@ -1,5 +1,6 @@
-/* What a call takes of the stack: a batch of 5,000 readings, an edge list, a closed mesh and a march of them, each in a thread of its own whose stack is
-   painted beforehand. Exits 1 where one takes more than 192 KB. docs/LINKING.md says so to a host that lends a small stack. */
+/* What a call takes of the stack: a batch of 5,000 readings, an edge list, a closed mesh and a march of them, that mesh
+   written as STL and read back, each in a thread of its own whose stack is painted beforehand. Exits 1 where one takes
+   more than 192 KB. docs/LINKING.md says so to a host that lends a small stack. */
 #define _XOPEN_SOURCE 700
 #include "akfelzun.h"
 #include <pthread.h>
@@ -7,13 +8,16 @@
 #include <stdlib.h>
 #include <string.h>
 
-enum { ROWS = 65536, READINGS = 5000, EDGES = 7 * READINGS, TRIANGLES = 12 * READINGS, WAITING = 100000, MARCHED = 200000, STACK = 1 << 20, MOST = 192 * 1024 };
+enum { ROWS = 65536, READINGS = 5000, EDGES = 7 * READINGS, TRIANGLES = 12 * READINGS, CORNERS = 3 * TRIANGLES };
+enum { WAITING = 100000, MARCHED = 200000, STACK = 1 << 20, MOST = 192 * 1024 };
 #define SETTINGS 1.0f, 100.0f, 0.02f, 0.1f
 static uint64_t keys[ROWS], batch[READINGS], first[WAITING], second[WAITING], marched[MARCHED], cells[WAITING];
 static float distances[ROWS], weights[ROWS], read_distances[READINGS], confidences[READINGS], far_distances[MARCHED], estimates[WAITING];
 static float px[EDGES], py[EDGES], pz[EDGES], nx[EDGES], ny[EDGES], nz[EDGES];
 static uint32_t t0[TRIANGLES], t1[TRIANGLES], t2[TRIANGLES];
-static size_t count, triangles;
+static float cx[CORNERS], cy[CORNERS], cz[CORNERS];
+static uint8_t file[84 + 50 * TRIANGLES];
+static size_t count, edges, triangles, written, corners;
 static uint32_t answer;
 
 static void *fuse(void *unused) {
@@ -24,15 +28,25 @@ static void *fuse(void *unused) {
 }
 
 static void *list(void *unused) {
-    size_t edges;
-    answer = akf_get_zero_crossing_edges(SETTINGS, keys, ROWS, distances, ROWS, weights, ROWS, count, first, WAITING, second, WAITING, &edges);
+    size_t listed;
+    answer = akf_get_zero_crossing_edges(SETTINGS, keys, ROWS, distances, ROWS, weights, ROWS, count, first, WAITING, second, WAITING, &listed);
     return unused;
 }
 
 static void *close_up(void *unused) {
-    size_t edges;
     answer = akf_extract_closed_mesh(SETTINGS, keys, ROWS, distances, ROWS, weights, ROWS, count, first, EDGES, second, EDGES, px, EDGES, py, EDGES,
                                      pz, EDGES, nx, EDGES, ny, EDGES, nz, EDGES, t0, TRIANGLES, t1, TRIANGLES, t2, TRIANGLES, &edges, &triangles);
+    return unused;
+}
+
+static void *write_stl(void *unused) {
+    answer = akf_export_mesh_stl(px, EDGES, py, EDGES, pz, EDGES, edges, t0, TRIANGLES, t1, TRIANGLES, t2, TRIANGLES, triangles, file, sizeof file,
+                                 &written);
+    return unused;
+}
+
+static void *read_stl(void *unused) {
+    answer = akf_import_mesh_stl(file, written, cx, CORNERS, cy, CORNERS, cz, CORNERS, &corners);
     return unused;
 }
 
@@ -73,6 +87,8 @@ int main(void) {
     int wrong = took_too_much("a batch", fuse);
     wrong += took_too_much("an edge list", list);
     wrong += took_too_much("a closed mesh", close_up) + (triangles == 0);
+    wrong += took_too_much("writing it as STL", write_stl) + (written != 84 + 50 * triangles);
+    wrong += took_too_much("reading that file", read_stl) + (corners != 3 * triangles);
     wrong += took_too_much("a march", march);
     return wrong != 0;
 }

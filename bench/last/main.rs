@@ -1,8 +1,11 @@
-// bench_last [quick] [ROWS]: synthetic lasts of 16,384, 32,768 and 65,536 rows, the most that a table holds: the Rust with its own hash tables and the C face
-// in one process on the same input. Prints the best of five runs of each, their ratio, and how each grows when the rows double.
-// The closed mesh, which the Rust does not have, stands beside the mesh of the same run, face against face; and of odd fields beside that of the last.
-// The march goes to about five times the rows, and to about sixteen times, the most that a marched list holds; `quick` leaves it out. ROWS leaves larger
-// lasts out.
+// bench_last [quick] [stl] [ROWS]: synthetic lasts of 16,384, 32,768 and 65,536 rows, the most that a table holds: the
+// Rust with its own hash tables and the C face in one process on the same input. Prints the best of five runs of each,
+// their ratio, and how each grows when the rows double. The closed mesh, which the Rust does not have, stands beside
+// the mesh of the same run, face against face; and of odd fields beside that of the last. Files of STL stand beside a
+// plain writer and reader. The march goes to about five times the rows, and to about sixteen times, the most that a
+// marched list holds; `quick` leaves it out. ROWS leaves larger lasts out, `stl` everything but the files.
+mod stl;
+
 use compare::face::{FACE, LANDED};
 use compare::last::{rows_nearest, shuffled, SIZE};
 use compare::plain::keys::key_of;
@@ -29,10 +32,13 @@ struct Field {
     order: Vec<usize>,
 }
 
+fn last_settings() -> Settings {
+    Settings { truncation: 1.0, max_weight: 100.0, voxel_size: SIZE, max_distance: 0.0 }
+}
+
 fn field(rows: usize, cells: [f32; 2]) -> Field {
     let (keys, distances) = rows_nearest(rows);
-    let settings = Settings { truncation: 1.0, max_weight: 100.0, voxel_size: SIZE, max_distance: 0.0 };
-    Field { settings, far: cells.map(|c| c * SIZE), threshold: SIZE, order: shuffled(keys.len()), keys, distances }
+    Field { settings: last_settings(), far: cells.map(|c| c * SIZE), threshold: SIZE, order: shuffled(keys.len()), keys, distances }
 }
 
 // Milliseconds of this thread's own time, so that other work on the machine does not count.
@@ -366,7 +372,7 @@ fn rows_of(b: &Block) -> Vec<(u64, f32, f32)> {
 fn odd_fields() {
     println!("| closed mesh of 65,536 rows | vertices | triangles | ms | ns a row, vertex or triangle | refused with 6, ms |");
     println!("|---|---|---|---|---|---|");
-    let settings = Settings { truncation: 1.0, max_weight: 100.0, voxel_size: SIZE, max_distance: 0.0 };
+    let settings = last_settings();
     let mut lists = lent();
     let mut tell = |name: &str, rows: &[(u64, f32, f32)]| {
         let (keys, distances, weights): (Vec<u64>, Vec<f32>, Vec<f32>) = (rows.iter().map(|r| r.0).collect(), rows.iter().map(|r| r.1).collect(), rows.iter().map(|r| r.2).collect());
@@ -383,7 +389,19 @@ fn odd_fields() {
     BLOCKS.iter().for_each(|b| tell(b.name, &rows_of(b)));
 }
 
+// Files of STL, where the face has them.
+fn files() {
+    if ["akf_export_mesh_stl", "akf_import_mesh_stl"].iter().all(|call| landed(call)) {
+        stl::tell();
+    } else {
+        println!("the face has no files of STL yet");
+    }
+}
+
 fn main() {
+    if std::env::args().any(|a| a == "stl") {
+        return files();
+    }
     if !cfg!(rust) {
         println!("The Rust isn't at ../shared/docs/src beside this repository: only the C face is measured.");
     }
@@ -419,4 +437,6 @@ fn main() {
         println!();
         odd_fields();
     }
+    println!();
+    files();
 }

@@ -35,6 +35,8 @@ pub struct Side {
     pub surface_area: fn(Places, Triangles, &mut f32) -> u32,
     pub bounding_box: fn(Places, &mut [[f32; 3]; 2]) -> u32,
     pub mesh_stats: fn(Places, &mut u32) -> u32,
+    pub export_mesh_stl: fn(Places, Triangles, &mut [u8], &mut usize) -> u32,
+    pub import_mesh_stl: fn(&[u8], [&mut [f32]; 3], &mut usize) -> u32,
 }
 
 // A reading of document 01 as a side.
@@ -70,6 +72,8 @@ macro_rules! reading {
             surface_area: $of::mesh::surface_area,
             bounding_box: $of::mesh::bounding_box,
             mesh_stats: $of::mesh::mesh_stats,
+            export_mesh_stl: $of::stl::export_mesh_stl,
+            import_mesh_stl: $of::stl::import_mesh_stl,
         };
     };
 }
@@ -336,4 +340,17 @@ pub fn mesh_stats(side: &Side, c: &Case) -> Outcome {
     let mut has = dirty();
     let a = (side.mesh_stats)(c.places(), &mut has);
     Outcome::answer(a).number("has_normals", has)
+}
+
+pub fn export_mesh_stl(side: &Side, c: &Case) -> Outcome {
+    let (mut file, mut written) = (rubbish(c.rooms[0]), dirty());
+    let a = (side.export_mesh_stl)(c.places(), c.triangles(), &mut file, &mut written);
+    Outcome::answer(a).number("written", written).bytes("file, by eight bytes", &file)
+}
+
+pub fn import_mesh_stl(side: &Side, c: &Case) -> Outcome {
+    let [mut px, mut py, mut pz] = [0, 1, 2].map(|i: usize| rubbish(c.rooms[i]));
+    let mut vertices = dirty();
+    let a = (side.import_mesh_stl)(&c.file, [&mut px, &mut py, &mut pz], &mut vertices);
+    Outcome::answer(a).number("vertices", vertices).list("px", &px).list("py", &py).list("pz", &pz)
 }

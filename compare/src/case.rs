@@ -28,6 +28,8 @@ pub struct Case {
     pub edges: [Vec<u64>; 2],
     pub edge_count: usize,
     pub groups: Vec<u32>,
+    // a file that is read
+    pub file: Vec<u8>,
 }
 
 impl Case {
@@ -75,6 +77,13 @@ impl Outcome {
         self.lists.push((name, l.iter().map(|v| v.bits()).collect()));
         self
     }
+
+    // A file, eight bytes to a place, the first byte highest: it may be long.
+    pub fn bytes(mut self, name: &'static str, file: &[u8]) -> Outcome {
+        let word = |part: &[u8]| part.iter().fold(0, |word, &b| word << 8 | b as u64);
+        self.lists.push((name, file.chunks(8).map(word).collect()));
+        self
+    }
 }
 
 // Values are compared by their bits, and lists that a call writes begin full of rubbish.
@@ -116,6 +125,15 @@ impl Bits for u16 {
     }
     fn rubbish(place: usize) -> u16 {
         0xbee1u16.wrapping_add(place as u16)
+    }
+}
+
+impl Bits for u8 {
+    fn bits(self) -> u64 {
+        self as u64
+    }
+    fn rubbish(place: usize) -> u8 {
+        place as u8 | 1
     }
 }
 

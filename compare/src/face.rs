@@ -377,6 +377,36 @@ extern "C" {
         vertices: usize,
         has_normals: *mut u32,
     ) -> u32;
+    fn akf_export_mesh_stl(
+        px: *const f32,
+        px_len: usize,
+        py: *const f32,
+        py_len: usize,
+        pz: *const f32,
+        pz_len: usize,
+        vertices: usize,
+        t0: *const u32,
+        t0_len: usize,
+        t1: *const u32,
+        t1_len: usize,
+        t2: *const u32,
+        t2_len: usize,
+        triangles: usize,
+        file: *mut u8,
+        file_len: usize,
+        written: *mut usize,
+    ) -> u32;
+    fn akf_import_mesh_stl(
+        file: *const u8,
+        file_len: usize,
+        px: *mut f32,
+        px_len: usize,
+        py: *mut f32,
+        py_len: usize,
+        pz: *mut f32,
+        pz_len: usize,
+        vertices: *mut usize,
+    ) -> u32;
 }
 
 fn read<T>(l: &[T]) -> *const T {
@@ -419,6 +449,20 @@ macro_rules! fusing {
             )
         }
     };
+}
+
+// A call on vertices and triangles that are read.
+macro_rules! on_shape {
+    ($call:ident, $p:expr, $t:expr, $($rest:expr),*) => {{
+        let ([px, py, pz], [t0, t1, t2]) = ($p.lists, $t.lists);
+        unsafe {
+            $call(
+                read(px), px.len(), read(py), py.len(), read(pz), pz.len(), $p.count,
+                read(t0), t0.len(), read(t1), t1.len(), read(t2), t2.len(), $t.count,
+                $($rest),*
+            )
+        }
+    }};
 }
 
 // A call on a marched table.
@@ -621,26 +665,7 @@ fn cell_edges(groups: &[u32], first: &[u64], second: &[u64], edges: usize, cell:
 }
 
 fn surface_area(p: Places, t: Triangles, area: &mut f32) -> u32 {
-    let ([px, py, pz], [t0, t1, t2]) = (p.lists, t.lists);
-    unsafe {
-        akf_surface_area(
-            read(px),
-            px.len(),
-            read(py),
-            py.len(),
-            read(pz),
-            pz.len(),
-            p.count,
-            read(t0),
-            t0.len(),
-            read(t1),
-            t1.len(),
-            read(t2),
-            t2.len(),
-            t.count,
-            area,
-        )
-    }
+    on_shape!(akf_surface_area, p, t, area)
 }
 
 fn bounding_box(p: Places, ends: &mut [[f32; 3]; 2]) -> u32 {
@@ -652,6 +677,17 @@ fn bounding_box(p: Places, ends: &mut [[f32; 3]; 2]) -> u32 {
 fn mesh_stats(normals: Places, has_normals: &mut u32) -> u32 {
     let [nx, ny, nz] = normals.lists;
     unsafe { akf_mesh_stats(read(nx), nx.len(), read(ny), ny.len(), read(nz), nz.len(), normals.count, has_normals) }
+}
+
+fn export_mesh_stl(p: Places, t: Triangles, file: &mut [u8], bytes: &mut usize) -> u32 {
+    on_shape!(akf_export_mesh_stl, p, t, written(file), file.len(), bytes)
+}
+
+fn import_mesh_stl(file: &[u8], places: [&mut [f32]; 3], vertices: &mut usize) -> u32 {
+    let [px, py, pz] = places;
+    unsafe {
+        akf_import_mesh_stl(read(file), file.len(), written(px), px.len(), written(py), py.len(), written(pz), pz.len(), vertices)
+    }
 }
 
 pub const FACE: Side = Side {
@@ -683,4 +719,6 @@ pub const FACE: Side = Side {
     surface_area,
     bounding_box,
     mesh_stats,
+    export_mesh_stl,
+    import_mesh_stl,
 };

@@ -2,6 +2,7 @@
 use crate::case::Case;
 use crate::make::rust_key;
 use crate::plain::keys::coords_of;
+use crate::plain::stl::{length_ok, vertices_in};
 use crate::rng::Rng;
 use crate::table::{Compared, COMPARED};
 
@@ -25,7 +26,11 @@ fn floats(c: &Case) -> Vec<f32> {
     let rows = &c.distances[..c.count.min(c.distances.len())];
     let vertices = c.vertices.iter().flat_map(|l| &l[..c.vertex_count.min(l.len())]);
     let single = c.reals.iter().filter(|x| x.to_bits() != 0);
-    rows.iter().chain(single).chain(&c.batch_distances).chain(&c.batch_confidences).chain(vertices).copied().collect()
+    let mut all: Vec<f32> = rows.iter().chain(single).chain(&c.batch_distances).chain(&c.batch_confidences).chain(vertices).copied().collect();
+    if length_ok(&c.file) {
+        all.extend(vertices_in(&c.file).iter().flatten());
+    }
+    all
 }
 
 fn held(c: &Case) -> [bool; 15] {

@@ -1,11 +1,13 @@
-// Large fields, where the plain reading's searches from the front would take hours: the C face beside the Rust alone, on a last of
-// about 60,000 rows. Its readings come ascending, shuffled, and in passes that come back to every cell. The Rust has no closed mesh: there the plain reading
-// is waited for, on a last of 16,384 rows.
+// Large fields, where the plain reading's searches from the front would take hours: the C face beside the Rust alone,
+// on a last of about 60,000 rows. Its readings come ascending, shuffled, and in passes that come back to every cell.
+// The Rust has no closed mesh and no files: there the plain reading is waited for, on a last of 16,384 rows and on
+// files at their limits.
 use crate::beside;
 use crate::calls::{self, Side, PLAIN};
 use crate::case::{Case, Outcome};
 use crate::face::{FACE, LANDED};
 use crate::last;
+use crate::plain::{mesh, stl, FILE_LIMIT, LISTS_LIMIT};
 use crate::table::{judge, Judged};
 
 type Large = (&'static str, &'static str, fn() -> Case, fn(&Side, &Case) -> Outcome, fn(&Case) -> Option<Outcome>);
@@ -60,10 +62,11 @@ const LARGE: &[Large] = &[
     ("akf_get_voxels_within_distance", "", || rooms(field(), &[70_000; 2]), calls::get_voxels_within_distance, beside::get_voxels_within_distance),
 ];
 
-// How many differ.
-pub fn run() -> usize {
+// How many differ, of the calls that are asked for and that the face has.
+pub fn run(asked_for: &dyn Fn(&str) -> bool) -> usize {
+    let asked = |call: &str| LANDED.contains(&call) && asked_for(call);
     let mut differ = 0;
-    for (name, how, make, ask, rust) in LARGE.iter().filter(|l| LANDED.contains(&l.0)) {
+    for (name, how, make, ask, rust) in LARGE.iter().filter(|l| asked(l.0)) {
         let case = make();
         let told = rust(&case).expect("the field is on the domain");
         let said = match judge(&told, &ask(&FACE, &case), false) {
@@ -75,14 +78,14 @@ pub fn run() -> usize {
         };
         println!("{name:31} a last of 60,797 rows{}{how}: {said}", if how.is_empty() { "" } else { ", " });
     }
-    differ + closed_mesh()
+    if asked("akf_extract_closed_mesh") {
+        differ += closed_mesh();
+    }
+    differ + FILES.iter().filter(|f| asked(f.0)).map(file).sum::<usize>()
 }
 
 // The closed mesh beside the plain reading, which takes some seconds.
 fn closed_mesh() -> usize {
-    if !LANDED.contains(&"akf_extract_closed_mesh") {
-        return 0;
-    }
     let case = rooms(of_rows(last::rows_nearest(16_384)), &[12_000, 12_000, 12_000, 12_000, 12_000, 12_000, 12_000, 12_000, 23_000, 23_000, 23_000]);
     let plain = calls::extract_closed_mesh(&PLAIN, &case);
     let said = match judge(&plain, &calls::extract_closed_mesh(&FACE, &case), false) {
@@ -90,5 +93,76 @@ fn closed_mesh() -> usize {
         _ => "same".to_string(),
     };
     println!("the closed mesh of a last of 16,384 rows, {} vertices and {} triangles: {said}", plain.numbers[0].1, plain.numbers[1].1);
+    (said != "same") as usize
+}
+
+type File = (&'static str, &'static str, fn() -> Case, fn(&Side, &Case) -> Outcome, u32);
+
+// As many vertices as triangles, each triangle with three of them, and a room for its file.
+fn many(n: usize, room: usize) -> Case {
+    let mut c = Case { vertex_count: n, triangle_count: n, rooms: vec![room], ..Case::default() };
+    for axis in 0..3 {
+        c.vertices[axis] = (0..n).map(|i| i as f32 * 0.125 - axis as f32 * 50_000.0).collect();
+        c.triangles[axis] = (0..n).map(|i| ((i * 7_919 + axis) % n) as u32).collect();
+    }
+    c
+}
+
+fn with_vertex(mut c: Case, value: f32) -> Case {
+    *c.vertices[2].last_mut().unwrap() = value;
+    c
+}
+
+fn with_number(mut c: Case, number: u32) -> Case {
+    *c.triangles[2].last_mut().unwrap() = number;
+    c
+}
+
+// The file of so many triangles, and places for its vertices.
+fn many_read(n: usize, places: usize) -> Case {
+    let c = many(n, 0);
+    let file = stl::file_of(&mesh::corners(c.places(), c.triangles()).expect("in range"));
+    Case { file, rooms: vec![places; 3], ..Case::default() }
+}
+
+// With other bytes at the file's end.
+fn ending(mut c: Case, cut: usize, bytes: &[u8]) -> Case {
+    c.file.truncate(c.file.len() - cut);
+    c.file.extend(bytes);
+    c
+}
+
+// The last part of the last vertex lies before two bytes of attribute.
+const INFINITE: [u8; 6] = [0, 0, 0x80, 0x7f, 0, 0];
+
+const FILES: &[File] = &[
+    ("akf_export_mesh_stl", "1,048,576 triangles, 52,428,884 bytes", || many(LISTS_LIMIT, FILE_LIMIT), calls::export_mesh_stl, 0),
+    ("akf_export_mesh_stl", "a byte fewer", || many(LISTS_LIMIT, FILE_LIMIT - 1), calls::export_mesh_stl, 6),
+    ("akf_export_mesh_stl", "a byte more", || many(LISTS_LIMIT, FILE_LIMIT + 1), calls::export_mesh_stl, 2),
+    ("akf_export_mesh_stl", "1,048,577 triangles", || many(LISTS_LIMIT + 1, FILE_LIMIT), calls::export_mesh_stl, 2),
+    ("akf_export_mesh_stl", "the last vertex NaN, a byte fewer", || with_vertex(many(LISTS_LIMIT, FILE_LIMIT - 1), f32::NAN), calls::export_mesh_stl, 10),
+    ("akf_export_mesh_stl", "the last number too large", || with_number(many(LISTS_LIMIT, FILE_LIMIT), LISTS_LIMIT as u32), calls::export_mesh_stl, 10),
+    ("akf_import_mesh_stl", "349,525 triangles, 1,048,576 places", || many_read(349_525, LISTS_LIMIT), calls::import_mesh_stl, 0),
+    ("akf_import_mesh_stl", "1,048,575 places", || many_read(349_525, LISTS_LIMIT - 1), calls::import_mesh_stl, 0),
+    ("akf_import_mesh_stl", "1,048,574 places", || many_read(349_525, LISTS_LIMIT - 2), calls::import_mesh_stl, 6),
+    ("akf_import_mesh_stl", "1,048,577 places", || many_read(349_525, LISTS_LIMIT + 1), calls::import_mesh_stl, 2),
+    ("akf_import_mesh_stl", "349,526 triangles, 1,048,576 places", || many_read(349_526, LISTS_LIMIT), calls::import_mesh_stl, 6),
+    ("akf_import_mesh_stl", "the last vertex infinite", || ending(many_read(349_526, LISTS_LIMIT), 6, &INFINITE), calls::import_mesh_stl, 10),
+    ("akf_import_mesh_stl", "the same, with room", || ending(many_read(349_525, LISTS_LIMIT), 6, &INFINITE), calls::import_mesh_stl, 10),
+    ("akf_import_mesh_stl", "a byte more than the count says", || ending(many_read(349_525, LISTS_LIMIT), 0, &[0]), calls::import_mesh_stl, 11),
+    ("akf_import_mesh_stl", "1,048,576 triangles, 52,428,884 bytes", || many_read(LISTS_LIMIT, LISTS_LIMIT), calls::import_mesh_stl, 6),
+    ("akf_import_mesh_stl", "52,428,885 bytes", || ending(many_read(LISTS_LIMIT, LISTS_LIMIT), 0, &[0]), calls::import_mesh_stl, 2),
+];
+
+// A file at its limits, with the answer that it is meant to show.
+fn file((name, how, make, ask, answer): &File) -> usize {
+    let case = make();
+    let plain = ask(&PLAIN, &case);
+    let said = match judge(&plain, &ask(&FACE, &case), false) {
+        Judged::Differs(what) => format!("differs: {what}"),
+        _ if plain.answer != Some(*answer) => format!("differs: both answer {:?}, and {answer} is meant", plain.answer),
+        _ => "same".to_string(),
+    };
+    println!("{name}, {how}, answer {answer}: {said}");
     (said != "same") as usize
 }

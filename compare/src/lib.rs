@@ -8,6 +8,7 @@ pub mod last;
 pub mod make;
 pub mod plain;
 pub mod rng;
+pub mod round;
 pub mod samples;
 pub mod shape;
 pub mod shrink;

@@ -102,6 +102,26 @@ fn samples() -> usize {
     failed
 }
 
+// The calls of document 02's No. 1.
+const FILES: [&str; 2] = ["akf_export_mesh_stl", "akf_import_mesh_stl"];
+
+fn asked_for(name: &str, only: &[String]) -> bool {
+    only.is_empty() || only.iter().any(|n| n == name || name[4..] == *n)
+}
+
+// Meshes written and read back: how many were lost.
+fn there_and_back(seed: u64, meshes: usize) -> usize {
+    let mut lost = 0;
+    for (side, name) in [(&PLAIN, "the plain reading"), (&FACE, "the C face")] {
+        if name == "the plain reading" || FILES.iter().all(|call| LANDED.contains(call)) {
+            let trips = compare::round::run(side, seed, meshes);
+            println!("written and read back by {name}: {}", trips.told());
+            lost += trips.lost;
+        }
+    }
+    lost
+}
+
 fn compare(seed: u64, cases: usize, only: &[String]) -> ExitCode {
     let mut differences = samples();
     #[cfg(rust)]
@@ -111,7 +131,7 @@ fn compare(seed: u64, cases: usize, only: &[String]) -> ExitCode {
     println!("seed {seed}; the plain reading of document 01 beside the Rust with ordered tables, and beside the C face");
     println!("{:31}{:>8} | {:>10} {:>7} {:>7} | {:>10} {:>7} {:>7} | seconds, answers", "call", "cases", "the Rust", "stated", "differ", "the face", "", "differ");
     let begun = Instant::now();
-    for c in COMPARED.iter().filter(|c| only.is_empty() || only.iter().any(|n| n == c.name || c.name[4..] == *n)) {
+    for c in COMPARED.iter().filter(|c| asked_for(c.name, only)) {
         let mut answers = BTreeMap::new();
         let cases = cases * c.times;
         let start = Instant::now();
@@ -122,9 +142,12 @@ fn compare(seed: u64, cases: usize, only: &[String]) -> ExitCode {
         face.explain(c, Beside::Face);
         differences += rust.differences + face.differences;
     }
+    if FILES.iter().any(|call| asked_for(call, only)) {
+        differences += there_and_back(seed, cases);
+    }
     #[cfg(rust)]
-    if only.is_empty() && cases >= 100_000 {
-        differences += compare::large::run();
+    if cases >= 100_000 {
+        differences += compare::large::run(&|call| asked_for(call, only));
     }
     println!("differences: {differences}, in {:.0} s", begun.elapsed().as_secs_f64());
     ExitCode::from((differences > 0) as u8)
@@ -141,13 +164,19 @@ fn mistaken(c: &Compared, side: &compare::calls::Side, case: &Case) -> Option<(S
     }
 }
 
+// How many meshes a side that misreads loses, written and read back. One that fails outright loses all.
+#[cfg(misread)]
+fn lost_by(side: &compare::calls::Side, seed: u64, meshes: usize) -> usize {
+    std::panic::catch_unwind(|| compare::round::run(side, seed, meshes)).map_or(meshes, |trips| trips.lost)
+}
+
 // How many of the cases show that a side misreads: to the Rust, and to the plain reading of document 01. Of those that are named, the smallest input
 // that shows it.
 #[cfg(misread)]
 fn misread(seed: u64, cases: usize, named: &[String]) -> ExitCode {
     use compare::misread::MISREAD;
     std::panic::set_hook(Box::new(|_| {}));
-    println!("seed {seed}; each misreading of document 01, and how many of {cases} cases of a call show it");
+    println!("seed {seed}; each misreading of documents 01 and 02, and how many of {cases} cases of a call show it");
     println!("{:28}{:31}{:>10}{:>10}  what is misread", "misreading", "call", "the Rust", "plain");
     let (mut asked, mut unseen) = (0, 0);
     for (name, why, side) in MISREAD.iter().filter(|m| named.is_empty() || named.iter().any(|n| n == m.0)) {
@@ -172,6 +201,11 @@ fn misread(seed: u64, cases: usize, named: &[String]) -> ExitCode {
                 let small = shrink(case, &|case| mistaken(c, side, case).is_some());
                 println!("  {}: {}\n{}", c.name, mistaken(c, side, &small).unwrap().0, show(&small));
             }
+        }
+        let lost = lost_by(side, seed, cases);
+        if lost > 0 {
+            println!("{name:28}{:31}{:>10}{lost:>10}  {}", "(written and read back)", "-", if seen { "" } else { why });
+            seen = true;
         }
         if !seen {
             println!("{name:28}{:31}{:>10}{:>10}  {why}: NOT SEEN", "", 0, 0);

@@ -2,7 +2,7 @@
 use crate::case::Case;
 use crate::plain::keys::{coords_of, head_of, key_of, neighbours, on_lattice};
 use crate::plain::table::{edges, near_surface, rows_ok, rows_of, settings_ok, lengths_ok};
-use crate::plain::{closed, march, mesh, LISTS_LIMIT, ROWS_LIMIT};
+use crate::plain::{closed, march, mesh, stl, FILE_LIMIT, LISTS_LIMIT, ROWS_LIMIT};
 use crate::rng::Rng;
 
 // Floats
@@ -945,6 +945,121 @@ pub fn for_normals(r: &mut Rng) -> Case {
         }
     }
     damaged(r, &mut c, &[spoil_shape]);
+    c
+}
+
+// Files of document 02's No. 1
+
+fn spoil_file_room(r: &mut Rng, c: &mut Case) {
+    let n = c.rooms[0];
+    c.rooms[0] = if r.one_in(300) {
+        // at the limit, and past it
+        FILE_LIMIT + r.below(2)
+    } else {
+        r.pick(&[0, 1, 80, 83, 84, n + 1, n.saturating_sub(1), n.saturating_sub(50), n + 50])
+    };
+}
+
+pub fn for_export(r: &mut Rng) -> Case {
+    let mut c = shape(r);
+    c.rooms = vec![room(r, 84 + 50 * c.triangle_count)];
+    if r.one_in(6) {
+        spoil_shape(r, &mut c);
+    }
+    damaged(r, &mut c, &[spoil_shape, spoil_file_room]);
+    c
+}
+
+// The file of a mesh.
+pub fn stl_file(r: &mut Rng) -> Vec<u8> {
+    let c = shape(r);
+    stl::file_of(&mesh::corners(c.places(), c.triangles()).expect("a mesh that is not damaged"))
+}
+
+// Header, normals and attributes, which are not looked at, may hold anything.
+fn fill_ignored(r: &mut Rng, file: &mut [u8]) {
+    if r.one_in(2) {
+        file[..80].iter_mut().for_each(|b| *b = r.next() as u8);
+        // some programs take a file that begins so for text
+        file[..5].copy_from_slice(r.pick(&[b"solid", b"STL: "]));
+    }
+    if r.one_in(2) {
+        for triangle in file[84..].chunks_exact_mut(50) {
+            triangle[..12].chunks_exact_mut(4).for_each(|part| part.copy_from_slice(&odd_float(r).to_le_bytes()));
+            triangle[48..].copy_from_slice(&r.pick(&[0u16, 1, 0x8000, 65_535]).to_le_bytes());
+        }
+    }
+}
+
+// Cut short or lengthened.
+fn spoil_length(r: &mut Rng, c: &mut Case) {
+    let n = c.file.len();
+    let less = r.below(n + 1);
+    let to = r.pick(&[n + 1, n.saturating_sub(1), n + 50, n.saturating_sub(50), 0, 80, 83, 84, 134, less, less]);
+    c.file.resize_with(to, || r.next() as u8);
+}
+
+// Another count: one off, one whose length is the file's where sums wrap at 32 bits, bytes the other way round, any.
+fn spoil_stl_count(r: &mut Rng, c: &mut Case) {
+    if let Some(field) = c.file.get_mut(80..84) {
+        let n = u32::from_le_bytes([field[0], field[1], field[2], field[3]]);
+        let any = r.next() as u32;
+        let count = r.pick(&[n.wrapping_add(1), n.wrapping_sub(1), n ^ 1 << 31, u32::MAX, n.swap_bytes(), 0, n.wrapping_mul(3), any]);
+        field.copy_from_slice(&count.to_le_bytes());
+    }
+}
+
+// One part of a triangle: a position's or a normal's, most often one at the ends of the range.
+fn spoil_part(r: &mut Rng, c: &mut Case) {
+    let triangles = c.file.len().saturating_sub(84) / 50;
+    if triangles > 0 {
+        let at = 84 + 50 * r.below(triangles) + 4 * r.below(12);
+        let ends = [f32::NAN, f32::INFINITY, f32::NEG_INFINITY, 100_000_008.0, -100_000_008.0, 1e8, -1e8, -0.0, f32::from_bits(1)];
+        let part = if r.one_in(3) { odd_float(r) } else { r.pick(&ends) };
+        c.file[at..at + 4].copy_from_slice(&part.to_le_bytes());
+    }
+}
+
+// Two triangles in each other's place.
+fn swap_triangles(r: &mut Rng, c: &mut Case) {
+    let triangles = c.file.len().saturating_sub(84) / 50;
+    if triangles > 0 {
+        let (a, b) = (84 + 50 * r.below(triangles), 84 + 50 * r.below(triangles));
+        (0..50).for_each(|i| c.file.swap(a + i, b + i));
+    }
+}
+
+// A file at the limit, and past it, most often with the count that fits it.
+fn spoil_file_limit(r: &mut Rng, c: &mut Case) {
+    c.file.resize(FILE_LIMIT + r.below(2), 0);
+    if !r.one_in(4) {
+        c.file[80..84].copy_from_slice(&(LISTS_LIMIT as u32).to_le_bytes());
+    }
+}
+
+fn spoil_file(r: &mut Rng, c: &mut Case) {
+    match r.below(8) {
+        0 | 1 => spoil_length(r, c),
+        2 | 3 => spoil_stl_count(r, c),
+        4 => swap_triangles(r, c),
+        5 if r.one_in(80) => spoil_file_limit(r, c),
+        5 if !c.file.is_empty() => {
+            let i = r.below(c.file.len());
+            c.file[i] = r.next() as u8;
+        }
+        _ => spoil_part(r, c),
+    }
+}
+
+pub fn for_import(r: &mut Rng) -> Case {
+    let mut c = Case { file: stl_file(r), ..Case::default() };
+    let vertices = (c.file.len() - 84) / 50 * 3;
+    fill_ignored(r, &mut c.file);
+    c.rooms = vec![room(r, vertices); 3];
+    if r.one_in(3) {
+        spoil_part(r, &mut c);
+    }
+    damaged(r, &mut c, &[spoil_file, spoil_file, spoil_rooms]);
     c
 }
 

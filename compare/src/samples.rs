@@ -1,9 +1,10 @@
-// Document 01's "Samples at the edges", and after them some of document 02's No. 14, held against a side. Truncation 1, maximum weight 100, size 1, confidence and weight 1
-// unless said.
+// Document 01's "Samples at the edges", and after them some of document 02's No. 14 and No. 1, held against a side.
+// Truncation 1, maximum weight 100, size 1, confidence and weight 1 unless said.
 use crate::calls::{self, Side};
 use crate::case::{Case, Outcome};
 use crate::plain::keys::{key_of, neighbours};
 use crate::plain::{ABSENT, DONE, FAR};
+use crate::shape::{Places, Triangles};
 
 pub struct Sample {
     pub what: &'static str,
@@ -81,6 +82,46 @@ fn closed_counts(side: &Side, c: &Case) -> [u64; 2] {
 // The vertex numbers of a triangle.
 fn triangle(o: &Outcome, i: usize) -> [u64; 3] {
     [8, 9, 10].map(|l: usize| o.lists[l].1[i])
+}
+
+// One triangle, (1,2,3), (-0,0,smallest subnormal), (100000000,-100000000,0.5), and its file, written out.
+const SUBNORMAL: f32 = f32::from_bits(1);
+const CORNERS: [[f32; 3]; 3] = [[1.0, 2.0, 3.0], [-0.0, 0.0, SUBNORMAL], [1e8, -1e8, 0.5]];
+const TRIANGLE: [u8; 54] = [
+    1, 0, 0, 0, // the count
+    0, 0, 0, 0, 0, 0, 0, 0, 0, 0, 0, 0, // the normal
+    0, 0, 0x80, 0x3f, 0, 0, 0, 0x40, 0, 0, 0x40, 0x40, //
+    0, 0, 0, 0x80, 0, 0, 0, 0, 1, 0, 0, 0, //
+    0x20, 0xbc, 0xbe, 0x4c, 0x20, 0xbc, 0xbe, 0xcc, 0, 0, 0, 0x3f, //
+    0, 0, // the attribute
+];
+
+fn triangle_file() -> Vec<u8> {
+    [&[0; 80][..], &TRIANGLE[..]].concat()
+}
+
+// The three corners as vertices, and these triangles of them.
+fn written(side: &Side, triangles: &[[u32; 3]], room: usize) -> (u32, usize, Vec<u8>) {
+    let lists = [0, 1, 2].map(|axis: usize| CORNERS.map(|v| v[axis]));
+    let numbers = [0, 1, 2].map(|corner: usize| triangles.iter().map(|t| t[corner]).collect::<Vec<_>>());
+    let p = Places { lists: lists.each_ref().map(|l| &l[..]), count: 3 };
+    let t = Triangles { lists: numbers.each_ref().map(|l| &l[..]), count: triangles.len() };
+    let (mut file, mut length) = (vec![7; room], 7);
+    let answer = (side.export_mesh_stl)(p, t, &mut file, &mut length);
+    (answer, length, file)
+}
+
+// The answer and the vertices by their bits; every place is told.
+fn read(side: &Side, file: &[u8], room: usize) -> (u32, usize, Vec<[u32; 3]>) {
+    let ([mut px, mut py, mut pz], mut vertices) = ([0; 3].map(|_| vec![7.0; room]), 7);
+    let answer = (side.import_mesh_stl)(file, [&mut px, &mut py, &mut pz], &mut vertices);
+    (answer, vertices, (0..room).map(|i| [px[i], py[i], pz[i]].map(f32::to_bits)).collect())
+}
+
+// With these bytes from a place on.
+fn changed(mut file: Vec<u8>, at: usize, bytes: &[u8]) -> Vec<u8> {
+    file[at..at + bytes.len()].copy_from_slice(bytes);
+    file
 }
 
 fn snap(side: &Side, at: [i32; 3]) -> [i32; 3] {
@@ -249,6 +290,57 @@ pub const SAMPLES: &[Sample] = &[
         holds: |s| {
             let refused = closed(s, &surrounded(), 23);
             closed_counts(s, &surrounded()) == [14, 24] && refused.answer == Some(6) && refused.numbers.iter().all(|n| n.1 == 0)
+        },
+    },
+    Sample {
+        what: "a triangle is 134 bytes: 80 zeros, 1, 12 zeros, nine floats, two zeros; zeros follow; room 133 refuses with 6",
+        calls: &["akf_export_mesh_stl"],
+        holds: |s| {
+            written(s, &[[0, 1, 2]], 137) == (DONE, 134, [triangle_file(), vec![0; 3]].concat())
+                && written(s, &[[0, 1, 2]], 133) == (6, 0, vec![0; 133])
+                && written(s, &[], 84) == (DONE, 84, vec![0; 84])
+        },
+    },
+    Sample {
+        what: "a triangle of one vertex three times is kept; one that names vertex 3 of 3 refuses with 10, without room too",
+        calls: &["akf_export_mesh_stl", "akf_import_mesh_stl"],
+        holds: |s| {
+            let (answer, _, file) = written(s, &[[1, 1, 1]], 134);
+            answer == DONE
+                && read(s, &file, 3) == (DONE, 3, vec![CORNERS[1].map(f32::to_bits); 3])
+                && written(s, &[[0, 1, 3]], 0) == (10, 0, Vec::new())
+        },
+    },
+    Sample {
+        what: "read, its corners come back by bits, -0 and a subnormal too, zeros after them; room 2 refuses with 6",
+        calls: &["akf_import_mesh_stl"],
+        holds: |s| {
+            let corners = CORNERS.map(|v| v.map(f32::to_bits));
+            read(s, &triangle_file(), 4) == (DONE, 3, [&corners[..], &[[0; 3]]].concat())
+                && read(s, &triangle_file(), 2) == (6, 0, vec![[0; 3]; 2])
+                && read(s, &[0; 84], 0) == (DONE, 0, Vec::new())
+        },
+    },
+    Sample {
+        what: "83 bytes, 133, 135, and 84 with a count of 1, of 2147483648 or of 4294967295: 11",
+        calls: &["akf_import_mesh_stl"],
+        holds: |s| {
+            let count = |n: u32| changed(vec![0; 84], 80, &n.to_le_bytes());
+            let cut = |n: usize| [triangle_file(), vec![0]].concat()[..n].to_vec();
+            let bad = [vec![0; 83], cut(133), cut(135), count(1), count(1 << 31), count(u32::MAX)];
+            bad.iter().all(|file| read(s, file, 3) == (11, 0, vec![[0; 3]; 3]))
+        },
+    },
+    Sample {
+        what: "a position of NaN, of infinity or of 100,000,008: 10, without room too; NaN normals, attribute 65535, any header: taken",
+        calls: &["akf_import_mesh_stl"],
+        holds: |s| {
+            let with = |at: usize, x: f32| changed(triangle_file(), at, &x.to_le_bytes());
+            let ignored = changed(changed([&[0xff; 80][..], &TRIANGLE[..]].concat(), 132, &[0xff; 2]), 84, &[0xff; 12]);
+            [f32::NAN, f32::INFINITY, 100_000_008.0].iter().all(|&x| {
+                (96..132).step_by(4).all(|at| read(s, &with(at, x), 0) == (10, 0, Vec::new()))
+                    && (84..96).step_by(4).all(|at| read(s, &with(at, x), 3).0 == DONE)
+            }) && read(s, &ignored, 3) == read(s, &triangle_file(), 3)
         },
     },
 ];

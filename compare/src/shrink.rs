@@ -71,16 +71,38 @@ fn drop_edges(c: &mut Case, a: usize, b: usize) {
     }
 }
 
+// Whole triangles of a file, out of its count too where it had them.
+fn drop_file_triangles(c: &mut Case, a: usize, b: usize) {
+    let before = file_triangles(c);
+    without(&mut c.file, 84 + 50 * a, 84 + 50 * b);
+    let gone = before - file_triangles(c);
+    if let Some(field) = c.file.get_mut(80..84) {
+        let count = u32::from_le_bytes([field[0], field[1], field[2], field[3]]);
+        field.copy_from_slice(&count.wrapping_sub(gone as u32).to_le_bytes());
+    }
+}
+
+fn file_triangles(c: &Case) -> usize {
+    file_bytes(c).saturating_sub(84) / 50
+}
+
+// Of a file that is not made smaller, since trying it takes too long, none.
+fn file_bytes(c: &Case) -> usize {
+    if c.file.len() > 100_000 { 0 } else { c.file.len() }
+}
+
 // One way of taking places out, and how many there are.
 type Taking = (fn(&mut Case, usize, usize), fn(&Case) -> usize);
 
-const TAKINGS: [Taking; 6] = [
+const TAKINGS: [Taking; 8] = [
     (drop_rows, |c| c.keys.len().max(c.distances.len()).max(c.weights.len())),
     (drop_readings, |c| c.batch_keys.len().max(c.batch_distances.len())),
     (drop_vertices, |c| c.vertices[0].len().max(c.vertices[1].len())),
     (drop_triangles, |c| c.triangles[0].len().max(c.triangles[1].len())),
     (drop_edges, |c| c.edges[0].len().max(c.edges[1].len())),
     (|c, a, b| without(&mut c.groups, a, b), |c| c.groups.len()),
+    (drop_file_triangles, file_triangles),
+    (|c, a, b| without(&mut c.file, a, b), file_bytes),
 ];
 
 fn floats(c: &mut Case) -> Vec<&mut f32> {
@@ -160,6 +182,11 @@ pub fn shrink(mut c: Case, shows: &dyn Fn(&Case) -> bool) -> Case {
                     better |= try_it(&mut c, s);
                 }
             }
+        }
+        for i in (0..file_bytes(&c)).filter(|&i| c.file[i] != 0).collect::<Vec<_>>() {
+            let mut s = c.clone();
+            s.file[i] = 0;
+            better |= try_it(&mut c, s);
         }
         if !c.keys.is_empty() && !c.keys.contains(&c.key) {
             let mut s = c.clone();
@@ -246,5 +273,10 @@ pub fn show(c: &Case) -> String {
         writeln!(t, "    edges: {}", c.edge_count).unwrap();
     }
     list(&mut t, "groups", &c.groups, |n| n.to_string());
+    if !c.file.is_empty() {
+        writeln!(t, "    file: {} bytes, zero but for those named", c.file.len()).unwrap();
+        let others: Vec<usize> = (0..c.file.len()).filter(|&i| c.file[i] != 0).collect();
+        list(&mut t, "byte", &others, |i| format!("{i}:{:02x}", c.file[i]));
+    }
     t
 }

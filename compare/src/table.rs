@@ -71,6 +71,9 @@ pub const COMPARED: &[Compared] = &[
     beside!(surface_area, for_shape),
     beside!(bounding_box, for_shape),
     beside!(mesh_stats, for_normals),
+    // the Rust's writer is not in the folder, and it has no reader: the plain reading is the judge
+    alone!(1, export_mesh_stl, for_export),
+    alone!(1, import_mesh_stl, for_import),
 ];
 
 pub enum Judged {

@@ -148,20 +148,33 @@ fn places_ok(p: Places) -> bool {
     one_set(&p.lists.map(|l| l.len()), LISTS_LIMIT) && p.count <= p.lists[0].len()
 }
 
+// Document 01's range of vertices.
+pub fn in_range(vertices: &[[f32; 3]]) -> Done<()> {
+    need(vertices.iter().flatten().all(|v| v.is_finite() && v.abs() <= 100_000_000.0), 10)
+}
+
 fn vertices(p: Places) -> Done<Vec<[f32; 3]>> {
     let all: Vec<[f32; 3]> = (0..p.count).map(|i| p.lists.map(|l| l[i])).collect();
-    need(all.iter().flatten().all(|v| v.is_finite() && v.abs() <= 100_000_000.0), 10)?;
+    in_range(&all)?;
     Ok(all)
 }
 
-fn area_of(p: Places, t: Triangles) -> Done<f32> {
-    need(places_ok(p) && one_set(&t.lists.map(|l| l.len()), LISTS_LIMIT) && t.count <= t.lists[0].len(), 2)?;
+pub fn shape_ok(p: Places, t: Triangles) -> bool {
+    places_ok(p) && one_set(&t.lists.map(|l| l.len()), LISTS_LIMIT) && t.count <= t.lists[0].len()
+}
+
+// The corners of each triangle: all vertices are tested, and the numbers that each triangle names.
+pub fn corners(p: Places, t: Triangles) -> Done<Vec<[[f32; 3]; 3]>> {
     let vertices = vertices(p)?;
     let triangles: Vec<[usize; 3]> = (0..t.count).map(|i| t.lists.map(|l| l[i] as usize)).collect();
     need(triangles.iter().flatten().all(|&v| v < p.count), 10)?;
+    Ok(triangles.into_iter().map(|numbers| numbers.map(|v| vertices[v])).collect())
+}
+
+fn area_of(p: Places, t: Triangles) -> Done<f32> {
+    need(shape_ok(p, t), 2)?;
     let mut area = 0.0f32;
-    for corners in triangles {
-        let [v0, v1, v2] = corners.map(|c| vertices[c]);
+    for [v0, v1, v2] in corners(p, t)? {
         let e1 = [0, 1, 2].map(|i| v1[i] - v0[i]);
         let e2 = [0, 1, 2].map(|i| v2[i] - v0[i]);
         let cross = [e1[1] * e2[2] - e1[2] * e2[1], e1[2] * e2[0] - e1[0] * e2[2], e1[0] * e2[1] - e1[1] * e2[0]];

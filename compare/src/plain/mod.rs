@@ -1,6 +1,7 @@
-// A plain reading of document 01, written from its text alone: lists are searched from the front and everything is worked out
-// by the sentence that asks for it. It judges what the Rust does not settle: refusals, rooms, and every place of every lent list.
-// The functions `pub fn` of this module's files that `calls.rs` names take what the C face takes, slices for pointers and lengths.
+// A plain reading of document 01, and of what document 02 adds to it, written from their text alone: lists are searched
+// from the front and everything is worked out by the sentence that asks for it. It judges what the Rust does not
+// settle: refusals, rooms, and every place of every lent list. The functions `pub fn` of this module's files that
+// `calls.rs` names take what the C face takes, slices for pointers and lengths.
 pub mod closed;
 pub mod fuse;
 pub mod keys;
@@ -9,6 +10,7 @@ pub mod marched;
 pub mod mesh;
 pub mod root;
 pub mod snap;
+pub mod stl;
 pub mod table;
 
 pub const DONE: u32 = 0;
@@ -17,6 +19,8 @@ pub const ABSENT: u32 = 101;
 
 pub const ROWS_LIMIT: usize = 65_536;
 pub const LISTS_LIMIT: usize = 1_048_576;
+// of a list of bytes
+pub const FILE_LIMIT: usize = 52_428_884;
 
 // The work, or document 01's number of a refusal.
 pub type Done<T> = Result<T, u32>;

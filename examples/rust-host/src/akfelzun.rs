@@ -149,10 +149,40 @@ mod face {
             max_y: *mut f32,
             max_z: *mut f32,
         ) -> u32;
+        pub fn akf_export_mesh_stl(
+            px: *const f32,
+            px_len: usize,
+            py: *const f32,
+            py_len: usize,
+            pz: *const f32,
+            pz_len: usize,
+            vertices: usize,
+            t0: *const u32,
+            t0_len: usize,
+            t1: *const u32,
+            t1_len: usize,
+            t2: *const u32,
+            t2_len: usize,
+            triangles: usize,
+            file: *mut u8,
+            file_len: usize,
+            written: *mut usize,
+        ) -> u32;
+        pub fn akf_import_mesh_stl(
+            file: *const u8,
+            file_len: usize,
+            px: *mut f32,
+            px_len: usize,
+            py: *mut f32,
+            py_len: usize,
+            pz: *mut f32,
+            pz_len: usize,
+            vertices: *mut usize,
+        ) -> u32;
     }
 }
 
-/// Why a call is refused, with document 01's numbers.
+/// Why a call is refused, with the numbers of documents 01 and 02.
 #[derive(Debug, Clone, Copy, PartialEq, Eq)]
 pub enum Refusal {
     Setting = 1,
@@ -165,9 +195,10 @@ pub enum Refusal {
     NoWaitingPlace = 8,
     OutOfRange = 9,
     BadVertex = 10,
+    BadStlLength = 11,
 }
 
-const REFUSALS: [Refusal; 10] = [
+const REFUSALS: [Refusal; 11] = [
     Refusal::Setting,
     Refusal::Lengths,
     Refusal::BadRow,
@@ -178,7 +209,11 @@ const REFUSALS: [Refusal; 10] = [
     Refusal::NoWaitingPlace,
     Refusal::OutOfRange,
     Refusal::BadVertex,
+    Refusal::BadStlLength,
 ];
+
+/// The most places that a list of positions may have.
+const MOST_PLACES: usize = 1_048_576;
 
 /// What a call answers.
 #[derive(Debug, Clone, Copy, PartialEq)]
@@ -471,14 +506,13 @@ impl Table {
     }
 }
 
-impl Mesh {
-    pub fn area(&self) -> Answer<f32> {
-        let [px, py, pz] = &self.positions;
-        let [t0, t1, t2] = &self.triangles;
-        let mut area = 0.0;
-        // SAFETY: each pointer is a list's own, with its length.
-        let number = unsafe {
-            face::akf_surface_area(
+/// A call on a mesh that is read: its lists of vertices and triangles with their counts, then the rest.
+macro_rules! on_mesh {
+    ($call:ident, $mesh:expr, $($rest:expr),*) => {{
+        let ([px, py, pz], [t0, t1, t2]) = (&$mesh.positions, &$mesh.triangles);
+        // SAFETY: each pointer is a list's own, with its length, or to a local; no two lists overlap.
+        unsafe {
+            face::$call(
                 px.as_ptr(),
                 px.len(),
                 py.as_ptr(),
@@ -493,9 +527,16 @@ impl Mesh {
                 t2.as_ptr(),
                 t2.len(),
                 t0.len(),
-                &mut area,
+                $($rest),*
             )
-        };
+        }
+    }};
+}
+
+impl Mesh {
+    pub fn area(&self) -> Answer<f32> {
+        let mut area = 0.0;
+        let number = on_mesh!(akf_surface_area, self, &mut area);
         answer(number, area)
     }
 
@@ -523,4 +564,39 @@ impl Mesh {
         };
         answer(number, ([x, y, z], [u, v, w]))
     }
+
+    /// The mesh as a file of binary STL.
+    pub fn stl(&self) -> Answer<Vec<u8>> {
+        let (mut file, mut written) = (vec![0; 84 + 50 * self.triangles[0].len()], 0);
+        let (bytes, length) = (file.as_mut_ptr(), file.len());
+        let number = on_mesh!(akf_export_mesh_stl, self, bytes, length, &mut written);
+        file.truncate(written);
+        answer(number, file)
+    }
+}
+
+/// The vertices of a file of binary STL, three for each triangle.
+pub fn read_stl(file: &[u8]) -> Answer<[Vec<f32>; 3]> {
+    let places = || vec![0.0f32; (file.len() / 50 * 3).min(MOST_PLACES)];
+    let [mut px, mut py, mut pz] = [places(), places(), places()];
+    let mut vertices = 0;
+    // SAFETY: each pointer is a list's own, with its length; no two lists overlap.
+    let number = unsafe {
+        face::akf_import_mesh_stl(
+            file.as_ptr(),
+            file.len(),
+            px.as_mut_ptr(),
+            px.len(),
+            py.as_mut_ptr(),
+            py.len(),
+            pz.as_mut_ptr(),
+            pz.len(),
+            &mut vertices,
+        )
+    };
+    let cut = |mut list: Vec<f32>| {
+        list.truncate(vertices);
+        list
+    };
+    answer(number, [cut(px), cut(py), cut(pz)])
 }

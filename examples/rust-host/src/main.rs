@@ -1,8 +1,8 @@
 //! What a plug-in in Rust does. Two passes over a small last are fused, the surface is meshed, and counts, area and box are
-//! printed; then the mesh that closes, refusals and what is far.
+//! printed; then the mesh that closes, the same as an STL file and read back, refusals and what is far.
 mod akfelzun;
 
-use akfelzun::{key, root, Answer, Mesh, Room, Settings, Table};
+use akfelzun::{key, read_stl, root, Answer, Mesh, Room, Settings, Table};
 use std::collections::BTreeMap;
 
 /// How far a cell lies outside a ball.
@@ -53,6 +53,34 @@ fn shared_sides(mesh: &Mesh) -> (usize, usize) {
     (shared, triangles_of.len())
 }
 
+/// How many vertices that were read are the corners of the mesh, bit for bit.
+fn same_corners(mesh: &Mesh, read: &[Vec<f32>; 3]) -> usize {
+    let is_corner = |v: &usize| {
+        let number = mesh.triangles[v % 3][v / 3] as usize;
+        (0..3).all(|axis| read[axis][*v].to_bits() == mesh.positions[axis][number].to_bits())
+    };
+    (0..read[0].len()).filter(is_corner).count()
+}
+
+/// The mesh as a file, the file read back, and what is said of one that lacks a byte.
+fn tell_file(mesh: &Mesh) {
+    let Answer::Done(file) = mesh.stl() else {
+        unreachable!("a mesh of a table is in range")
+    };
+    if let Answer::Done(read) = read_stl(&file) {
+        println!(
+            "as STL: {} bytes; read back: vertices {}, the mesh's own {}",
+            file.len(),
+            read[0].len(),
+            same_corners(mesh, &read)
+        );
+    }
+    println!(
+        "cut short by a byte: {:?}",
+        read_stl(&file[..file.len() - 1]).refusal()
+    );
+}
+
 fn main() {
     let settings = Settings {
         truncation: 2.0,
@@ -97,14 +125,17 @@ fn main() {
         triangles,
     };
     match table.closed_mesh(room(262144)) {
-        Answer::Done(mesh) => println!(
-            "closed mesh: vertices {}, triangles {}, sides of two triangles {} of {}, area {:.3?}",
-            mesh.positions[0].len(),
-            mesh.triangles[0].len(),
-            shared_sides(&mesh).0,
-            shared_sides(&mesh).1,
-            mesh.area()
-        ),
+        Answer::Done(mesh) => {
+            println!(
+                "closed mesh: vertices {}, triangles {}, sides of two triangles {} of {}, area {:.3?}",
+                mesh.positions[0].len(),
+                mesh.triangles[0].len(),
+                shared_sides(&mesh).0,
+                shared_sides(&mesh).1,
+                mesh.area()
+            );
+            tell_file(&mesh);
+        }
         other => println!("closed mesh: {:?}", other.refusal()),
     }
     println!(
