@@ -77,7 +77,7 @@ module _ {A : Type 0} (v : A) (l l' xs : List A) (long : length l' ≡ length l)
 
 -- ---- answers that count
 
-never : (why : Refusal) (n : ℕ) → Refused why ≡ Count n → ⊥
+pub never : (why : Refusal) (n : ℕ) → Refused why ≡ Count n → ⊥
 never why n e = let z : _≡_ {A = ℕ} 0 1 = cc in omega arith
 
 pub passed-if : (b : Bool) (x : Listed) (why : Refusal) (k : ℕ) → cond b x (Refused why) ≡ Count k → (b ≡ true) × (x ≡ Count k)
@@ -106,7 +106,8 @@ count-most (Count k) most f = f k refl
 count-most (Refused why) most f = zero-le
 
 module _ (xs ys zs : List Float) (n : ℕ) (is js ks : List ℕ) (m room : ℕ) where
-  abbrev setsFit : Bool
+  -- the lengths of all lent lists pass
+  abbrev pub setsFit : Bool
   setsFit = setOk (length xs) (length ys) (length zs) n && (setOk (length is) (length js) (length ks) m && fileFits room)
 
   -- lengths that pass
@@ -182,6 +183,9 @@ module _ (file : List ℕ) where
   pub length-right : length file ≡ 84 + 50 * statedIn file → lengthBad file ≡ false
   length-right e = rw (le-ltb (length file) 84 (omega arith), eq-eqb (length file) (84 + 50 * statedIn file) e)
 
+  pub right-long : lengthBad file ≡ false → length file ≡ 84 + 50 * statedIn file
+  right-long e = eqb-true (length file) (84 + 50 * statedIn file) (yes refl (or-second (ltb (length file) 84) _ e))
+
 -- a file that is read is as long as its count says, its corners pass, and they have room in three equal lists
 pub record Readable (file : List ℕ) (a b c k : ℕ) : Type 0 where
   pub stated : statedFor file a b c ≡ Count (statedIn file)
@@ -193,7 +197,8 @@ pub record Readable (file : List ℕ) (a b c k : ℕ) : Type 0 where
   pub counted : k ≡ 3 * statedIn file
 
 module _ (file : List ℕ) (a b c : ℕ) where
-  abbrev listsFit : Bool
+  -- the lengths of the list of bytes and of the three lists pass
+  abbrev pub listsFit : Bool
   listsFit = fileFits (length file) && setOk a b c 0
 
   -- what the file states, where it is not refused for a length
@@ -203,9 +208,6 @@ module _ (file : List ℕ) (a b c : ℕ) where
       let p = passed-if listsFit _ Lengths n e in
       let q = passed-unless (lengthBad file) _ BadLength n (p .1) in
       (p .0, q .0, counts (statedIn file) n (q .1))
-
-  right-long : lengthBad file ≡ false → length file ≡ 84 + 50 * statedIn file
-  right-long e = eqb-true (length file) (84 + 50 * statedIn file) (yes refl (or-second (ltb (length file) 84) _ e))
 
   -- as many triangles as are stated lie in the file, none where it is refused
   pub stated-asks : (n : ℕ) → n ≡ countOf (statedFor file a b c) → (50 * n ≤ length file - 84) × (n ≤ 1048576)
@@ -217,7 +219,7 @@ module _ (file : List ℕ) (a b c : ℕ) where
           → (50 * n ≤ length file - 84) × (n ≤ 1048576)
       asks (Count k) e f =
           let r = f k refl in
-          let long = right-long (r .1) in
+          let long = right-long file (r .1) in
           let most = leb-true (length file) 52428884 (and-first _ _ (r .0)) in
           (omega (arith, e, r .2), omega (arith, e, r .2))
       asks (Refused why) e f = rw e (zero-le, zero-le)
@@ -266,7 +268,7 @@ module _ (file : List ℕ) (a b c : ℕ) where
       let t = and-second (fileFits (length file)) _ (p .0) in
       record {
         stated = rw (p .0, q .0);
-        long = right-long (q .0);
+        long = right-long file (q .0);
         passed = yes refl (r .0);
         second = sym (eqb-true a b (and-first _ _ t));
         third = sym (eqb-true a c (and-first _ _ (and-second (eqb a b) _ t)));

@@ -6,7 +6,7 @@ use mathlib.Core.Path.{_≡_, refl, sym, ap, _∙_}
 use mathlib.Core.Logic.{_⊎_, inl, inr, ⊎-elim, _↔_}
 use mathlib.Core.Bool.{Bool, true, false, cond, not, _&&_, true≢false, false≢true}
 use mathlib.Core.List.{List, [], _∷_, List·Memᴰ·head, List·Memᴰ·tail, List·Memᴰ·not-nil, List·Memᴰ·cases-cons}
-use borrow.Author.Tests.{leb-false, lt-leb, eqb-true, eqb-false, ltb-true}
+use borrow.Author.Tests.{leb-false, lt-leb, eqb-false, ltb-true}
 use lib.Dec.{leb, ltb, lit<}
 use lib.ListN.{length}
 use lib.Ieee.{Float}
@@ -17,12 +17,12 @@ use Rattle.lists.specs.Lists.{_∈_}
 use Rattle.lists.specs.Listing.{listedNumber}
 use Rattle.lists.specs.declared.Listed.{Listed}
 use Rattle.lists.specs.declared.Listed.the-variants.{Count, Refused}
-use Rattle.lists.proofs.Bools.{yes, no, cases, and-first, and-second, or-cases, or-second}
+use Rattle.lists.proofs.Bools.{yes, no, cases, and-first, and-second, or-cases}
 use Rattle.floats.proofs.Values.{le-or-lt}
-use Rattle.corners.specs.Corners.{setOk, every, vertexOk, verticesIn, triangleOk, trianglesIn}
+use Rattle.corners.specs.Corners.{every, vertexOk, verticesIn, triangleOk, trianglesIn}
 use Rattle.stl.specs.Files.{statedIn, lengthBad, cornersBad, facetsIn, cornersOf}
-use Rattle.stl.specs.Calls.{fileFits, exportAnswer, importAnswer}
-use Rattle.stl.proofs.AnswerLaws.{length-short, length-other, length-right}
+use Rattle.stl.specs.Calls.{exportAnswer, importAnswer}
+use Rattle.stl.proofs.AnswerLaws.{never, setsFit, listsFit, length-short, length-other, length-right, right-long}
 
 -- ---- a test that fails
 
@@ -75,28 +75,25 @@ fails-either f l g m (inr p) = rw (fails-not g m p) (and-none (every f l))
 other : (why why' : Refusal) → numberOf why < numberOf why' → Refused why ≡ Refused why' → ⊥
 other why why' h e = let same : numberOf why ≡ numberOf why' = ap listedNumber e in omega arith
 
-never : (why : Refusal) (n : ℕ) → Count n ≡ Refused why → ⊥
-never why n e = let z : _≡_ {A = ℕ} 1 0 = cc in omega arith
-
 -- a mesh is tested for lengths, for vertices and for room
 abbrev meshLadder : Bool → Bool → Bool → ℕ → Listed
 meshLadder a b c n = cond a (cond b (cond c (Count n) (Refused NoPlace)) (Refused BadVertex)) (Refused Lengths)
 
 mesh-2 : (a b c : Bool) (n : ℕ) → (meshLadder a b c n ≡ Refused Lengths) ↔ (a ≡ false)
 mesh-2 false b c n = (λ e. refl, λ e. refl)
-mesh-2 true true true n = (λ e. absurd (never Lengths n e), λ e. absurd (true≢false e))
+mesh-2 true true true n = (λ e. absurd (never Lengths n (sym e)), λ e. absurd (true≢false e))
 mesh-2 true true false n = (λ e. absurd (other Lengths NoPlace (lit< tt) (sym e)), λ e. absurd (true≢false e))
 mesh-2 true false c n = (λ e. absurd (other Lengths BadVertex (lit< tt) (sym e)), λ e. absurd (true≢false e))
 
 mesh-10 : (a b c : Bool) (n : ℕ) → (meshLadder a b c n ≡ Refused BadVertex) ↔ ((a ≡ true) × (b ≡ false))
 mesh-10 false b c n = (λ e. absurd (other Lengths BadVertex (lit< tt) e), λ p. absurd (false≢true (p .0)))
-mesh-10 true true true n = (λ e. absurd (never BadVertex n e), λ p. absurd (true≢false (p .1)))
+mesh-10 true true true n = (λ e. absurd (never BadVertex n (sym e)), λ p. absurd (true≢false (p .1)))
 mesh-10 true true false n = (λ e. absurd (other NoPlace BadVertex (lit< tt) e), λ p. absurd (true≢false (p .1)))
 mesh-10 true false c n = (λ e. (refl, refl), λ p. refl)
 
 mesh-6 : (a b c : Bool) (n : ℕ) → (meshLadder a b c n ≡ Refused NoPlace) ↔ ((a ≡ true) × (b ≡ true) × (c ≡ false))
 mesh-6 false b c n = (λ e. absurd (other Lengths NoPlace (lit< tt) e), λ p. absurd (false≢true (p .0)))
-mesh-6 true true true n = (λ e. absurd (never NoPlace n e), λ p. absurd (true≢false (p .2)))
+mesh-6 true true true n = (λ e. absurd (never NoPlace n (sym e)), λ p. absurd (true≢false (p .2)))
 mesh-6 true true false n = (λ e. (refl, refl, refl), λ p. refl)
 mesh-6 true false c n = (λ e. absurd (other NoPlace BadVertex (lit< tt) (sym e)), λ p. absurd (false≢true (p .1)))
 
@@ -108,42 +105,38 @@ file-2 : (a l v c : Bool) (n : ℕ) → (fileLadder a l v c n ≡ Refused Length
 file-2 false l v c n = (λ e. refl, λ e. refl)
 file-2 true true v c n = (λ e. absurd (other Lengths BadLength (lit< tt) (sym e)), λ e. absurd (true≢false e))
 file-2 true false true c n = (λ e. absurd (other Lengths BadVertex (lit< tt) (sym e)), λ e. absurd (true≢false e))
-file-2 true false false true n = (λ e. absurd (never Lengths n e), λ e. absurd (true≢false e))
+file-2 true false false true n = (λ e. absurd (never Lengths n (sym e)), λ e. absurd (true≢false e))
 file-2 true false false false n = (λ e. absurd (other Lengths NoPlace (lit< tt) (sym e)), λ e. absurd (true≢false e))
 
 file-11 : (a l v c : Bool) (n : ℕ) → (fileLadder a l v c n ≡ Refused BadLength) ↔ ((a ≡ true) × (l ≡ true))
 file-11 false l v c n = (λ e. absurd (other Lengths BadLength (lit< tt) e), λ p. absurd (false≢true (p .0)))
 file-11 true true v c n = (λ e. (refl, refl), λ p. refl)
 file-11 true false true c n = (λ e. absurd (other BadVertex BadLength (lit< tt) e), λ p. absurd (false≢true (p .1)))
-file-11 true false false true n = (λ e. absurd (never BadLength n e), λ p. absurd (false≢true (p .1)))
+file-11 true false false true n = (λ e. absurd (never BadLength n (sym e)), λ p. absurd (false≢true (p .1)))
 file-11 true false false false n = (λ e. absurd (other NoPlace BadLength (lit< tt) e), λ p. absurd (false≢true (p .1)))
 
 file-10 : (a l v c : Bool) (n : ℕ) → (fileLadder a l v c n ≡ Refused BadVertex) ↔ ((a ≡ true) × (l ≡ false) × (v ≡ true))
 file-10 false l v c n = (λ e. absurd (other Lengths BadVertex (lit< tt) e), λ p. absurd (false≢true (p .0)))
 file-10 true true v c n = (λ e. absurd (other BadVertex BadLength (lit< tt) (sym e)), λ p. absurd (true≢false (p .1)))
 file-10 true false true c n = (λ e. (refl, refl, refl), λ p. refl)
-file-10 true false false true n = (λ e. absurd (never BadVertex n e), λ p. absurd (false≢true (p .2)))
+file-10 true false false true n = (λ e. absurd (never BadVertex n (sym e)), λ p. absurd (false≢true (p .2)))
 file-10 true false false false n = (λ e. absurd (other NoPlace BadVertex (lit< tt) e), λ p. absurd (false≢true (p .2)))
 
 file-6 : (a l v c : Bool) (n : ℕ) → (fileLadder a l v c n ≡ Refused NoPlace) ↔ ((a ≡ true) × (l ≡ false) × (v ≡ false) × (c ≡ false))
 file-6 false l v c n = (λ e. absurd (other Lengths NoPlace (lit< tt) e), λ p. absurd (false≢true (p .0)))
 file-6 true true v c n = (λ e. absurd (other NoPlace BadLength (lit< tt) (sym e)), λ p. absurd (true≢false (p .1)))
 file-6 true false true c n = (λ e. absurd (other NoPlace BadVertex (lit< tt) (sym e)), λ p. absurd (true≢false (p .2)))
-file-6 true false false true n = (λ e. absurd (never NoPlace n e), λ p. absurd (true≢false (p .3)))
+file-6 true false false true n = (λ e. absurd (never NoPlace n (sym e)), λ p. absurd (true≢false (p .3)))
 file-6 true false false false n = (λ e. (refl, refl, refl, refl), λ p. refl)
 
 -- ---- writing
 
 module _ (xs ys zs : List Float) (n : ℕ) (is js ks : List ℕ) (m room : ℕ) where
-  -- the lengths of all lent lists pass, and the vertices and triangles do
-  abbrev pub LengthsPass : Type 0
-  LengthsPass = setOk (length xs) (length ys) (length zs) n && (setOk (length is) (length js) (length ks) m && fileFits room) ≡ true
-
   abbrev passes : Bool
   passes = every vertexOk (verticesIn xs ys zs n) && every (triangleOk n) (trianglesIn is js ks m)
 
   abbrev lengths : Bool
-  lengths = setOk (length xs) (length ys) (length zs) n && (setOk (length is) (length js) (length ks) m && fileFits room)
+  lengths = setsFit xs ys zs n is js ks m room
 
   ladder : exportAnswer xs ys zs n is js ks m room ≡ meshLadder lengths passes (leb (84 + 50 * m) room) (84 + 50 * m)
   unfolding exportAnswer
@@ -155,7 +148,7 @@ module _ (xs ys zs : List Float) (n : ℕ) (is js ks : List ℕ) (m room : ℕ) 
 
   -- 10: exactly when they pass, and some vertex is out of range or some triangle names no vertex
   pub export-vertex : (exportAnswer xs ys zs n is js ks m room ≡ Refused BadVertex) ↔
-      (LengthsPass × (Fails vertexOk (verticesIn xs ys zs n) ⊎ Fails (triangleOk n) (trianglesIn is js ks m)))
+      ((lengths ≡ true) × (Fails vertexOk (verticesIn xs ys zs n) ⊎ Fails (triangleOk n) (trianglesIn is js ks m)))
   export-vertex =
       rw ladder
       (let on = mesh-10 lengths passes (leb (84 + 50 * m) room) (84 + 50 * m) in (
@@ -165,7 +158,7 @@ module _ (xs ys zs : List Float) (n : ℕ) (is js ks : List ℕ) (m room : ℕ) 
 
   -- 6: exactly when all pass, and the file is shorter than 84 + 50 for each triangle
   pub export-room : (exportAnswer xs ys zs n is js ks m room ≡ Refused NoPlace) ↔
-      (LengthsPass × (every vertexOk (verticesIn xs ys zs n) && every (triangleOk n) (trianglesIn is js ks m) ≡ true) × (room < 84 + 50 * m))
+      ((lengths ≡ true) × (every vertexOk (verticesIn xs ys zs n) && every (triangleOk n) (trianglesIn is js ks m) ≡ true) × (room < 84 + 50 * m))
   export-room =
       rw ladder
       (let on = mesh-6 lengths passes (leb (84 + 50 * m) room) (84 + 50 * m) in (
@@ -176,20 +169,16 @@ module _ (xs ys zs : List Float) (n : ℕ) (is js ks : List ℕ) (m room : ℕ) 
 -- ---- reading
 
 module _ (file : List ℕ) (a b c : ℕ) where
-  abbrev listsFit : Bool
-  listsFit = fileFits (length file) && setOk a b c 0
+  abbrev lists : Bool
+  lists = listsFit file a b c
 
-  -- the lengths of the list of bytes and of the three lists pass
-  abbrev pub ListsPass : Type 0
-  ListsPass = fileFits (length file) && setOk a b c 0 ≡ true
-
-  steps : importAnswer file a b c ≡ fileLadder listsFit (lengthBad file) (cornersBad file) (leb (3 * statedIn file) a) (3 * statedIn file)
+  steps : importAnswer file a b c ≡ fileLadder lists (lengthBad file) (cornersBad file) (leb (3 * statedIn file) a) (3 * statedIn file)
   unfolding importAnswer
   steps = refl
 
   -- 2: exactly when the lengths don't pass
-  pub import-lengths : (importAnswer file a b c ≡ Refused Lengths) ↔ (listsFit ≡ false)
-  import-lengths = rw steps (file-2 listsFit (lengthBad file) (cornersBad file) (leb (3 * statedIn file) a) (3 * statedIn file))
+  pub import-lengths : (importAnswer file a b c ≡ Refused Lengths) ↔ (lists ≡ false)
+  import-lengths = rw steps (file-2 lists (lengthBad file) (cornersBad file) (leb (3 * statedIn file) a) (3 * statedIn file))
 
   bad-length : lengthBad file ≡ true → (length file < 84) ⊎ (length file ≡ 84 + 50 * statedIn file → ⊥)
   bad-length e =
@@ -202,32 +191,29 @@ module _ (file : List ℕ) (a b c : ℕ) where
   length-bad (inl h) = length-short file h
   length-bad (inr f) = ⊎-elim (λ h. length-other file h f) (λ h. length-short file h) (le-or-lt 84 (length file))
 
-  good-length : lengthBad file ≡ false → length file ≡ 84 + 50 * statedIn file
-  good-length e = eqb-true (length file) (84 + 50 * statedIn file) (yes refl (or-second (ltb (length file) 84) _ e))
-
   -- 11: exactly when they pass, and the file is under 84 bytes or not 84 + 50n long for its count n
-  pub import-length : (importAnswer file a b c ≡ Refused BadLength) ↔ (ListsPass × ((length file < 84) ⊎ (length file ≡ 84 + 50 * statedIn file → ⊥)))
+  pub import-length : (importAnswer file a b c ≡ Refused BadLength) ↔ ((lists ≡ true) × ((length file < 84) ⊎ (length file ≡ 84 + 50 * statedIn file → ⊥)))
   import-length =
       rw steps
-      (let on = file-11 listsFit (lengthBad file) (cornersBad file) (leb (3 * statedIn file) a) (3 * statedIn file) in
+      (let on = file-11 lists (lengthBad file) (cornersBad file) (leb (3 * statedIn file) a) (3 * statedIn file) in
       (λ e. (on .0 e .0, bad-length (on .0 e .1)), λ p. on .1 (p .0, length-bad (p .1))))
 
   -- 10: exactly when the lengths are right, and some corner is out of range
   pub import-vertex : (importAnswer file a b c ≡ Refused BadVertex) ↔
-      (ListsPass × (length file ≡ 84 + 50 * statedIn file) × Fails vertexOk (cornersOf (facetsIn file)))
+      ((lists ≡ true) × (length file ≡ 84 + 50 * statedIn file) × Fails vertexOk (cornersOf (facetsIn file)))
   import-vertex =
       rw steps
-      (let on = file-10 listsFit (lengthBad file) (cornersBad file) (leb (3 * statedIn file) a) (3 * statedIn file) in (
-        λ e. let p = on .0 e in (p .0, good-length (p .1), some-fails vertexOk (cornersOf (facetsIn file)) (no refl (p .2))),
+      (let on = file-10 lists (lengthBad file) (cornersBad file) (leb (3 * statedIn file) a) (3 * statedIn file) in (
+        λ e. let p = on .0 e in (p .0, right-long file (p .1), some-fails vertexOk (cornersOf (facetsIn file)) (no refl (p .2))),
         λ p. on .1 (p .0, length-right file (p .1), rw (fails-not vertexOk (cornersOf (facetsIn file)) (p .2))),
       ))
 
   -- 6: exactly when the lengths are right, every corner passes, and a list has fewer places than corners
   pub import-room : (importAnswer file a b c ≡ Refused NoPlace) ↔
-      (ListsPass × (length file ≡ 84 + 50 * statedIn file) × (every vertexOk (cornersOf (facetsIn file)) ≡ true) × (a < 3 * statedIn file))
+      ((lists ≡ true) × (length file ≡ 84 + 50 * statedIn file) × (every vertexOk (cornersOf (facetsIn file)) ≡ true) × (a < 3 * statedIn file))
   import-room =
       rw steps
-      (let on = file-6 listsFit (lengthBad file) (cornersBad file) (leb (3 * statedIn file) a) (3 * statedIn file) in (
-        λ e. let p = on .0 e in (p .0, good-length (p .1), yes refl (p .2), leb-false (3 * statedIn file) a (p .3)),
+      (let on = file-6 lists (lengthBad file) (cornersBad file) (leb (3 * statedIn file) a) (3 * statedIn file) in (
+        λ e. let p = on .0 e in (p .0, right-long file (p .1), yes refl (p .2), leb-false (3 * statedIn file) a (p .3)),
         λ p. on .1 (p .0, length-right file (p .1), rw (p .2), lt-leb (3 * statedIn file) a (p .3)),
       ))
