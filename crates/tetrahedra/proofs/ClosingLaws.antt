@@ -67,13 +67,13 @@ unfolding samePair
 pair-corners t up i j k l =
     pair-same (at t i) (at t j) (at t k) (at t l) ∙ rw (at-eqb t up i k, at-eqb t up j l, at-eqb t up i l, at-eqb t up j k)
 
-and4-false : (a b c d : Bool) → a && (b && (c && d)) ≡ false → (a ≡ false) ⊎ ((b ≡ false) ⊎ ((c ≡ false) ⊎ (d ≡ false)))
+pub and4-false : (a b c d : Bool) → a && (b && (c && d)) ≡ false → (a ≡ false) ⊎ ((b ≡ false) ⊎ ((c ≡ false) ⊎ (d ≡ false)))
 and4-false false b c d e = inl refl
 and4-false true false c d e = inr (inl refl)
 and4-false true true false d e = inr (inr (inl refl))
 and4-false true true true d e = inr (inr (inr e))
 
-or4-true : (a b c d : Bool) → (a ≡ true) ⊎ ((b ≡ true) ⊎ ((c ≡ true) ⊎ (d ≡ true))) → a || (b || (c || d)) ≡ true
+pub or4-true : (a b c d : Bool) → (a ≡ true) ⊎ ((b ≡ true) ⊎ ((c ≡ true) ⊎ (d ≡ true))) → a || (b || (c || d)) ≡ true
 or4-true true b c d h = refl
 or4-true false true c d h = refl
 or4-true false false true d h = refl
@@ -84,7 +84,7 @@ or4-true false false false false (inr (inr (inl e))) = e
 or4-true false false false false (inr (inr (inr e))) = e
 
 -- four numbers, two by two in order, all differ or one of the first two is one of the others
-apart-or-meeting : (a b c d : ℕ) → a < b → c < d → Distinct (a ∷ b ∷ c ∷ d ∷ []) ⊎ ((a ≡ c) ⊎ ((a ≡ d) ⊎ ((b ≡ c) ⊎ (b ≡ d))))
+pub apart-or-meeting : (a b c d : ℕ) → a < b → c < d → Distinct (a ∷ b ∷ c ∷ d ∷ []) ⊎ ((a ≡ c) ⊎ ((a ≡ d) ⊎ ((b ≡ c) ⊎ (b ≡ d))))
 unfolding Ordered
 apart-or-meeting a b c d ab cd = go (eqb a c) (eqb a d) (eqb b c) (eqb b d) refl refl refl refl
   where
@@ -112,25 +112,25 @@ apart-or-meeting a b c d ab cd = go (eqb a c) (eqb a d) (eqb b c) (eqb b d) refl
         in3 k l m n o p' r' y i q = ⊎-elim (λ e. o (q ∙ e)) (λ j. in2 k m n p' r' y j q) (List·Memᴰ·cases-cons i)
 
 module _ (rows : List Row) (up : ascending (keysOf rows) ≡ true) where
-  abbrev es : List Edge
+  abbrev pub es : List Edge
   es = closedEdges rows
 
-  abbrev ts : List Four
+  abbrev pub ts : List Four
   ts = tetrahedra rows
 
   -- ---- a vertex and its edge
 
-  abbrev edgeOf : ℕ → Edge
+  abbrev pub edgeOf : ℕ → Edge
   edgeOf u = edgeAt es u
 
-  edge-in : (u : ℕ) → u < length es → edgeOf u ∈ es
+  pub edge-in : (u : ℕ) → u < length es → edgeOf u ∈ es
   edge-in u l = at-in es (edge 0 0) u l
 
-  edge-up : (u : ℕ) → u < length es → edgeOf u .first < edgeOf u .second
+  pub edge-up : (u : ℕ) → u < length es → edgeOf u .first < edgeOf u .second
   edge-up u l = vertices-are rows up .smaller (edgeOf u) (edge-in u l)
 
   -- one of its ends is inside and the other outside
-  edge-crossed : (u : ℕ) → u < length es → unlike (insideAt rows (edgeOf u .first)) (insideAt rows (edgeOf u .second)) ≡ true
+  pub edge-crossed : (u : ℕ) → u < length es → unlike (insideAt rows (edgeOf u .first)) (insideAt rows (edgeOf u .second)) ≡ true
   edge-crossed u l =
       let h = in-crossed rows up (edgeOf u) (edge-in u l) in
       let t : Four = h .0 in
@@ -139,18 +139,18 @@ module _ (rows : List Row) (up : ascending (keysOf rows) ≡ true) where
 
   -- ---- the triangles of one tetrahedron that have a side
 
-  abbrev within : Four → Corner → Bool
+  abbrev pub within : Four → Corner → Bool
   within t c = insideAt rows (at t c)
 
   -- how many
-  abbrev sidesOf : ℕ → ℕ → Four → ℕ
+  abbrev pub sidesOf : ℕ → ℕ → Four → ℕ
   sidesOf u v t = length (kept (hasSide u v) (trianglesOf rows es t))
 
   -- the pairs of corners that lie on the edge of a vertex
-  onEdge : ℕ → Four → Corner → Corner → Bool
+  unfoldable pub onEdge : ℕ → Four → Corner → Corner → Bool
   onEdge u t i j = sameEdge (pairOf (at t i) (at t j)) (edgeOf u)
 
-  on-edge : (u : ℕ) → u < length es → (t : Four) → (λ (i j : Corner). eqb (vertexOf es t i j) u) ≡ onEdge u t
+  pub on-edge : (u : ℕ) → u < length es → (t : Four) → (λ (i j : Corner). eqb (vertexOf es t i j) u) ≡ onEdge u t
   unfolding onEdge vertexOf
   on-edge u l t = fun-ext (λ i. fun-ext (λ j. number-is es (edges-distinct rows up) (pairOf (at t i) (at t j)) u l))
 
@@ -160,7 +160,7 @@ module _ (rows : List Row) (up : ascending (keysOf rows) ≡ true) where
       ∙ ap₂ (λ (b c : Corner → Corner → Bool). countsBy b c (within t)) (on-edge u lu t) (on-edge v lv t)
 
   -- an end that is no corner
-  away : (u : ℕ) (t : Four) → (holds (edgeOf u .first) t ≡ false) ⊎ (holds (edgeOf u .second) t ≡ false) → onEdge u t ≡ (λ (i j : Corner). false)
+  pub away : (u : ℕ) (t : Four) → (holds (edgeOf u .first) t ≡ false) ⊎ (holds (edgeOf u .second) t ≡ false) → onEdge u t ≡ (λ (i j : Corner). false)
   unfolding onEdge
   away u t h = fun-ext (λ i. fun-ext (λ j. not-same (pairOf (at t i) (at t j)) (edgeOf u) (λ e. no i j e h)))
     where
@@ -173,27 +173,27 @@ module _ (rows : List Row) (up : ascending (keysOf rows) ≡ true) where
           (max-one (at t i) (at t j) (edgeOf u .second) (ap (λ (x : Edge). x .second) e))
 
   -- the two corners where the edge of a vertex ends
-  record Seen (u : ℕ) (t : Four) : Type 0 where
-    i : Corner
-    j : Corner
-    first : at t i ≡ edgeOf u .first
-    second : at t j ≡ edgeOf u .second
+  pub record Seen (u : ℕ) (t : Four) : Type 0 where
+    pub i : Corner
+    pub j : Corner
+    pub first : at t i ≡ edgeOf u .first
+    pub second : at t j ≡ edgeOf u .second
 
-  seen : (u : ℕ) (t : Four) → holds (edgeOf u .first) t ≡ true → holds (edgeOf u .second) t ≡ true → Seen u t
+  pub seen : (u : ℕ) (t : Four) → holds (edgeOf u .first) t ≡ true → holds (edgeOf u .second) t ≡ true → Seen u t
   seen u t h g =
       let p = holds-corner (edgeOf u .first) t h in
       let q = holds-corner (edgeOf u .second) t g in
       record { i = p .0; j = q .0; first = p .1; second = q .1 }
 
-  seen-edge : (u : ℕ) → u < length es → (t : Four) (s : Seen u t) → edgeOf u ≡ pairOf (at t (s .i)) (at t (s .j))
+  pub seen-edge : (u : ℕ) → u < length es → (t : Four) (s : Seen u t) → edgeOf u ≡ pairOf (at t (s .i)) (at t (s .j))
   seen-edge u l t s = rw (s .first, s .second) (sym (pair-up (edge-up u l)))
 
-  seen-pairs : (u : ℕ) → u < length es → (t : Four) → Rising t → (s : Seen u t) → onEdge u t ≡ samePair (s .i) (s .j)
+  pub seen-pairs : (u : ℕ) → u < length es → (t : Four) → Rising t → (s : Seen u t) → onEdge u t ≡ samePair (s .i) (s .j)
   unfolding onEdge
   seen-pairs u l t r s =
       fun-ext (λ a. fun-ext (λ b. ap (sameEdge (pairOf (at t a) (at t b))) (seen-edge u l t s) ∙ pair-corners t r a b (s .i) (s .j)))
 
-  seen-crossed : (u : ℕ) → u < length es → (t : Four) (s : Seen u t) → unlike (within t (s .i)) (within t (s .j)) ≡ true
+  pub seen-crossed : (u : ℕ) → u < length es → (t : Four) (s : Seen u t) → unlike (within t (s .i)) (within t (s .j)) ≡ true
   seen-crossed u l t s = rw (s .first, s .second) (edge-crossed u l)
 
   -- ---- the vertices that a triangle names have their places in the list
@@ -214,21 +214,21 @@ module _ (rows : List Row) (up : ascending (keysOf rows) ≡ true) where
   all-sides u v = kept-joined (hasSide u v) (trianglesOf rows es) ts
 
   module _ (u v : ℕ) (lu : u < length es) (lv : v < length es) (un : u ≡ v → ⊥) where
-    edges-differ : edgeOf u ≡ edgeOf v → ⊥
+    pub edges-differ : edgeOf u ≡ edgeOf v → ⊥
     edges-differ q = un (place-once es (edges-distinct rows up) u v lu lv q)
 
     -- a tetrahedron that has all corners of the two edges
-    record Held (t : Four) : Type 0 where
-      listed : t ∈ ts
-      u1 : holds (edgeOf u .first) t ≡ true
-      u2 : holds (edgeOf u .second) t ≡ true
-      v1 : holds (edgeOf v .first) t ≡ true
-      v2 : holds (edgeOf v .second) t ≡ true
+    pub record Held (t : Four) : Type 0 where
+      pub listed : t ∈ ts
+      pub u1 : holds (edgeOf u .first) t ≡ true
+      pub u2 : holds (edgeOf u .second) t ≡ true
+      pub v1 : holds (edgeOf v .first) t ≡ true
+      pub v2 : holds (edgeOf v .second) t ≡ true
 
-    aroundTest : Four → Bool
+    unfoldable pub aroundTest : Four → Bool
     aroundTest t = holds (edgeOf u .first) t && (holds (edgeOf u .second) t && (holds (edgeOf v .first) t && holds (edgeOf v .second) t))
 
-    held-by : (t : Four) → t ∈ ts → aroundTest t ≡ true → Held t
+    pub held-by : (t : Four) → t ∈ ts → aroundTest t ≡ true → Held t
     unfolding aroundTest
     held-by t m e =
         let a = holds (edgeOf u .first) t in
@@ -240,7 +240,7 @@ module _ (rows : List Row) (up : ascending (keysOf rows) ≡ true) where
         record { listed = m; u1 = and-first a (b && (c && d)) e; u2 = and-first b (c && d) r; v1 = and-first c d s; v2 = and-second c d s }
 
     -- one that has not all has no triangle with the side
-    none-there : (t : Four) → aroundTest t ≡ false → sidesOf u v t ≡ 0
+    pub none-there : (t : Four) → aroundTest t ≡ false → sidesOf u v t ≡ 0
     unfolding aroundTest
     none-there t e =
         let left : (holds (edgeOf u .first) t ≡ false) ⊎ (holds (edgeOf u .second) t ≡ false) → sidesOf u v t ≡ 0 =
@@ -252,28 +252,28 @@ module _ (rows : List Row) (up : ascending (keysOf rows) ≡ true) where
         (and4-false (holds (edgeOf u .first) t) (holds (edgeOf u .second) t) (holds (edgeOf v .first) t) (holds (edgeOf v .second) t) e)
 
     module _ (t : Four) (h : Held t) where
-      r : Rising t
+      pub r : Rising t
       r = rising-in rows up t (h .listed)
 
-      su : Seen u t
+      pub su : Seen u t
       su = seen u t (h .u1) (h .u2)
 
-      sv : Seen v t
+      pub sv : Seen v t
       sv = seen v t (h .v1) (h .v2)
 
-      counts-here : sidesOf u v t ≡ countsBy (samePair (su .i) (su .j)) (samePair (sv .i) (sv .j)) (within t)
+      pub counts-here : sidesOf u v t ≡ countsBy (samePair (su .i) (su .j)) (samePair (sv .i) (sv .j)) (within t)
       counts-here =
           sides-are u v lu lv t
           ∙ ap₂ (λ (b c : Corner → Corner → Bool). countsBy b c (within t)) (seen-pairs u lu t r su) (seen-pairs v lv t r sv)
 
-      differ-here : samePair (su .i) (su .j) (sv .i) (sv .j) ≡ false
+      pub differ-here : samePair (su .i) (su .j) (sv .i) (sv .j) ≡ false
       differ-here =
           sym (pair-corners t r (sv .i) (sv .j) (su .i) (su .j))
           ∙ not-same (pairOf (at t (sv .i)) (at t (sv .j))) (pairOf (at t (su .i)) (at t (su .j)))
           (λ q. edges-differ (seen-edge u lu t su ∙ sym q ∙ sym (seen-edge v lv t sv)))
 
       -- where the edges meet, one triangle
-      one-here : OnFace es u v → sidesOf u v t ≡ 1
+      pub one-here : OnFace es u v → sidesOf u v t ≡ 1
       unfolding meets
       one-here f =
           counts-here
@@ -285,7 +285,7 @@ module _ (rows : List Row) (up : ascending (keysOf rows) ≡ true) where
           (λ p. inr (inr (inr (corners-same t r (su .j) (sv .j) (su .second ∙ p ∙ sym (sv .second)))))) y) x) f))
 
       -- where they do not, two or none
-      two-here : Within es u v → (sidesOf u v t ≡ 0 → ⊥) → sidesOf u v t ≡ 2
+      pub two-here : Within es u v → (sidesOf u v t ≡ 0 → ⊥) → sidesOf u v t ≡ 2
       unfolding meets Ordered
       two-here d n =
           let a = corners-differ t r (su .i) (sv .i) (λ q. d .0 (edgeOf v .first) (List·Memᴰ·tail (List·Memᴰ·head refl)) (sym (su .first) ∙ q ∙ sv .first)) in
@@ -300,29 +300,29 @@ module _ (rows : List Row) (up : ascending (keysOf rows) ≡ true) where
 
     -- ---- on a face: at most two tetrahedra have it
 
-    abbrev e1 : ℕ
+    abbrev pub e1 : ℕ
     e1 = edgeOf u .first
 
-    abbrev e2 : ℕ
+    abbrev pub e2 : ℕ
     e2 = edgeOf u .second
 
-    abbrev f1 : ℕ
+    abbrev pub f1 : ℕ
     f1 = edgeOf v .first
 
-    abbrev f2 : ℕ
+    abbrev pub f2 : ℕ
     f2 = edgeOf v .second
 
     -- the third corner of the face
-    record Third : Type 0 where
-      key : ℕ
-      end : (key ≡ f1) ⊎ (key ≡ f2)
-      not-e1 : e1 ≡ key → ⊥
-      not-e2 : e2 ≡ key → ⊥
+    pub record Third : Type 0 where
+      pub key : ℕ
+      pub end : (key ≡ f1) ⊎ (key ≡ f2)
+      pub not-e1 : e1 ≡ key → ⊥
+      pub not-e2 : e2 ≡ key → ⊥
 
-    same-ends : e1 ≡ f1 → e2 ≡ f2 → ⊥
+    pub same-ends : e1 ≡ f1 → e2 ≡ f2 → ⊥
     same-ends p q = edges-differ (λ i. record { first = p i; second = q i })
 
-    third : OnFace es u v → Third
+    pub third : OnFace es u v → Third
     third (inl p) = record { key = f2; end = inr refl; not-e1 = λ q. omega (arith, edge-up v lv); not-e2 = λ q. same-ends p q }
     third (inr (inl p)) =
         record { key = f1; end = inl refl; not-e1 = λ q. omega (arith, edge-up v lv); not-e2 = λ q. omega (arith, edge-up u lu, edge-up v lv) }
@@ -330,13 +330,13 @@ module _ (rows : List Row) (up : ascending (keysOf rows) ≡ true) where
         record { key = f2; end = inr refl; not-e1 = λ q. omega (arith, edge-up u lu, edge-up v lv); not-e2 = λ q. omega (arith, edge-up v lv) }
     third (inr (inr (inr p))) = record { key = f1; end = inl refl; not-e1 = λ q. same-ends q p; not-e2 = λ q. omega (arith, edge-up v lv) }
 
-    fourth-of : (t : Four) → Held t → (k : ℕ) → (k ≡ f1) ⊎ (k ≡ f2) → (e1 ≡ k → ⊥) → (e2 ≡ k → ⊥) → (w : ℕ) × Fourth t e1 e2 k w
+    pub fourth-of : (t : Four) → Held t → (k : ℕ) → (k ≡ f1) ⊎ (k ≡ f2) → (e1 ≡ k → ⊥) → (e2 ≡ k → ⊥) → (w : ℕ) × Fourth t e1 e2 k w
     fourth-of t h k end p q =
         fourth t (rising-in rows up t (h .listed)) (clique-in rows up t (h .listed)) e1 e2 k (h .u1) (h .u2)
         (⊎-elim (λ e. rw e (h .v1)) (λ e. rw e (h .v2)) end) (λ e. omega (arith, edge-up u lu)) p q
 
     -- a third tetrahedron with the face is one of the two
-    only-two : OnFace es u v → (t t' x : Four) → Held t → Held t' → Held x → (t ≡ t' → ⊥) → (x ≡ t → ⊥) → (x ≡ t' → ⊥) → ⊥
+    pub only-two : OnFace es u v → (t t' x : Four) → Held t → Held t' → Held x → (t ≡ t' → ⊥) → (x ≡ t → ⊥) → (x ≡ t' → ⊥) → ⊥
     only-two f t t' x h h' hx n m m' =
         let c = third f in
         let k : ℕ = c .key in
@@ -369,7 +369,7 @@ module _ (rows : List Row) (up : ascending (keysOf rows) ≡ true) where
 
     -- ---- inside: one tetrahedron has the four corners
 
-    only-one : Within es u v → (t x : Four) → Held t → Held x → x ≡ t
+    pub only-one : Within es u v → (t x : Four) → Held t → Held x → x ≡ t
     unfolding Ordered
     only-one d t x h hx =
         let n13 : e1 ≡ f1 → ⊥ = λ q. d .0 f1 (List·Memᴰ·tail (List·Memᴰ·head refl)) q in

@@ -194,32 +194,32 @@ same-four t u tup uup to from =
 
 -- ---- the corner that is left
 
-pick : Bool → Corner → Corner → Corner
+unfoldable pub pick : Bool → Corner → Corner → Corner
 pick true c d = c
 pick false c d = d
 
-free : Corner → Corner → Corner → Corner → Bool
+unfoldable pub free : Corner → Corner → Corner → Corner → Bool
 free i j k c = not (eqc i c) && (not (eqc j c) && not (eqc k c))
 
-pub other : Corner → Corner → Corner → Corner
+unfoldable pub other : Corner → Corner → Corner → Corner
 unfolding pick free
 other i j k = pick (free i j k c0) c0 (pick (free i j k c1) c1 (pick (free i j k c2) c2 c3))
 
 -- three that differ, as a test
-apart3 : Corner → Corner → Corner → Bool
+unfoldable pub apart3 : Corner → Corner → Corner → Bool
 apart3 i j k = not (eqc i j) && (not (eqc i k) && not (eqc j k))
 
-other-test : Corner → Corner → Corner → Bool
+unfoldable pub other-test : Corner → Corner → Corner → Bool
 other-test i j k = not (apart3 i j k) || free i j k (other i j k)
 
-all-test : Corner → Corner → Corner → Corner → Bool
+unfoldable pub all-test : Corner → Corner → Corner → Corner → Bool
 all-test i j k c = not (apart3 i j k) || (eqc c i || (eqc c j || (eqc c k || eqc c (other i j k))))
 
-other-tests : everyCorner (λ i. everyCorner (λ j. everyCorner (λ k. other-test i j k))) ≡ true
+pub other-tests : everyCorner (λ i. everyCorner (λ j. everyCorner (λ k. other-test i j k))) ≡ true
 unfolding everyCorner other-test apart3 free other pick
 other-tests = refl
 
-all-tests : everyCorner (λ i. everyCorner (λ j. everyCorner (λ k. everyCorner (λ c. all-test i j k c)))) ≡ true
+pub all-tests : everyCorner (λ i. everyCorner (λ j. everyCorner (λ k. everyCorner (λ c. all-test i j k c)))) ≡ true
 unfolding everyCorner all-test apart3 free other pick
 all-tests = refl
 

@@ -289,7 +289,7 @@ tetrahedron-is-clique t = (tetrahedron-clique t, clique-tetrahedron t)
 
 -- ---- G2: three pairwise adjacent cells have at most two common neighbours
 
-not-both : (k l : ℕ) → axial k l ≡ true → diagonal k l ≡ true → ⊥
+pub not-both : (k l : ℕ) → axial k l ≡ true → diagonal k l ≡ true → ⊥
 not-both k l a d = let x = axial-colour k l a in let y = diagonal-colour k l d in omega arith
 
 -- no distance is none
@@ -297,7 +297,7 @@ pub same-at : (a b : ℕ) → apart a b ≡ 0 → a ≡ b
 same-at a b e = omega arith
 
 -- between two that are 2 apart there is one place
-half-way : (p q r : ℕ) → apart p q ≡ 2 → apart p r ≡ 1 → apart q r ≡ 1 → r + r ≡ p + q
+pub half-way : (p q r : ℕ) → apart p q ≡ 2 → apart p r ≡ 1 → apart q r ≡ 1 → r + r ≡ p + q
 half-way p q r a b c = omega arith
 
 halved : (r u n : ℕ) → r + r ≡ n → u + u ≡ n → r ≡ u
@@ -307,7 +307,7 @@ pub middle : (p q r u : ℕ) → apart p q ≡ 2 → apart p r ≡ 1 → apart q
 middle p q r u a b c d e = halved r u (p + q) (half-way p q r a b c) (half-way p q u a d e)
 
 -- beside p there are two places, and u and v are both the one that r isn't
-across : (p r u : ℕ) → apart p r ≡ 1 → apart p u ≡ 1 → apart r u ≡ 2 → r + u ≡ p + p
+pub across : (p r u : ℕ) → apart p r ≡ 1 → apart p u ≡ 1 → apart r u ≡ 2 → r + u ≡ p + p
 across p r u a b c = omega arith
 
 doubled : (r u v p : ℕ) → r + u ≡ p + p → r + v ≡ p + p → u ≡ v
@@ -318,26 +318,26 @@ opposite p r u v a b c d e = doubled r u v p (across p r u a b d) (across p r v 
 
 -- along f the pair p, q; r is a point of its ring
 module _ (f g h : ℕ → ℕ) (settled : (k l : ℕ) → headOf k ≡ headOf l → f k ≡ f l → g k ≡ g l → h k ≡ h l → k ≡ l) where
-  record Slants (k l : ℕ) : Type 0 where
-    heads : headOf k ≡ headOf l
-    x : apart (f k) (f l) ≡ 1
-    y : apart (g k) (g l) ≡ 1
-    z : apart (h k) (h l) ≡ 1
+  pub record Slants (k l : ℕ) : Type 0 where
+    pub heads : headOf k ≡ headOf l
+    pub x : apart (f k) (f l) ≡ 1
+    pub y : apart (g k) (g l) ≡ 1
+    pub z : apart (h k) (h l) ≡ 1
 
   module _ (p q r : ℕ) (pq : Along f g h p q) (pr : Slants p r) (qr : Slants q r) where
     -- a point of the ring that is axial to r
-    record Beside (u : ℕ) : Type 0 where
-      pu : Slants p u
-      qu : Slants q u
-      ru : Straight f g h r u
+    pub record Beside (u : ℕ) : Type 0 where
+      pub pu : Slants p u
+      pub qu : Slants q u
+      pub ru : Straight f g h r u
 
-    Turned : ℕ → Type 0
+    unfoldable pub Turned : ℕ → Type 0
     Turned u = ((apart (g r) (g u) ≡ 2) × (h r ≡ h u)) ⊎ ((g r ≡ g u) × (apart (h r) (h u) ≡ 2))
 
-    level : (u : ℕ) → Beside u → f r ≡ f u
+    pub level : (u : ℕ) → Beside u → f r ≡ f u
     level u b = middle (f p) (f q) (f r) (f u) (pq .0) (pr .x) (qr .x) (b .pu .x) (b .qu .x)
 
-    turned : (u : ℕ) → Beside u → Turned u
+    pub turned : (u : ℕ) → Beside u → Turned u
     unfolding Turned
     turned u b =
         ⊎-elim (λ a. let e = level u b in let d = a .0 in let no : ⊥ = omega arith in absurd no)
@@ -346,12 +346,12 @@ module _ (f g h : ℕ → ℕ) (settled : (k l : ℕ) → headOf k ≡ headOf l 
     heads-of : (u v : ℕ) → Beside u → Beside v → headOf u ≡ headOf v
     heads-of u v b c = sym (b .pu .heads) ∙ c .pu .heads
 
-    by-g : (u v : ℕ) → Beside u → Beside v → apart (g r) (g u) ≡ 2 → h r ≡ h u → apart (g r) (g v) ≡ 2 → h r ≡ h v → u ≡ v
+    pub by-g : (u v : ℕ) → Beside u → Beside v → apart (g r) (g u) ≡ 2 → h r ≡ h u → apart (g r) (g v) ≡ 2 → h r ≡ h v → u ≡ v
     by-g u v b c d e d' e' =
         settled u v (heads-of u v b c) (sym (level u b) ∙ level v c)
         (opposite (g p) (g r) (g u) (g v) (pr .y) (b .pu .y) (c .pu .y) d d') (sym e ∙ e')
 
-    by-h : (u v : ℕ) → Beside u → Beside v → g r ≡ g u → apart (h r) (h u) ≡ 2 → g r ≡ g v → apart (h r) (h v) ≡ 2 → u ≡ v
+    pub by-h : (u v : ℕ) → Beside u → Beside v → g r ≡ g u → apart (h r) (h u) ≡ 2 → g r ≡ g v → apart (h r) (h v) ≡ 2 → u ≡ v
     by-h u v b c e d e' d' =
         settled u v (heads-of u v b c) (sym (level u b) ∙ level v c) (sym e ∙ e')
         (opposite (h p) (h r) (h u) (h v) (pr .z) (b .pu .z) (c .pu .z) d d')
@@ -381,17 +381,17 @@ axial-sym k l e =
     rw (eqb-comm (headOf l) (headOf k), add-comm (xOf l - xOf k), add-comm (yOf l - yOf k), add-comm (zOf l - zOf k)) e
 
 -- a point u of the ring around p, q that is axial to r
-record Ringed (p q r u : ℕ) : Type 0 where
-  pu : diagonal p u ≡ true
-  qu : diagonal q u ≡ true
-  ru : axial r u ≡ true
+pub record Ringed (p q r u : ℕ) : Type 0 where
+  pub pu : diagonal p u ≡ true
+  pub qu : diagonal q u ≡ true
+  pub ru : axial r u ≡ true
 
-to-y : (k l : ℕ) → Straight xOf yOf zOf k l → Straight yOf xOf zOf k l
+pub to-y : (k l : ℕ) → Straight xOf yOf zOf k l → Straight yOf xOf zOf k l
 to-y k l (inl a) = inr (inl a)
 to-y k l (inr (inl a)) = inl a
 to-y k l (inr (inr a)) = inr (inr (a .0, a .2, a .1))
 
-to-z : (k l : ℕ) → Straight xOf yOf zOf k l → Straight zOf xOf yOf k l
+pub to-z : (k l : ℕ) → Straight xOf yOf zOf k l → Straight zOf xOf yOf k l
 to-z k l (inl a) = inr (inl (a .0, a .2, a .1))
 to-z k l (inr (inl a)) = inr (inr (a .0, a .2, a .1))
 to-z k l (inr (inr a)) = inl a

@@ -35,7 +35,7 @@ hitFirst b p q r s = b p r || (b p s || b q s)
 abbrev hitSecond : Pairs → Corner → Corner → Corner → Corner → Bool
 hitSecond b p q r s = b p r || (b q s || b q r)
 
-counts : Pairs → Pairs → List Corner → List Corner → ℕ
+unfoldable pub counts : Pairs → Pairs → List Corner → List Corner → ℕ
 counts b c ins outs =
     cond (eqb (length ins) 1) (one (hitAlone b (nth ins 0) outs && hitAlone c (nth ins 0) outs))
     (cond (eqb (length ins) 2)
@@ -72,23 +72,23 @@ names-rising u x y z = go (leb x y) (leb y z) (leb x z)
     go false false false = or-swap c b a ∙ or-last b a c ∙ or-swap b a c
 
 module _ (f : Three ℕ → Bool) where
-  kept-cond : (b : Bool) (l m : List (Three ℕ)) → length (kept f (cond b l m)) ≡ cond b (length (kept f l)) (length (kept f m))
+  pub kept-cond : (b : Bool) (l m : List (Three ℕ)) → length (kept f (cond b l m)) ≡ cond b (length (kept f l)) (length (kept f m))
   kept-cond true l m = refl
   kept-cond false l m = refl
 
-  kept-one : (x : Three ℕ) → length (kept f (x ∷ [])) ≡ one (f x)
+  pub kept-one : (x : Three ℕ) → length (kept f (x ∷ [])) ≡ one (f x)
   unfolding kept
   kept-one x = omega (arith, length-front (f x) x [])
 
-  kept-two : (x y : Three ℕ) → length (kept f (x ∷ y ∷ [])) ≡ one (f x) + one (f y)
+  pub kept-two : (x y : Three ℕ) → length (kept f (x ∷ y ∷ [])) ≡ one (f x) + one (f y)
   unfolding kept
   kept-two x y = omega (arith, length-front (f x) x (cond (f y) (y ∷ []) []), length-front (f y) y [])
 
-  kept-none : length (kept f []) ≡ 0
+  pub kept-none : length (kept f []) ≡ 0
   unfolding kept
   kept-none = refl
 
-cond-eq : (b : Bool) {x y x' y' : ℕ} → x ≡ x' → y ≡ y' → cond b x y ≡ cond b x' y'
+pub cond-eq : (b : Bool) {x y x' y' : ℕ} → x ≡ x' → y ≡ y' → cond b x y ≡ cond b x' y'
 cond-eq true p q = p
 cond-eq false p q = q
 
@@ -126,7 +126,7 @@ module _ (vertex : Corner → Corner → ℕ) (u v : ℕ) where
       ∙ cond-eq (eqb (length ins) 3) (side-alone (nth outs 0) ins) (kept-none (hasSide u v))))
 
 -- by a test for inside
-pub countsBy : Pairs → Pairs → (Corner → Bool) → ℕ
+unfoldable pub countsBy : Pairs → Pairs → (Corner → Bool) → ℕ
 unfolding counts kept
 countsBy b c within = counts b c (kept within corners) (kept (λ (x : Corner). not (within x)) corners)
 

@@ -1,0 +1,11 @@
+pub mod Volume
+pub mod Running
+pub mod Sides
+pub mod SpotLaws
+pub mod StandLaws
+pub mod TurningLaws
+pub mod WindingLaws
+pub mod FacingLaws
+pub mod OutwardLaws
+pub mod Samples
+pub mod Determined

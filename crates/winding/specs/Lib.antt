@@ -1,0 +1,4 @@
+pub mod Spots
+pub mod Winding
+pub mod Facing
+pub mod Steps
