@@ -65,7 +65,7 @@ module _ (ks : List ℕ) (ds ws : List Float) (n : ℕ) (acc : Accepted ks ds ws
     row-in : rowAt ks ds ws row ∈ rows
     row-in = left-in rows row next-row
 
-    side-at : lt (getD ds row nan) zero32 ≡ insideAt rows (getD ks row 0)
+    pub side-at : lt (getD ds row nan) zero32 ≡ insideAt rows (getD ks row 0)
     unfolding inside
     side-at = sym (inside-at rows up (rowAt ks ds ws row) row-in)
 
