@@ -28,6 +28,7 @@ use Rattle.akfelzun.proofs.marching.akf_get_voxels_within_distance.Read
 use Rattle.akfelzun.proofs.marching.akf_esdf_stats.Reads as akf_esdf_stats
 use Rattle.akfelzun.proofs.meshing.akf_extract_mesh_from_tsdf.Reads as akf_extract_mesh_from_tsdf
 use Rattle.akfelzun.proofs.meshing.akf_extract_closed_mesh.Reads as akf_extract_closed_mesh
+use Rattle.akfelzun.proofs.meshing.akf_extract_turned_mesh.Reads as akf_extract_turned_mesh
 use Rattle.akfelzun.proofs.meshing.akf_cell_edges.Reads as akf_cell_edges
 use Rattle.akfelzun.proofs.meshing.akf_surface_area.Reads as akf_surface_area
 use Rattle.akfelzun.proofs.meshing.akf_bounding_box.Reads as akf_bounding_box
@@ -348,6 +349,41 @@ pub akf-extract-closed-mesh-determined :
     × (now (s .1 .1 .1 .1 .1 .1 .1 .1 .1 .1 .1 .1 .1 .1 .1 .1 .1 .1 .1 .0) ≡ now (s' .1 .1 .1 .1 .1 .1 .1 .1 .1 .1 .1 .1 .1 .1 .1 .1 .1 .1 .1 .0))
     × (now (s .1 .1 .1 .1 .1 .1 .1 .1 .1 .1 .1 .1 .1 .1 .1 .1 .1 .1 .1 .1 .0) ≡ now (s' .1 .1 .1 .1 .1 .1 .1 .1 .1 .1 .1 .1 .1 .1 .1 .1 .1 .1 .1 .1 .0))
 akf-extract-closed-mesh-determined κs a r r' s s' p q = (
+  p .answer ∙ sym (q .answer),
+  p .lists .first ∙ sym (q .lists .first),
+  p .lists .second ∙ sym (q .lists .second),
+  p .lists .px ∙ sym (q .lists .px),
+  p .lists .py ∙ sym (q .lists .py),
+  p .lists .pz ∙ sym (q .lists .pz),
+  p .lists .nx ∙ sym (q .lists .nx),
+  p .lists .ny ∙ sym (q .lists .ny),
+  p .lists .nz ∙ sym (q .lists .nz),
+  p .lists .t0 ∙ sym (q .lists .t0),
+  p .lists .t1 ∙ sym (q .lists .t1),
+  p .lists .t2 ∙ sym (q .lists .t2),
+  p .edge-count ∙ sym (q .edge-count),
+  p .triangle-count ∙ sym (q .triangle-count),
+)
+
+pub akf-extract-turned-mesh-determined :
+    (κs : _) (a : _) (r r' : _) (s s' : _)
+    → akf_extract_turned_mesh.Post κs a r s
+    → akf_extract_turned_mesh.Post κs a r' s'
+    → (r ≡ r')
+    × (now (s .1 .1 .1 .1 .1 .1 .1 .1 .0) ≡ now (s' .1 .1 .1 .1 .1 .1 .1 .1 .0))
+    × (now (s .1 .1 .1 .1 .1 .1 .1 .1 .1 .0) ≡ now (s' .1 .1 .1 .1 .1 .1 .1 .1 .1 .0))
+    × (now (s .1 .1 .1 .1 .1 .1 .1 .1 .1 .1 .0) ≡ now (s' .1 .1 .1 .1 .1 .1 .1 .1 .1 .1 .0))
+    × (now (s .1 .1 .1 .1 .1 .1 .1 .1 .1 .1 .1 .0) ≡ now (s' .1 .1 .1 .1 .1 .1 .1 .1 .1 .1 .1 .0))
+    × (now (s .1 .1 .1 .1 .1 .1 .1 .1 .1 .1 .1 .1 .0) ≡ now (s' .1 .1 .1 .1 .1 .1 .1 .1 .1 .1 .1 .1 .0))
+    × (now (s .1 .1 .1 .1 .1 .1 .1 .1 .1 .1 .1 .1 .1 .0) ≡ now (s' .1 .1 .1 .1 .1 .1 .1 .1 .1 .1 .1 .1 .1 .0))
+    × (now (s .1 .1 .1 .1 .1 .1 .1 .1 .1 .1 .1 .1 .1 .1 .0) ≡ now (s' .1 .1 .1 .1 .1 .1 .1 .1 .1 .1 .1 .1 .1 .1 .0))
+    × (now (s .1 .1 .1 .1 .1 .1 .1 .1 .1 .1 .1 .1 .1 .1 .1 .0) ≡ now (s' .1 .1 .1 .1 .1 .1 .1 .1 .1 .1 .1 .1 .1 .1 .1 .0))
+    × (now (s .1 .1 .1 .1 .1 .1 .1 .1 .1 .1 .1 .1 .1 .1 .1 .1 .0) ≡ now (s' .1 .1 .1 .1 .1 .1 .1 .1 .1 .1 .1 .1 .1 .1 .1 .1 .0))
+    × (now (s .1 .1 .1 .1 .1 .1 .1 .1 .1 .1 .1 .1 .1 .1 .1 .1 .1 .0) ≡ now (s' .1 .1 .1 .1 .1 .1 .1 .1 .1 .1 .1 .1 .1 .1 .1 .1 .1 .0))
+    × (now (s .1 .1 .1 .1 .1 .1 .1 .1 .1 .1 .1 .1 .1 .1 .1 .1 .1 .1 .0) ≡ now (s' .1 .1 .1 .1 .1 .1 .1 .1 .1 .1 .1 .1 .1 .1 .1 .1 .1 .1 .0))
+    × (now (s .1 .1 .1 .1 .1 .1 .1 .1 .1 .1 .1 .1 .1 .1 .1 .1 .1 .1 .1 .0) ≡ now (s' .1 .1 .1 .1 .1 .1 .1 .1 .1 .1 .1 .1 .1 .1 .1 .1 .1 .1 .1 .0))
+    × (now (s .1 .1 .1 .1 .1 .1 .1 .1 .1 .1 .1 .1 .1 .1 .1 .1 .1 .1 .1 .1 .0) ≡ now (s' .1 .1 .1 .1 .1 .1 .1 .1 .1 .1 .1 .1 .1 .1 .1 .1 .1 .1 .1 .1 .0))
+akf-extract-turned-mesh-determined κs a r r' s s' p q = (
   p .answer ∙ sym (q .answer),
   p .lists .first ∙ sym (q .lists .first),
   p .lists .second ∙ sym (q .lists .second),

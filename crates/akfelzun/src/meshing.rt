@@ -20,7 +20,7 @@ ghost use Rattle.surfaces.specs.Boxes.{boxAnswer, boxNumber};
 ghost use Rattle.surfaces.specs.Stats.{statsAnswer, statsNumber, statsValue};
 ghost use Rattle.answers.specs.Readings.{settingsOf};
 ghost use Rattle.answers.specs.Keys.{oneIf};
-ghost use Rattle.mesh_answers.specs.Meshing.{MeshBackOn, MeshBack, spanStart, spanLength, lowCorner, highCorner};
+ghost use Rattle.mesh_answers.specs.Meshing.{MeshBackOn, TurnedBack, MeshBack, spanStart, spanLength, lowCorner, highCorner};
 
 #[no_mangle]
 pub extern "C" fn akf_extract_mesh_from_tsdf(
@@ -140,6 +140,65 @@ pub extern "C" fn akf_extract_closed_mesh(
     *edges = closed.first;
     *triangles = closed.second;
     closed.number
+}
+
+#[no_mangle]
+pub extern "C" fn akf_extract_turned_mesh(
+    truncation: f32,
+    max_weight: f32,
+    voxel_size: f32,
+    max_distance: f32,
+    keys: &[u64],
+    distances: &[f32],
+    weights: &[f32],
+    count: usize,
+    first: &mut [u64],
+    second: &mut [u64],
+    px: &mut [f32],
+    py: &mut [f32],
+    pz: &mut [f32],
+    nx: &mut [f32],
+    ny: &mut [f32],
+    nz: &mut [f32],
+    t0: &mut [u32],
+    t1: &mut [u32],
+    t2: &mut [u32],
+    edges: &mut usize,
+    triangles: &mut usize,
+) -> u32
+    ensures { λ r. ⌜ TurnedBack (settingsOf truncation «max_weight» «voxel_size» «max_distance»)
+        (table (now (keys .entry)) (now (distances .entry)) (now (weights .entry)) count)
+        (rooms (ListN.length (now (first .entry))) (ListN.length (now (second .entry))) (ListN.length (now (px .entry)))
+        (ListN.length (now (py .entry))) (ListN.length (now (pz .entry))) (ListN.length (now (nx .entry)))
+        (ListN.length (now (ny .entry))) (ListN.length (now (nz .entry))) 0
+        (ListN.length (now (t0 .entry))) (ListN.length (now (t1 .entry))) (ListN.length (now (t2 .entry))))
+        r (now (edges .exit)) (now (triangles .exit))
+        (now (first .exit)) (now (second .exit)) (now (px .exit)) (now (py .exit)) (now (pz .exit)) (now (nx .exit))
+        (now (ny .exit)) (now (nz .exit)) (now (t0 .exit)) (now (t1 .exit)) (now (t2 .exit)) ⌝ }
+{
+    let settings = settings_of(truncation, max_weight, voxel_size, max_distance);
+    let meshed = turning::extract_turned_mesh(
+        settings,
+        keys,
+        distances,
+        weights,
+        count,
+        first,
+        second,
+        px,
+        py,
+        pz,
+        nx,
+        ny,
+        nz,
+        t0,
+        t1,
+        t2,
+    );
+    let turned = mesh_back(meshed);
+    *edges = turned.first;
+    *triangles = turned.second;
+    turned.number
 }
 
 #[no_mangle]

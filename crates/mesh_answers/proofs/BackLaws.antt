@@ -11,7 +11,8 @@ use Rattle.mesh.specs.declared.Meshed.{Meshed}
 use Rattle.mesh.specs.declared.Rooms.{Rooms}
 use Rattle.mesh.specs.Mesh.{meshedNumber, IsMeshOn}
 use Rattle.mesh_answers.specs.Marching.{marchBack, marchHanded}
-use Rattle.mesh_answers.specs.Meshing.{edgesMeshed, trianglesMeshed, MeshBackOn}
+use Rattle.turning.specs.Turned.{IsTurnedMesh}
+use Rattle.mesh_answers.specs.Meshing.{edgesMeshed, trianglesMeshed, MeshBackOn, TurnedBack}
 
 pub march-back :
     {o o' : march.Outcome}
@@ -35,6 +36,41 @@ pub mesh-back :
     → (n ≡ meshedNumber a) × ((edges ≡ edgesMeshed a) × (triangles ≡ trianglesMeshed a))
     → MeshBackOn o s t r n edges triangles as' bs xs ys zs us vs ws gs is js ks
 mesh-back e p =
+    record {
+      answer = p .0 ∙ ap meshedNumber (e .answer);
+      edge-count = p .1 .0 ∙ ap edgesMeshed (e .answer);
+      triangle-count = p .1 .1 ∙ ap trianglesMeshed (e .answer);
+      lists =
+          record {
+            answer = refl;
+            first = e .first;
+            second = e .second;
+            px = e .px;
+            py = e .py;
+            pz = e .pz;
+            nx = e .nx;
+            ny = e .ny;
+            nz = e .nz;
+            groups = e .groups;
+            t0 = e .t0;
+            t1 = e .t1;
+            t2 = e .t2;
+          };
+    }
+
+pub turned-back :
+    {s : Settings}
+    {t : Table}
+    {r : Rooms}
+    {a : Meshed}
+    {as' bs : List ℕ}
+    {xs ys zs us vs ws : List Float}
+    {is js ks : List ℕ}
+    {n edges triangles : ℕ}
+    → IsTurnedMesh s t r a as' bs xs ys zs us vs ws is js ks
+    → (n ≡ meshedNumber a) × ((edges ≡ edgesMeshed a) × (triangles ≡ trianglesMeshed a))
+    → TurnedBack s t r n edges triangles as' bs xs ys zs us vs ws is js ks
+turned-back e p =
     record {
       answer = p .0 ∙ ap meshedNumber (e .answer);
       edge-count = p .1 .0 ∙ ap edgesMeshed (e .answer);

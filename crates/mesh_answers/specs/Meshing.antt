@@ -9,11 +9,12 @@ use Rattle.floats.specs.Floats.{zero32}
 use Rattle.table.specs.declared.Settings.{Settings}
 use Rattle.table.specs.Table.{Table}
 use Rattle.edges.specs.declared.Surface.{Surface}
-use Rattle.edges.specs.declared.Surface.the-variants.{Open}
+use Rattle.edges.specs.declared.Surface.the-variants.{Open, Closed}
 use Rattle.mesh.specs.declared.Rooms.{Rooms}
 use Rattle.mesh.specs.Mesh.{meshAnswerOn, meshedNumber, IsMeshOn}
 use Rattle.mesh.specs.declared.Meshed.{Meshed}
 use Rattle.mesh.specs.declared.Meshed.the-variants as meshed
+use Rattle.turning.specs.Turned.{IsTurnedMesh}
 use Rattle.groups.specs.declared.Span.{Span}
 use Rattle.slopes.specs.declared.Vertex.{Vertex}
 use Rattle.surfaces.specs.declared.Bounds.{Bounds}
@@ -43,6 +44,14 @@ abbrev pub MeshBack : Settings → Table → Rooms → ℕ → ℕ → ℕ → L
     → List ℕ → List ℕ → List ℕ → List ℕ
     → Type 0
 MeshBack = MeshBackOn Open
+
+-- what the turned mesh hands back
+pub record TurnedBack (s : Settings) (t : Table) (r : Rooms) (number edges triangles : ℕ) (as' bs : List ℕ)
+    (xs ys zs us vs ws : List Float) (is js ks : List ℕ) : Type 0 where
+  pub answer : number ≡ meshedNumber (meshAnswerOn Closed s t r)
+  pub edge-count : edges ≡ edgesMeshed (meshAnswerOn Closed s t r)
+  pub triangle-count : triangles ≡ trianglesMeshed (meshAnswerOn Closed s t r)
+  pub lists : IsTurnedMesh s t r (meshAnswerOn Closed s t r) as' bs xs ys zs us vs ws is js ks
 
 -- where a cell's edge numbers stand, and how many there are; both 0 where there are none
 abbrev pub spanStart : Span → ℕ

@@ -52,7 +52,7 @@ turned-first : (t : Table) → column0 (turnedTriangles (rows t)) ≡ column0 (c
 unfolding turnedTriangles
 turned-first t = first-stays (looksIn (rows t) (closedEdges (rows t))) (closedTriangles (rows t))
 
-turned-length : (t : Table) → length (turnedTriangles (rows t)) ≡ length (closedTriangles (rows t))
+pub turned-length : (t : Table) → length (turnedTriangles (rows t)) ≡ length (closedTriangles (rows t))
 unfolding turnedTriangles
 turned-length t = length-map (closedTriangles (rows t)) (outwards (rows t) (closedEdges (rows t)))
 
@@ -157,6 +157,7 @@ module _ (s : Settings) (ks : List ℕ) (ds ws : List Float) (cnt : ℕ) (r : Ro
         nx = m .nx;
         ny = m .ny;
         nz = m .nz;
+        groups = m .groups;
         t0 = m .t0 ∙ ap (heldIn 0 (meshAnswerOn Closed s t r) (r .t0)) (sym (turned-first t));
         t1 = held (λ f. f .b) js js' (r .t1) (m .t1) e1;
         t2 = held (λ f. f .c) ls ls' (r .t2) (m .t2) e2;

@@ -1,2 +1,4 @@
 pub mod TurnLaws
 pub mod CallLaws
+pub mod TurnedCalls
+pub mod Determined
