@@ -107,7 +107,7 @@ fn face(out: &Path) {
     let mut stand_ins = String::new();
     for line in declared.lines() {
         let Some(rest) = line.trim().strip_prefix("fn akf_") else { continue };
-        let name = format!("akf_{}", rest.split('(').next().unwrap());
+        let name = format!("akf_{}", rest.split(['(', ';']).next().unwrap());
         if landed.contains(&name) {
             text += &format!("    \"{name}\",\n");
         } else {

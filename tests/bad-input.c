@@ -206,9 +206,13 @@ static uint32_t mesh(void) {
     return back(akf_extract_mesh_from_tsdf(THE_SETTINGS, THE_TABLE, count, U64(FIRST), U64(SECOND), F32(PX), F32(PY), F32(PZ), F32(NX),
                                            F32(NY), F32(NZ), U32(GROUPS), U32(T0), U32(T1), U32(T2), n, n + 1), 2, 0, 0);
 }
+#define THE_CLOSED_LISTS \
+    U64(FIRST), U64(SECOND), F32(PX), F32(PY), F32(PZ), F32(NX), F32(NY), F32(NZ), U32(T0), U32(T1), U32(T2), n, n + 1
 static uint32_t closed_mesh(void) {
-    return back(akf_extract_closed_mesh(THE_SETTINGS, THE_TABLE, count, U64(FIRST), U64(SECOND), F32(PX), F32(PY), F32(PZ), F32(NX), F32(NY),
-                                        F32(NZ), U32(T0), U32(T1), U32(T2), n, n + 1), 2, 0, 0);
+    return back(akf_extract_closed_mesh(THE_SETTINGS, THE_TABLE, count, THE_CLOSED_LISTS), 2, 0, 0);
+}
+static uint32_t turned_mesh(void) {
+    return back(akf_extract_turned_mesh(THE_SETTINGS, THE_TABLE, count, THE_CLOSED_LISTS), 2, 0, 0);
 }
 /* has no answer: 0 where it hands back a part of the groups, 2 where it hands back none */
 static uint32_t cell_edges(void) {
@@ -230,6 +234,7 @@ static uint32_t snap(void) {
 }
 
 #define FUSED IN(TABLE) | SETTINGS
+#define CLOSED_LISTS IN(EDGES) | IN(VERTICES) | IN(NORMALS) | IN(TRIANGLES)
 enum { SETTINGS = 1 << SETS, THRESHOLD = 2 << SETS };
 static const struct {
     const char *name;
@@ -254,8 +259,8 @@ static const struct {
     {"esdf_stats", esdf_stats, IN(MARCHED), 0},
     {"extract_mesh_from_tsdf", mesh, FUSED | IN(EDGES) | IN(VERTICES) | IN(NORMALS) | IN(GROUP) | IN(TRIANGLES),
      IN(EDGES) | IN(VERTICES) | IN(NORMALS) | IN(GROUP) | IN(TRIANGLES)},
-    {"extract_closed_mesh", closed_mesh, FUSED | IN(EDGES) | IN(VERTICES) | IN(NORMALS) | IN(TRIANGLES),
-     IN(EDGES) | IN(VERTICES) | IN(NORMALS) | IN(TRIANGLES)},
+    {"extract_closed_mesh", closed_mesh, FUSED | CLOSED_LISTS, CLOSED_LISTS},
+    {"extract_turned_mesh", turned_mesh, FUSED | CLOSED_LISTS, CLOSED_LISTS},
     {"cell_edges", cell_edges, IN(EDGES) | IN(GROUP), 0},
     {"surface_area", area, IN(VERTICES) | IN(TRIANGLES), 0},
     {"bounding_box", box, IN(VERTICES), 0},
@@ -386,25 +391,44 @@ static void nans(void) {
     expect(akf_root(INFINITY, f) == AKF_DONE && f[0] == INFINITY, "refused", "root", "+inf is taken");
 }
 
-/* a closed mesh of one tetrahedron, two corners inside, has 4 edges and vertices and 2 triangles: fewer places for one of the three refuse with 6 */
-static void closed_rooms(void) {
+/* one tetrahedron, two corners inside, in the table */
+static void one_tetrahedron(void) {
     static const uint16_t corner[4][3] = {{11, 11, 9}, {10, 10, 10}, {11, 11, 11}, {12, 10, 10}}; /* ascending by key */
+    good(), count = 4;
+    for (int i = 0; i < 4; i++) {
+        akf_index64_new(0, corner[i][0], corner[i][1], corner[i][2], (uint64_t *)list[KEYS] + i);
+        floats(DISTANCES)[i] = i < 2 ? -0.5f : 0.5f, floats(WEIGHTS)[i] = 1.0f;
+    }
+}
+
+/* it has 4 edges and vertices and 2 triangles, turned or not: fewer places for one of the three refuse with 6 */
+static void closed_rooms(int c) {
     static const int sets[3][2] = {{FIRST, SECOND}, {PX, NZ}, {T0, T2}}, needed[3] = {4, 4, 2};
     for (int s = 0; s < 3; s++)
         for (int places = 0; places <= needed[s]; places++) {
-            good(), count = 4;
-            for (int i = 0; i < 4; i++) {
-                akf_index64_new(0, corner[i][0], corner[i][1], corner[i][2], (uint64_t *)list[KEYS] + i);
-                floats(DISTANCES)[i] = i < 2 ? -0.5f : 0.5f, floats(WEIGHTS)[i] = 1.0f;
-            }
-            for (int l = sets[s][0]; l <= sets[s][1]; l++) lend(l, (size_t)places);
-            n[0] = n[1] = 77;
             int full = places == needed[s];
-            expect(closed_mesh() == (full ? AKF_DONE : 6) && n[0] == (full ? 4 : 0) && n[1] == (full ? 2 : 0), "the answer or a count is another",
-                   "extract_closed_mesh", "room");
-            for (int l = FIRST; l <= T2 && !full; l++)
-                if (l <= SECOND || (l >= PX && l != GROUPS)) expect(zeros(list[l], len[l] * unit(l)), "a list is not zero throughout", "extract_closed_mesh", "room");
+            one_tetrahedron();
+            for (int l = sets[s][0]; l <= sets[s][1]; l++) lend(l, (size_t)places);
+            ask(c, full ? AKF_DONE : 6, "room");
+            expect(n[0] == (full ? 4 : 0) && n[1] == (full ? 2 : 0), "a count is another", call[c].name, "room");
         }
+}
+
+/* its triangles, by each of the two calls: turned, the last two vertices of both are exchanged */
+static void closed_triangles(int c) {
+    static const uint32_t closed[2][3] = {{1, 0, 3}, {1, 3, 2}}, turned[2][3] = {{1, 3, 0}, {1, 2, 3}};
+    const uint32_t (*meant)[3] = call[c].run == turned_mesh ? turned : closed;
+    one_tetrahedron(), ask(c, AKF_DONE, "one tetrahedron");
+    for (int i = 0; i < 2; i++)
+        for (int l = T0; l <= T2; l++) {
+            const uint32_t *said = list[l];
+            expect(said[i] == meant[i][l - T0], "a triangle is another", call[c].name, "one tetrahedron");
+        }
+}
+
+static void closed_meshes(void) {
+    for (int i = 0; i < CALLS; i++)
+        if (call[i].run == closed_mesh || call[i].run == turned_mesh) closed_rooms(i), closed_triangles(i);
     good();
 }
 
@@ -543,7 +567,7 @@ int main(void) {
     counts();
     limits();
     nans();
-    closed_rooms();
+    closed_meshes();
     file_lengths();
     file_parts();
     file_written();

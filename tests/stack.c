@@ -1,6 +1,6 @@
-/* What a call takes of the stack: a batch of 5,000 readings, an edge list, a closed mesh and a march of them, that mesh
-   written as STL and read back, each in a thread of its own whose stack is painted beforehand. Exits 1 where one takes
-   more than 192 KB. docs/LINKING.md says so to a host that lends a small stack. */
+/* What a call takes of the stack: a batch of 5,000 readings, an edge list, a closed mesh, that mesh turned and a march
+   of them, the mesh written as STL and read back, each in a thread of its own whose stack is painted beforehand. Exits
+   1 where one takes more than 192 KB. docs/LINKING.md says so to a host that lends a small stack. */
 #define _XOPEN_SOURCE 700
 #include "akfelzun.h"
 #include <pthread.h>
@@ -33,9 +33,17 @@ static void *list(void *unused) {
     return unused;
 }
 
+#define CLOSED_LISTS \
+    first, EDGES, second, EDGES, px, EDGES, py, EDGES, pz, EDGES, nx, EDGES, ny, EDGES, nz, EDGES, t0, TRIANGLES, t1, \
+        TRIANGLES, t2, TRIANGLES, &edges, &triangles
+
 static void *close_up(void *unused) {
-    answer = akf_extract_closed_mesh(SETTINGS, keys, ROWS, distances, ROWS, weights, ROWS, count, first, EDGES, second, EDGES, px, EDGES, py, EDGES,
-                                     pz, EDGES, nx, EDGES, ny, EDGES, nz, EDGES, t0, TRIANGLES, t1, TRIANGLES, t2, TRIANGLES, &edges, &triangles);
+    answer = akf_extract_closed_mesh(SETTINGS, keys, ROWS, distances, ROWS, weights, ROWS, count, CLOSED_LISTS);
+    return unused;
+}
+
+static void *turn(void *unused) {
+    answer = akf_extract_turned_mesh(SETTINGS, keys, ROWS, distances, ROWS, weights, ROWS, count, CLOSED_LISTS);
     return unused;
 }
 
@@ -87,6 +95,8 @@ int main(void) {
     int wrong = took_too_much("a batch", fuse);
     wrong += took_too_much("an edge list", list);
     wrong += took_too_much("a closed mesh", close_up) + (triangles == 0);
+    size_t closed = triangles;
+    wrong += took_too_much("that mesh turned", turn) + (triangles != closed);
     wrong += took_too_much("writing it as STL", write_stl) + (written != 84 + 50 * triangles);
     wrong += took_too_much("reading that file", read_stl) + (corners != 3 * triangles);
     wrong += took_too_much("a march", march);

@@ -1,11 +1,12 @@
 // bench_last [quick] [stl] [ROWS]: synthetic lasts of 16,384, 32,768 and 65,536 rows, the most that a table holds: the
 // Rust with its own hash tables and the C face in one process on the same input. Prints the best of five runs of each,
 // their ratio, and how each grows when the rows double. The closed mesh, which the Rust does not have, stands beside
-// the mesh of the same run, face against face; and of odd fields beside that of the last. Files of STL stand beside a
-// plain writer and reader. The march goes to about five times the rows, and to about sixteen times, the most that a
+// the mesh of the same run, face against face, and the turned one beside the closed; and both of odd fields beside those
+// of the last. Files of STL stand beside a plain writer and reader. The march goes to about five times the rows, and to about sixteen times, the most that a
 // marched list holds; `quick` leaves it out. ROWS leaves larger lasts out, `stl` everything but the files.
 mod stl;
 
+use compare::calls::ClosedMesh;
 use compare::face::{FACE, LANDED};
 use compare::last::{rows_nearest, shuffled, SIZE};
 use compare::plain::keys::key_of;
@@ -83,7 +84,7 @@ fn done(ms: f64, gave: usize) -> Done {
     Done { ms: Some(ms), gave }
 }
 
-const WORK: [(&str, &str); 8] = [
+const WORK: [(&str, &str); 9] = [
     ("batch, keys ascending", "rows"),
     ("batch, shuffled", "rows"),
     ("edges", "edges"),
@@ -92,11 +93,13 @@ const WORK: [(&str, &str); 8] = [
     ("march, farther", "rows"),
     ("root, a million", ""),
     ("closed mesh", "triangles"),
+    ("turned mesh", "triangles"),
 ];
 const MESH: usize = 3;
 const MARCH: usize = 4;
 const ROOT: usize = 6;
 const CLOSED: usize = 7;
+const TURNED: usize = 8;
 
 // What each work took.
 type Took = [Done; WORK.len()];
@@ -213,8 +216,8 @@ fn lent() -> Lent {
     Lent { edges: [0; 2].map(|_| vec![0; LONGEST]), parts: [0; 6].map(|_| vec![0.0; LONGEST]), corners: [0; 3].map(|_| vec![0; LONGEST]) }
 }
 
-// The closed mesh in these lists, of which those for triangles have `room` places: milliseconds, the answer, edges and triangles.
-fn closed_in(lent: &mut Lent, settings: Settings, rows: Table, room: usize) -> (f64, u32, usize, usize) {
+// The closed mesh, turned or not, in these lists, of which those for triangles have `room` places: milliseconds, the answer, edges and triangles.
+fn closed_in(call: ClosedMesh, lent: &mut Lent, settings: Settings, rows: Table, room: usize) -> (f64, u32, usize, usize) {
     let (mut answer, mut edges, mut triangles) = (0, 0, 0);
     let ms = best(|| {
         let [first, second] = &mut lent.edges;
@@ -222,13 +225,13 @@ fn closed_in(lent: &mut Lent, settings: Settings, rows: Table, room: usize) -> (
         let [t0, t1, t2] = &mut lent.corners;
         let corners = [&mut t0[..room], &mut t1[..room], &mut t2[..room]];
         let lists = ClosedLists { edges: [first, second], places: [px, py, pz], normals: [nx, ny, nz], triangles: corners };
-        answer = (FACE.extract_closed_mesh)(settings, rows, lists, &mut edges, &mut triangles);
+        answer = call(settings, rows, lists, &mut edges, &mut triangles);
     });
     (ms, answer, edges, triangles)
 }
 
-fn face_closed_mesh(f: &Field, rows: Table) -> Done {
-    let (ms, answer, _, triangles) = closed_in(&mut lent(), f.settings, rows, LONGEST);
+fn face_closed_mesh(call: ClosedMesh, f: &Field, rows: Table) -> Done {
+    let (ms, answer, _, triangles) = closed_in(call, &mut lent(), f.settings, rows, LONGEST);
     assert!(answer == 0, "closed mesh: answer {answer}");
     done(ms, triangles)
 }
@@ -284,7 +287,10 @@ fn face(f: &Field) -> Took {
         t[MESH] = face_mesh(f, rows);
     }
     if landed("akf_extract_closed_mesh") {
-        t[CLOSED] = face_closed_mesh(f, rows);
+        t[CLOSED] = face_closed_mesh(FACE.extract_closed_mesh, f, rows);
+    }
+    if landed("akf_extract_turned_mesh") {
+        t[TURNED] = face_closed_mesh(FACE.extract_turned_mesh, f, rows);
     }
     if landed("akf_compute_from_tsdf") && !quick() {
         for (i, &far) in f.far.iter().enumerate() {
@@ -305,18 +311,19 @@ fn over(a: Option<f64>, b: Option<f64>) -> String {
     shown(a.zip(b).map(|(a, b)| a / b))
 }
 
-// The closed mesh beside today's, both by the face, in this run.
+// The closed mesh beside today's, and the turned one beside the closed, all by the face, in this run.
 fn beside_the_mesh(measured: &[(usize, Took, Took)]) {
     if measured.iter().all(|m| m.2[CLOSED].ms.is_none()) {
         println!("the face has no closed mesh yet");
         return;
     }
-    println!("| rows | mesh, ms | gives | closed mesh, ms | gives | closed / mesh |");
-    println!("|---|---|---|---|---|---|");
+    println!("| rows | mesh, ms | gives | closed mesh, ms | gives | closed / mesh | turned mesh, ms | turned / closed |");
+    println!("|---|---|---|---|---|---|---|---|");
     for (rows, _, face) in measured {
-        let (mesh, closed) = (face[MESH], face[CLOSED]);
-        let ratio = over(closed.ms, mesh.ms);
-        println!("| {rows} | {} | {} triangles | {} | {} triangles | {ratio} |", shown(mesh.ms), mesh.gave, shown(closed.ms), closed.gave);
+        let (mesh, closed, turned) = (face[MESH], face[CLOSED], face[TURNED]);
+        let [m, c, t] = [mesh, closed, turned].map(|d| shown(d.ms));
+        let ratios = [over(closed.ms, mesh.ms), over(turned.ms, closed.ms)];
+        println!("| {rows} | {m} | {} triangles | {c} | {} triangles | {} | {t} | {} |", mesh.gave, closed.gave, ratios[0], ratios[1]);
     }
 }
 
@@ -368,21 +375,36 @@ fn rows_of(b: &Block) -> Vec<(u64, f32, f32)> {
     rows
 }
 
-// The closed mesh of odd fields, and of each once more with a place too few for its triangles.
+// One call on an odd field.
+struct Odd {
+    edges: usize,
+    triangles: usize,
+    ms: f64,
+    // once more, with a place too few for its triangles
+    refused: f64,
+}
+
+fn odd(call: ClosedMesh, lists: &mut Lent, name: &str, table: Table) -> Odd {
+    let (ms, answer, edges, triangles) = closed_in(call, lists, last_settings(), table, LONGEST);
+    assert!(answer == 0 && triangles > 0, "{name}: answer {answer}");
+    let (refused, why, ..) = closed_in(call, lists, last_settings(), table, triangles - 1);
+    assert!(why == 6, "{name}: answer {why}");
+    Odd { edges, triangles, ms, refused }
+}
+
+// The closed mesh of odd fields, and the same turned.
 fn odd_fields() {
-    println!("| closed mesh of 65,536 rows | vertices | triangles | ms | ns a row, vertex or triangle | refused with 6, ms |");
-    println!("|---|---|---|---|---|---|");
-    let settings = last_settings();
+    println!("| mesh of 65,536 rows | vertices | triangles | closed, ms | ns a row, vertex or triangle | refused with 6, ms | turned, ms | turned / closed | refused with 6, ms |");
+    println!("|---|---|---|---|---|---|---|---|---|");
     let mut lists = lent();
     let mut tell = |name: &str, rows: &[(u64, f32, f32)]| {
         let (keys, distances, weights): (Vec<u64>, Vec<f32>, Vec<f32>) = (rows.iter().map(|r| r.0).collect(), rows.iter().map(|r| r.1).collect(), rows.iter().map(|r| r.2).collect());
         let table = Table { keys: &keys, distances: &distances, weights: &weights, count: keys.len() };
-        let (ms, answer, edges, triangles) = closed_in(&mut lists, settings, table, LONGEST);
-        assert!(answer == 0 && triangles > 0, "{name}: answer {answer}");
-        let (refused, why, ..) = closed_in(&mut lists, settings, table, triangles - 1);
-        assert!(why == 6, "{name}: answer {why}");
+        let Odd { edges, triangles, ms, refused } = odd(FACE.extract_closed_mesh, &mut lists, name, table);
         let each = ms * 1e6 / (keys.len() + edges + triangles) as f64;
-        println!("| {name} | {edges} | {triangles} | {ms:.1} | {each:.0} | {refused:.1} |");
+        let turned = landed("akf_extract_turned_mesh").then(|| odd(FACE.extract_turned_mesh, &mut lists, name, table));
+        let beside = turned.map_or("- | - | -".to_string(), |t| format!("{:.1} | {:.2} | {:.1}", t.ms, t.ms / ms, t.refused));
+        println!("| {name} | {edges} | {triangles} | {ms:.1} | {each:.0} | {refused:.1} | {beside} |");
     };
     let (keys, distances) = rows_nearest(65_536);
     tell("the last", &keys.into_iter().zip(distances).map(|(k, d)| (k, d, 1.0)).collect::<Vec<_>>());

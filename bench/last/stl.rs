@@ -180,7 +180,7 @@ fn lasts() -> Mesh {
     let weights = vec![1.0; keys.len()];
     let mut lists = lent();
     let rows = Table { keys: &keys, distances: &distances, weights: &weights, count: keys.len() };
-    let (_, answer, vertices, triangles) = closed_in(&mut lists, last_settings(), rows, LONGEST);
+    let (_, answer, vertices, triangles) = closed_in(FACE.extract_closed_mesh, &mut lists, last_settings(), rows, LONGEST);
     assert!(answer == 0 && 3 * triangles >= TRIANGLES, "answer {answer}, {triangles} triangles");
     let side_by_side = |axis: usize| {
         let moved = |n: usize| lists.parts[axis][..vertices].iter().map(move |x| if axis == 1 { x + 0.1 * n as f32 } else { *x });

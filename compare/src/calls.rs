@@ -4,6 +4,9 @@ use crate::case::{rubbish, Bits, Case, Outcome};
 use crate::plain;
 use crate::shape::{ClosedLists, Lists, Marched, Places, Settings, Table, TableMut, Triangles};
 
+// Both calls of the mesh that closes.
+pub type ClosedMesh = fn(Settings, Table, ClosedLists, &mut usize, &mut usize) -> u32;
+
 // One side: a function for each declaration of the header, slices in the place of pointers and lengths.
 pub struct Side {
     pub index64_new: fn(u16, u16, u16, u16, &mut u64) -> u32,
@@ -30,7 +33,8 @@ pub struct Side {
     pub get_voxels_within_distance: fn(Marched, f32, &mut [u64], &mut [f32], &mut usize) -> u32,
     pub esdf_stats: fn(Marched, &mut usize, &mut usize, &mut usize, &mut f32, &mut f32) -> u32,
     pub extract_mesh_from_tsdf: fn(Settings, Table, Lists, &mut usize, &mut usize) -> u32,
-    pub extract_closed_mesh: fn(Settings, Table, ClosedLists, &mut usize, &mut usize) -> u32,
+    pub extract_closed_mesh: ClosedMesh,
+    pub extract_turned_mesh: ClosedMesh,
     pub cell_edges: fn(&[u32], &[u64], &[u64], usize, u64, &mut usize, &mut usize),
     pub surface_area: fn(Places, Triangles, &mut f32) -> u32,
     pub bounding_box: fn(Places, &mut [[f32; 3]; 2]) -> u32,
@@ -68,6 +72,7 @@ macro_rules! reading {
             esdf_stats: $of::marched::esdf_stats,
             extract_mesh_from_tsdf: $of::mesh::extract_mesh_from_tsdf,
             extract_closed_mesh: $of::closed::extract_closed_mesh,
+            extract_turned_mesh: $of::turned::extract_turned_mesh,
             cell_edges: $of::mesh::cell_edges,
             surface_area: $of::mesh::surface_area,
             bounding_box: $of::mesh::bounding_box,
@@ -282,7 +287,7 @@ pub fn extract_mesh_from_tsdf(side: &Side, c: &Case) -> Outcome {
         .list("t2", &t2)
 }
 
-pub fn extract_closed_mesh(side: &Side, c: &Case) -> Outcome {
+fn closed_mesh(call: ClosedMesh, c: &Case) -> Outcome {
     let r = &c.rooms;
     let (mut first, mut second) = (rubbish(r[0]), rubbish(r[1]));
     let (mut px, mut py, mut pz) = (rubbish(r[2]), rubbish(r[3]), rubbish(r[4]));
@@ -295,7 +300,7 @@ pub fn extract_closed_mesh(side: &Side, c: &Case) -> Outcome {
         normals: [&mut nx, &mut ny, &mut nz],
         triangles: [&mut t0, &mut t1, &mut t2],
     };
-    let a = (side.extract_closed_mesh)(c.settings(), c.table(), lists, &mut edges, &mut triangles);
+    let a = call(c.settings(), c.table(), lists, &mut edges, &mut triangles);
     Outcome::answer(a)
         .number("edges", edges)
         .number("triangles", triangles)
@@ -310,6 +315,14 @@ pub fn extract_closed_mesh(side: &Side, c: &Case) -> Outcome {
         .list("t0", &t0)
         .list("t1", &t1)
         .list("t2", &t2)
+}
+
+pub fn extract_closed_mesh(side: &Side, c: &Case) -> Outcome {
+    closed_mesh(side.extract_closed_mesh, c)
+}
+
+pub fn extract_turned_mesh(side: &Side, c: &Case) -> Outcome {
+    closed_mesh(side.extract_turned_mesh, c)
 }
 
 pub fn cell_edges(side: &Side, c: &Case) -> Outcome {

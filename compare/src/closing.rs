@@ -1,30 +1,23 @@
-// compare closed: the plain reading of document 02's No. 14 by itself, without the C face: that a ball and a last close (every side belongs to two
-// triangles, the Euler characteristic is 2, the enclosed volume is the body's within a bound), how many sides stand open where cells are missing, and over
-// random cases that a side belongs to as many triangles as its place says.
+// compare closed: the plain reading of document 02's No. 14 and of issue 17 by itself, without the C face: that a ball and a last close (every side belongs
+// to two triangles, the Euler characteristic is 2, the enclosed volume is the body's within a bound), how many sides stand open where cells are missing, and
+// over random cases that a side belongs to as many triangles as its place says. Of the turned mesh, that through each side of two triangles one runs one way
+// and one the other, that each triangle looks outwards, and that the volume is the body's with its sign.
 use crate::case::Case;
 use crate::last;
 use crate::make::{accepted, for_closed_mesh};
-use crate::plain::closed::{closed, Closed, Tetrahedron};
-use crate::plain::keys::{coords_of, head_of, key_of};
+use crate::plain::closed::{closed, Closed};
+use crate::plain::keys::key_of;
 use crate::plain::table::{edges, rows_of, Row};
+use crate::plain::turned::turned;
 use crate::rng::Rng;
 use crate::shape::Settings;
-use std::collections::{BTreeMap, BTreeSet, VecDeque};
+use crate::sides::{determinant, sides_of, unordered, Directions, Field, Kinds, Side};
+use std::collections::{BTreeMap, VecDeque};
 use std::f64::consts::PI;
 
 const SETTINGS: Settings = Settings { truncation: 1.0, max_weight: 100.0, voxel_size: last::SIZE, max_distance: 0.0 };
 
 // Sides
-
-type Side = (u32, u32);
-
-fn sides_of(t: [u32; 3]) -> [Side; 3] {
-    [(t[0], t[1]), (t[1], t[2]), (t[2], t[0])]
-}
-
-fn unordered(s: Side) -> Side {
-    (s.0.min(s.1), s.0.max(s.1))
-}
 
 // Each side, and the numbers of the triangles that it belongs to.
 fn sides(m: &Closed) -> BTreeMap<Side, Vec<usize>> {
@@ -35,23 +28,9 @@ fn sides(m: &Closed) -> BTreeMap<Side, Vec<usize>> {
     all
 }
 
-// The corners of a side's two crossed edges: three are a face, four lie inside a tetrahedron.
-fn corners(m: &Closed, s: Side) -> BTreeSet<u64> {
-    [s.0, s.1].into_iter().flat_map(|v| [m.edges[v as usize].0, m.edges[v as usize].1]).collect()
-}
-
-fn tetrahedra_with(all: &[Tetrahedron], corners: &BTreeSet<u64>) -> usize {
-    all.iter().filter(|t| corners.iter().all(|k| t.contains(k))).count()
-}
-
 // The request's sentence: inside a tetrahedron, or on a face of two, a side belongs to exactly two triangles; on a face of one it stands open.
-fn as_placed(m: &Closed, s: Side, triangles: usize) -> bool {
-    let corners = corners(m, s);
-    match (corners.len(), tetrahedra_with(&m.tetrahedra, &corners)) {
-        (4, 1) | (3, 2) => triangles == 2,
-        (3, 1) => triangles == 1,
-        _ => false,
-    }
+fn misplaced(m: &Closed, field: &Field, sides: &BTreeMap<Side, Vec<usize>>) -> usize {
+    sides.iter().filter(|(&s, t)| field.triangles_at(&m.edges, s) != t.len()).count()
 }
 
 // Pieces, and the volume within
@@ -59,10 +38,6 @@ fn as_placed(m: &Closed, s: Side, triangles: usize) -> bool {
 // The side as a triangle walks along it.
 fn walked(t: [u32; 3], s: Side) -> Side {
     sides_of(t).into_iter().find(|&w| unordered(w) == s).unwrap()
-}
-
-fn turned(t: [u32; 3]) -> [u32; 3] {
-    [t[0], t[2], t[1]]
 }
 
 // Every triangle turned so that the two of a side walk along it in opposite directions, piece by piece; None where that cannot be.
@@ -83,7 +58,7 @@ fn turned_alike(m: &Closed, sides: &BTreeMap<Side, Vec<usize>>) -> Option<Vec<Ve
                     let other = way[j].unwrap_or_else(|| {
                         waiting.push_back(j);
                         let o = m.triangles[j];
-                        if walked(o, unordered(s)) == s { turned(o) } else { o }
+                        if walked(o, unordered(s)) == s { [o[0], o[2], o[1]] } else { o }
                     });
                     if walked(other, unordered(s)) == s {
                         return None;
@@ -97,22 +72,15 @@ fn turned_alike(m: &Closed, sides: &BTreeMap<Side, Vec<usize>>) -> Option<Vec<Ve
     Some(pieces)
 }
 
-// In cells, by the signed volumes of the tetrahedra to the first vertex.
-fn volume(m: &Closed, piece: &[[u32; 3]]) -> f64 {
+// In cells, by the signed volumes of the tetrahedra to the first vertex: above 0 where the triangles look outwards.
+fn signed_volume(m: &Closed, piece: &[[u32; 3]]) -> f64 {
     let at = |v: u32| m.vertices[v as usize].place.map(|x| x as f64 / last::SIZE as f64);
     let middle = at(piece[0][0]);
     let from = |v: u32| [0, 1, 2].map(|i| at(v)[i] - middle[i]);
-    let six: f64 = piece
-        .iter()
-        .map(|t| {
-            let [a, b, c] = t.map(from);
-            a[0] * (b[1] * c[2] - b[2] * c[1]) + a[1] * (b[2] * c[0] - b[0] * c[2]) + a[2] * (b[0] * c[1] - b[1] * c[0])
-        })
-        .sum();
-    six.abs() / 6.0
+    piece.iter().map(|t| determinant(t.map(from))).sum::<f64>() / 6.0
 }
 
-// What is counted of a mesh
+// What is counted of a mesh, and of the same mesh turned
 
 struct Counted {
     open: usize,
@@ -122,24 +90,31 @@ struct Counted {
     euler: i64,
     // none where the triangles cannot be turned alike
     volumes: Option<Vec<f64>>,
+    directions: Directions,
+    turned_volume: f64,
 }
 
-fn counted(m: &Closed) -> Counted {
-    let sides = sides(m);
+fn counted(m: &Closed, rows: &[Row]) -> Counted {
+    let (sides, field, turned) = (sides(m), Field::with(rows, m.tetrahedra.clone()), turned(SETTINGS, rows));
     let belong = |wanted: &dyn Fn(usize) -> bool| sides.values().filter(|t| wanted(t.len())).count();
+    let mut directions = Directions::default();
+    directions.add(&field, &turned.edges, &turned.triangles);
     Counted {
         open: belong(&|n| n == 1),
         shared: belong(&|n| n == 2),
         crowded: belong(&|n| n > 2),
-        misplaced: sides.iter().filter(|(&s, t)| !as_placed(m, s, t.len())).count(),
+        misplaced: misplaced(m, &field, &sides),
         euler: m.edges.len() as i64 - sides.len() as i64 + m.triangles.len() as i64,
-        volumes: turned_alike(m, &sides).map(|pieces| pieces.iter().map(|p| volume(m, p)).collect()),
+        volumes: turned_alike(m, &sides).map(|pieces| pieces.iter().map(|p| signed_volume(m, p).abs()).collect()),
+        directions,
+        turned_volume: signed_volume(&turned, &turned.triangles),
     }
 }
 
 fn tell(what: &str, rows: usize, m: &Closed, c: &Counted) {
     println!("{what}: {rows} rows, {} tetrahedra, {} vertices, {} triangles", m.tetrahedra.len(), m.vertices.len(), m.triangles.len());
     println!("  sides of two triangles {}, open {}, of more {}, not as placed {}; Euler characteristic {}", c.shared, c.open, c.crowded, c.misplaced, c.euler);
+    println!("  turned: {}", c.directions.told());
 }
 
 // Fields
@@ -191,12 +166,14 @@ fn edges_of_document_01(rows: &[Row], m: &Closed) -> bool {
     rows.iter().any(|r| r.distance == 0.0) || edges(rows) == m.edges
 }
 
-// Closed, in one piece, and within these parts of the true volume.
-fn closes(what: &str, rows: &[(u64, f32)], truth: f64, least: f64, most: f64) -> bool {
-    let m = closed(SETTINGS, &made(rows));
-    let c = counted(&m);
+// Closed, in one piece, and within these parts of the true volume, turned too.
+fn closes(all: &mut Directions, what: &str, rows: &[(u64, f32)], truth: f64, least: f64, most: f64) -> bool {
+    let rows = made(rows);
+    let m = closed(SETTINGS, &rows);
+    let c = counted(&m, &rows);
     tell(what, rows.len(), &m, &c);
-    if !edges_of_document_01(&made(rows), &m) {
+    all.plus(&c.directions);
+    if !edges_of_document_01(&rows, &m) {
         println!("  its edges are not those of document 01's mesh: NOT SO");
         return false;
     }
@@ -204,24 +181,28 @@ fn closes(what: &str, rows: &[(u64, f32)], truth: f64, least: f64, most: f64) ->
         println!("  its triangles cannot be turned alike: NOT SO");
         return false;
     };
-    let part = volumes.iter().sum::<f64>() / truth;
-    let so = c.open == 0 && c.crowded == 0 && c.misplaced == 0 && c.euler == 2 && volumes.len() == 1 && part >= least && part <= most;
+    let within = |volume: f64| volume >= least * truth && volume <= most * truth;
+    let whole = c.open == 0 && c.crowded == 0 && c.misplaced == 0 && c.euler == 2 && volumes.len() == 1;
+    let so = whole && within(volumes[0]) && c.directions.failures() == 0 && within(c.turned_volume);
     println!(
-        "  pieces {}, volume {:.1} cells, {:.4} of the body's {truth:.1} (from {least:.4} to {most:.4}): {}",
+        "  pieces {}, volume {:.1} cells, turned {:+.1}, {:.4} of the body's {truth:.1} (from {least:.4} to {most:.4}): {}",
         volumes.len(),
         volumes.iter().sum::<f64>(),
-        part,
+        c.turned_volume,
+        c.turned_volume / truth,
         if so { "closed" } else { "NOT SO" }
     );
     so
 }
 
-// With cells missing sides stand open, and only those on a face of a single tetrahedron.
-fn opens(what: &str, rows: &[(u64, f32)]) -> bool {
-    let m = closed(SETTINGS, &made(rows));
-    let c = counted(&m);
+// With cells missing sides stand open, and only those on a face of a single tetrahedron; the others are run through once each way.
+fn opens(all: &mut Directions, what: &str, rows: &[(u64, f32)]) -> bool {
+    let rows = made(rows);
+    let m = closed(SETTINGS, &rows);
+    let c = counted(&m, &rows);
     tell(what, rows.len(), &m, &c);
-    c.open > 0 && c.misplaced == 0
+    all.plus(&c.directions);
+    c.open > 0 && c.misplaced == 0 && c.directions.failures() == 0
 }
 
 fn without_some(rows: Vec<(u64, f32)>, seldom: usize) -> Vec<(u64, f32)> {
@@ -243,11 +224,8 @@ struct Held {
     accepted: usize,
     meshed: usize,
     closed: usize,
-    // with triangles: at the border, with a zero of either sign, with a weight of 0, under two heads
-    bordering: usize,
-    zeros: usize,
-    light: usize,
-    heads: usize,
+    // those with triangles
+    kinds: Kinds,
     // rooms for edges, vertices, triangles: exactly enough, and one too few
     enough: [usize; 3],
     short: [usize; 3],
@@ -256,21 +234,15 @@ struct Held {
     misplaced: usize,
     // more edges or triangles to a row than the header says
     crowded: usize,
-}
-
-fn at_border(key: u64) -> bool {
-    coords_of(key).iter().any(|&v| v < 2 || v > 65_533)
-}
-
-fn heads(rows: &[Row]) -> usize {
-    rows.iter().map(|r| head_of(r.key)).collect::<BTreeSet<_>>().len()
+    directions: Directions,
 }
 
 impl Held {
     fn add(&mut self, c: &Case) {
         let rows = rows_of(c.table());
         let m = closed(c.settings(), &rows);
-        let sides = sides(&m);
+        let turned = turned(c.settings(), &rows);
+        let (sides, field) = (sides(&m), Field::with(&rows, m.tetrahedra.clone()));
         let open = sides.values().filter(|t| t.len() == 1).count();
         self.accepted += 1;
         for (i, needed) in [m.edges.len(), m.vertices.len(), m.triangles.len()].into_iter().enumerate() {
@@ -280,28 +252,27 @@ impl Held {
         }
         self.shared += sides.len() - open;
         self.open += open;
-        self.misplaced += sides.iter().filter(|(&s, t)| !as_placed(&m, s, t.len())).count();
+        self.misplaced += misplaced(&m, &field, &sides);
+        self.directions.add(&field, &turned.edges, &turned.triangles);
         self.crowded += (m.edges.len() > 7 * rows.len() || m.triangles.len() > 12 * rows.len()) as usize;
         if !m.triangles.is_empty() {
             self.meshed += 1;
             self.closed += (open == 0) as usize;
-            self.bordering += m.edges.iter().any(|e| at_border(e.0) || at_border(e.1)) as usize;
-            self.zeros += rows.iter().any(|r| r.distance == 0.0) as usize;
-            self.light += rows.iter().any(|r| r.weight == 0.0) as usize;
-            self.heads += (heads(&rows) > 1) as usize;
+            self.kinds.add(&rows, &m.edges);
         }
     }
 
     fn tell(&self, cases: usize) {
         println!("{cases} random cases, {} accepted, {} with triangles, {} of them closed:", self.accepted, self.meshed, self.closed);
-        println!("  at the border {}, with zeros {}, with weights 0 {}, under several heads {}", self.bordering, self.zeros, self.light, self.heads);
+        println!("  {}", self.kinds.told());
         println!("  rooms for edges, vertices, triangles exactly enough {:?}, one too few {:?}", self.enough, self.short);
         println!("  sides of two triangles {}, open {}, not as placed {}; more than 7 edges or 12 triangles a row: {}", self.shared, self.open, self.misplaced, self.crowded);
+        println!("  turned: {}", self.directions.told());
     }
 }
 
 // The request's sentence over random cases.
-fn at_random(cases: usize) -> bool {
+fn at_random(all: &mut Directions, cases: usize) -> bool {
     let mut r = Rng::new(1, "closing");
     let mut held = Held::default();
     for _ in 0..cases {
@@ -311,28 +282,30 @@ fn at_random(cases: usize) -> bool {
         }
     }
     held.tell(cases);
-    held.misplaced == 0 && held.crowded == 0 && held.closed > 0 && held.open > 0
+    all.plus(&held.directions);
+    held.misplaced == 0 && held.crowded == 0 && held.closed > 0 && held.open > 0 && held.directions.failures() == 0
 }
 
 // Whether all is so.
 pub fn run() -> bool {
-    let mut so = true;
+    let (mut so, mut all) = (true, Directions::default());
     for (radius, truncation) in [(4.5, 2.2), (8.0, 2.0), (8.0, 2.2), (8.0, 3.5), (12.3, 2.2)] {
         let what = format!("a ball of radius {radius} cells, within {truncation} of its surface");
-        so &= closes(&what, &ball(radius, truncation), ball_volume(radius), least_ball(radius), 1.0);
+        so &= closes(&mut all, &what, &ball(radius, truncation), ball_volume(radius), least_ball(radius), 1.0);
     }
     for (scale, truncation) in [(0.2, 2.2), (0.3, 2.0), (0.3, 2.2), (0.3, 4.0)] {
         let what = format!("a last {:.1} cells long, within {truncation} of its surface", last::length(scale));
-        so &= closes(&what, &of_last(scale, truncation), last::volume(scale), 1.0 - LAST_WITHIN, 1.0 + LAST_WITHIN);
+        so &= closes(&mut all, &what, &of_last(scale, truncation), last::volume(scale), 1.0 - LAST_WITHIN, 1.0 + LAST_WITHIN);
     }
     let noisy_last = "the last of scale 0.3, read to 0.1 cells, within";
-    so &= closes(&format!("{noisy_last} 2.2 of its surface"), &noisy(0.3, 0.1, 2.2), last::volume(0.3), 1.0 - LAST_WITHIN, 1.0 + LAST_WITHIN);
-    so &= opens(&format!("{noisy_last} 2 only"), &noisy(0.3, 0.1, 2.0));
-    so &= opens("the ball of radius 8 without every 50th row or so", &without_some(ball(8.0, 2.2), 50));
-    so &= opens("the ball of radius 8, within 1.5 of its surface only", &ball(8.0, 1.5));
-    so &= opens("the last of scale 0.3, within 1.98 of its surface only", &of_last(0.3, 1.98));
-    so &= opens("the last of scale 0.3 without every 200th row or so", &without_some(of_last(0.3, 2.2), 200));
-    so &= at_random(3_000);
+    so &= closes(&mut all, &format!("{noisy_last} 2.2 of its surface"), &noisy(0.3, 0.1, 2.2), last::volume(0.3), 1.0 - LAST_WITHIN, 1.0 + LAST_WITHIN);
+    so &= opens(&mut all, &format!("{noisy_last} 2 only"), &noisy(0.3, 0.1, 2.0));
+    so &= opens(&mut all, "the ball of radius 8 without every 50th row or so", &without_some(ball(8.0, 2.2), 50));
+    so &= opens(&mut all, "the ball of radius 8, within 1.5 of its surface only", &ball(8.0, 1.5));
+    so &= opens(&mut all, "the last of scale 0.3, within 1.98 of its surface only", &of_last(0.3, 1.98));
+    so &= opens(&mut all, "the last of scale 0.3 without every 200th row or so", &without_some(of_last(0.3, 2.2), 200));
+    so &= at_random(&mut all, 3_000);
+    println!("turned in all: {}", all.told());
     println!("closed: {}", if so { "all as said" } else { "NOT AS SAID" });
     so
 }

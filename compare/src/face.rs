@@ -286,43 +286,6 @@ extern "C" {
         edges: *mut usize,
         triangles: *mut usize,
     ) -> u32;
-    fn akf_extract_closed_mesh(
-        truncation: f32,
-        max_weight: f32,
-        voxel_size: f32,
-        max_distance: f32,
-        keys: *const u64,
-        keys_len: usize,
-        distances: *const f32,
-        distances_len: usize,
-        weights: *const f32,
-        weights_len: usize,
-        count: usize,
-        first: *mut u64,
-        first_len: usize,
-        second: *mut u64,
-        second_len: usize,
-        px: *mut f32,
-        px_len: usize,
-        py: *mut f32,
-        py_len: usize,
-        pz: *mut f32,
-        pz_len: usize,
-        nx: *mut f32,
-        nx_len: usize,
-        ny: *mut f32,
-        ny_len: usize,
-        nz: *mut f32,
-        nz_len: usize,
-        t0: *mut u32,
-        t0_len: usize,
-        t1: *mut u32,
-        t1_len: usize,
-        t2: *mut u32,
-        t2_len: usize,
-        edges: *mut usize,
-        triangles: *mut usize,
-    ) -> u32;
     fn akf_cell_edges(
         groups: *const u32,
         groups_len: usize,
@@ -409,6 +372,57 @@ extern "C" {
     ) -> u32;
 }
 
+// Both calls of the mesh that closes take the same.
+macro_rules! closing {
+    ($(fn $call:ident;)*) => {
+        #[allow(clashing_extern_declarations)]
+        extern "C" {
+            $(fn $call(
+                truncation: f32,
+                max_weight: f32,
+                voxel_size: f32,
+                max_distance: f32,
+                keys: *const u64,
+                keys_len: usize,
+                distances: *const f32,
+                distances_len: usize,
+                weights: *const f32,
+                weights_len: usize,
+                count: usize,
+                first: *mut u64,
+                first_len: usize,
+                second: *mut u64,
+                second_len: usize,
+                px: *mut f32,
+                px_len: usize,
+                py: *mut f32,
+                py_len: usize,
+                pz: *mut f32,
+                pz_len: usize,
+                nx: *mut f32,
+                nx_len: usize,
+                ny: *mut f32,
+                ny_len: usize,
+                nz: *mut f32,
+                nz_len: usize,
+                t0: *mut u32,
+                t0_len: usize,
+                t1: *mut u32,
+                t1_len: usize,
+                t2: *mut u32,
+                t2_len: usize,
+                edges: *mut usize,
+                triangles: *mut usize,
+            ) -> u32;)*
+        }
+    };
+}
+
+closing! {
+    fn akf_extract_closed_mesh;
+    fn akf_extract_turned_mesh;
+}
+
 fn read<T>(l: &[T]) -> *const T {
     if l.is_empty() {
         null()
@@ -436,6 +450,21 @@ macro_rules! on_table {
             )
         }
     };
+}
+
+// A call on a table that is read, into the lists of a mesh that closes.
+macro_rules! in_closed_lists {
+    ($call:ident, $s:expr, $t:expr, $l:expr, $($counts:expr),*) => {{
+        let ([first, second], [px, py, pz], [nx, ny, nz], [t0, t1, t2]) = ($l.edges, $l.places, $l.normals, $l.triangles);
+        on_table!(
+            $call, $s, $t,
+            written(first), first.len(), written(second), second.len(),
+            written(px), px.len(), written(py), py.len(), written(pz), pz.len(),
+            written(nx), nx.len(), written(ny), ny.len(), written(nz), nz.len(),
+            written(t0), t0.len(), written(t1), t1.len(), written(t2), t2.len(),
+            $($counts),*
+        )
+    }};
 }
 
 // A call on a table that is written.
@@ -625,39 +654,11 @@ fn extract_mesh_from_tsdf(s: Settings, t: Table, l: Lists, edges: &mut usize, tr
 }
 
 fn extract_closed_mesh(s: Settings, t: Table, l: ClosedLists, edges: &mut usize, triangles: &mut usize) -> u32 {
-    let [first, second] = l.edges;
-    let [px, py, pz] = l.places;
-    let [nx, ny, nz] = l.normals;
-    let [t0, t1, t2] = l.triangles;
-    on_table!(
-        akf_extract_closed_mesh,
-        s,
-        t,
-        written(first),
-        first.len(),
-        written(second),
-        second.len(),
-        written(px),
-        px.len(),
-        written(py),
-        py.len(),
-        written(pz),
-        pz.len(),
-        written(nx),
-        nx.len(),
-        written(ny),
-        ny.len(),
-        written(nz),
-        nz.len(),
-        written(t0),
-        t0.len(),
-        written(t1),
-        t1.len(),
-        written(t2),
-        t2.len(),
-        edges,
-        triangles
-    )
+    in_closed_lists!(akf_extract_closed_mesh, s, t, l, edges, triangles)
+}
+
+fn extract_turned_mesh(s: Settings, t: Table, l: ClosedLists, edges: &mut usize, triangles: &mut usize) -> u32 {
+    in_closed_lists!(akf_extract_turned_mesh, s, t, l, edges, triangles)
 }
 
 fn cell_edges(groups: &[u32], first: &[u64], second: &[u64], edges: usize, cell: u64, start: &mut usize, length: &mut usize) {
@@ -715,6 +716,7 @@ pub const FACE: Side = Side {
     esdf_stats,
     extract_mesh_from_tsdf,
     extract_closed_mesh,
+    extract_turned_mesh,
     cell_edges,
     surface_area,
     bounding_box,

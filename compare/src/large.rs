@@ -9,6 +9,7 @@ use crate::face::{FACE, LANDED};
 use crate::last;
 use crate::plain::{mesh, stl, FILE_LIMIT, LISTS_LIMIT};
 use crate::table::{judge, Judged};
+use crate::winding::Windings;
 
 type Large = (&'static str, &'static str, fn() -> Case, fn(&Side, &Case) -> Outcome, fn(&Case) -> Option<Outcome>);
 
@@ -78,22 +79,42 @@ pub fn run(asked_for: &dyn Fn(&str) -> bool) -> usize {
         };
         println!("{name:31} a last of 60,797 rows{}{how}: {said}", if how.is_empty() { "" } else { ", " });
     }
-    if asked("akf_extract_closed_mesh") {
-        differ += closed_mesh();
+    differ += CLOSED.iter().filter(|c| asked(c.0)).map(closed_mesh).sum::<usize>();
+    if asked("akf_extract_turned_mesh") {
+        differ += directions();
     }
     differ + FILES.iter().filter(|f| asked(f.0)).map(file).sum::<usize>()
 }
 
-// The closed mesh beside the plain reading, which takes some seconds.
-fn closed_mesh() -> usize {
-    let case = rooms(of_rows(last::rows_nearest(16_384)), &[12_000, 12_000, 12_000, 12_000, 12_000, 12_000, 12_000, 12_000, 23_000, 23_000, 23_000]);
-    let plain = calls::extract_closed_mesh(&PLAIN, &case);
-    let said = match judge(&plain, &calls::extract_closed_mesh(&FACE, &case), false) {
+type Closed = (&'static str, &'static str, fn(&Side, &Case) -> Outcome);
+
+const CLOSED: &[Closed] = &[
+    ("akf_extract_closed_mesh", "closed", calls::extract_closed_mesh),
+    ("akf_extract_turned_mesh", "turned", calls::extract_turned_mesh),
+];
+
+fn closed_case() -> Case {
+    rooms(of_rows(last::rows_nearest(16_384)), &[12_000, 12_000, 12_000, 12_000, 12_000, 12_000, 12_000, 12_000, 23_000, 23_000, 23_000])
+}
+
+// A mesh that closes beside the plain reading, which takes some seconds.
+fn closed_mesh((_, which, ask): &Closed) -> usize {
+    let case = closed_case();
+    let plain = ask(&PLAIN, &case);
+    let said = match judge(&plain, &ask(&FACE, &case), false) {
         Judged::Differs(what) => format!("differs: {what}"),
         _ => "same".to_string(),
     };
-    println!("the closed mesh of a last of 16,384 rows, {} vertices and {} triangles: {said}", plain.numbers[0].1, plain.numbers[1].1);
+    println!("the {which} mesh of a last of 16,384 rows, {} vertices and {} triangles: {said}", plain.numbers[0].1, plain.numbers[1].1);
     (said != "same") as usize
+}
+
+// What the face hands back as the turned mesh of that last, judged by itself.
+fn directions() -> usize {
+    let mut windings = Windings::default();
+    windings.add(&FACE, &closed_case());
+    println!("its directions: {}", windings.directions.told());
+    windings.directions.failures()
 }
 
 type File = (&'static str, &'static str, fn() -> Case, fn(&Side, &Case) -> Outcome, u32);

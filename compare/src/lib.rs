@@ -12,7 +12,9 @@ pub mod round;
 pub mod samples;
 pub mod shape;
 pub mod shrink;
+pub mod sides;
 pub mod table;
+pub mod winding;
 
 #[cfg(rust)]
 pub mod beside;

@@ -1,6 +1,6 @@
 // compare [SEED [CASES [CALL..]]]: every call over CASES random cases: the plain reading of document 01 beside the Rust with ordered tables,
 // and beside the C face, bit for bit. Prints a table, and for a difference the smallest input found that shows it; exits 1 on one.
-use compare::calls::PLAIN;
+use compare::calls::{Side, PLAIN};
 use compare::case::Case;
 use compare::face::{FACE, LANDED};
 use compare::rng::Rng;
@@ -85,7 +85,7 @@ fn run(c: &Compared, seed: u64, cases: usize, answers: &mut BTreeMap<u32, usize>
     (rust, face)
 }
 
-// The samples of documents 01 and 02: how many do not hold.
+// The samples of documents 01 and 02 and of issue 17: how many do not hold.
 fn samples() -> usize {
     let (mut face, mut failed) = (0, 0);
     for sample in SAMPLES {
@@ -98,28 +98,41 @@ fn samples() -> usize {
             }
         }
     }
-    println!("samples of documents 01 and 02: {} by the plain reading, {face} by the C face, {failed} differ", SAMPLES.len());
+    println!("samples of documents 01 and 02 and of issue 17: {} by the plain reading, {face} by the C face, {failed} differ", SAMPLES.len());
     failed
 }
 
-// The calls of document 02's No. 1.
+// The calls of document 02's No. 1, and that of issue 17.
 const FILES: [&str; 2] = ["akf_export_mesh_stl", "akf_import_mesh_stl"];
+const TURNED: [&str; 1] = ["akf_extract_turned_mesh"];
 
 fn asked_for(name: &str, only: &[String]) -> bool {
     only.is_empty() || only.iter().any(|n| n == name || name[4..] == *n)
 }
 
-// Meshes written and read back: how many were lost.
-fn there_and_back(seed: u64, meshes: usize) -> usize {
-    let mut lost = 0;
+// What each side hands back to these calls, judged by itself: how much of it is wrong. `judge` tells that, and says what it saw.
+fn by_itself(what: &str, calls: &[&str], judge: impl Fn(&Side) -> (usize, String)) -> usize {
+    let mut wrong = 0;
     for (side, name) in [(&PLAIN, "the plain reading"), (&FACE, "the C face")] {
-        if name == "the plain reading" || FILES.iter().all(|call| LANDED.contains(call)) {
-            let trips = compare::round::run(side, seed, meshes);
-            println!("written and read back by {name}: {}", trips.told());
-            lost += trips.lost;
+        if name == "the plain reading" || calls.iter().all(|call| LANDED.contains(call)) {
+            let (failures, told) = judge(side);
+            println!("{what} by {name}: {told}");
+            wrong += failures;
         }
     }
-    lost
+    wrong
+}
+
+// Meshes written and read back: how many were lost.
+fn there_and_back(side: &Side, seed: u64, meshes: usize) -> (usize, String) {
+    let trips = compare::round::run(side, seed, meshes);
+    (trips.lost, trips.told())
+}
+
+// Directions of turned meshes: how many are wrong.
+fn directions(side: &Side, seed: u64, fields: usize) -> (usize, String) {
+    let windings = compare::winding::run(side, seed, fields);
+    (windings.directions.failures(), windings.told())
 }
 
 fn compare(seed: u64, cases: usize, only: &[String]) -> ExitCode {
@@ -143,7 +156,10 @@ fn compare(seed: u64, cases: usize, only: &[String]) -> ExitCode {
         differences += rust.differences + face.differences;
     }
     if FILES.iter().any(|call| asked_for(call, only)) {
-        differences += there_and_back(seed, cases);
+        differences += by_itself("written and read back", &FILES, |side| there_and_back(side, seed, cases));
+    }
+    if TURNED.iter().any(|call| asked_for(call, only)) {
+        differences += by_itself("turned", &TURNED, |side| directions(side, seed, cases));
     }
     #[cfg(rust)]
     if cases >= 100_000 {
@@ -155,7 +171,7 @@ fn compare(seed: u64, cases: usize, only: &[String]) -> ExitCode {
 
 // How a side that misreads differs from the plain reading; one that fails outright shows itself too.
 #[cfg(misread)]
-fn mistaken(c: &Compared, side: &compare::calls::Side, case: &Case) -> Option<(String, Option<compare::case::Outcome>)> {
+fn mistaken(c: &Compared, side: &Side, case: &Case) -> Option<(String, Option<compare::case::Outcome>)> {
     use std::panic::{catch_unwind, AssertUnwindSafe};
     let Ok(wrong) = catch_unwind(AssertUnwindSafe(|| (c.ask)(side, case))) else { return Some(("it panics".to_string(), None)) };
     match judge(&(c.ask)(&PLAIN, case), &wrong, false) {
@@ -164,24 +180,24 @@ fn mistaken(c: &Compared, side: &compare::calls::Side, case: &Case) -> Option<(S
     }
 }
 
-// How many meshes a side that misreads loses, written and read back. One that fails outright loses all.
+// What a side that misreads does wrong, judged by itself. One that fails outright is wrong in every case.
 #[cfg(misread)]
-fn lost_by(side: &compare::calls::Side, seed: u64, meshes: usize) -> usize {
-    std::panic::catch_unwind(|| compare::round::run(side, seed, meshes)).map_or(meshes, |trips| trips.lost)
+fn wrong_by(judge: impl Fn() -> usize, cases: usize) -> usize {
+    std::panic::catch_unwind(std::panic::AssertUnwindSafe(judge)).unwrap_or(cases)
 }
 
-// How many of the cases show that a side misreads: to the Rust, and to the plain reading of document 01. Of those that are named, the smallest input
-// that shows it.
+// How many of the cases show that a side misreads: to the Rust, and to the plain reading; and by what it hands back alone. Of those that are named, the
+// smallest input that shows it.
 #[cfg(misread)]
 fn misread(seed: u64, cases: usize, named: &[String]) -> ExitCode {
     use compare::misread::MISREAD;
     std::panic::set_hook(Box::new(|_| {}));
-    println!("seed {seed}; each misreading of documents 01 and 02, and how many of {cases} cases of a call show it");
+    println!("seed {seed}; each misreading of documents 01 and 02 and of issue 17, and how many of {cases} cases of a call show it");
     println!("{:28}{:31}{:>10}{:>10}  what is misread", "misreading", "call", "the Rust", "plain");
     let (mut asked, mut unseen) = (0, 0);
     for (name, why, side) in MISREAD.iter().filter(|m| named.is_empty() || named.iter().any(|n| n == m.0)) {
         asked += 1;
-        let mut seen = false;
+        let mut seen = Vec::new();
         for c in COMPARED {
             let mut r = Rng::new(seed, c.name);
             let (mut rust, mut plain, mut first) = (0, 0, None);
@@ -194,20 +210,23 @@ fn misread(seed: u64, cases: usize, named: &[String]) -> ExitCode {
                 first.get_or_insert(case);
             }
             if plain > 0 {
-                println!("{name:28}{:31}{rust:>10}{plain:>10}  {}", c.name, if seen { "" } else { why });
-                seen = true;
+                println!("{name:28}{:31}{rust:>10}{plain:>10}  {}", c.name, if seen.is_empty() { why } else { "" });
+                seen.push(c.name);
             }
             if let Some(case) = first.filter(|_| !named.is_empty()) {
                 let small = shrink(case, &|case| mistaken(c, side, case).is_some());
                 println!("  {}: {}\n{}", c.name, mistaken(c, side, &small).unwrap().0, show(&small));
             }
         }
-        let lost = lost_by(side, seed, cases);
-        if lost > 0 {
-            println!("{name:28}{:31}{:>10}{lost:>10}  {}", "(written and read back)", "-", if seen { "" } else { why });
-            seen = true;
+        let lost = wrong_by(|| there_and_back(side, seed, cases).0, cases);
+        // a side that turns as the plain reading does has its directions too
+        let turns = TURNED.iter().any(|call| seen.contains(call));
+        let astray = if turns { wrong_by(|| directions(side, seed, cases).0, cases) } else { 0 };
+        for (what, wrong) in [("(written and read back)", lost), ("(directions)", astray)].into_iter().filter(|w| w.1 > 0) {
+            println!("{name:28}{what:31}{:>10}{wrong:>10}  {}", "-", if seen.is_empty() { why } else { "" });
+            seen.push(what);
         }
-        if !seen {
+        if seen.is_empty() {
             println!("{name:28}{:31}{:>10}{:>10}  {why}: NOT SEEN", "", 0, 0);
             unseen += 1;
         }

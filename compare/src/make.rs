@@ -784,7 +784,7 @@ fn full_table(r: &mut Rng) -> Case {
     c
 }
 
-// Rooms for edges, vertices and triangles: enough, or for one of the three around what is needed, most often exactly enough or one too few.
+// For both calls of the mesh that closes. Rooms for edges, vertices and triangles: enough, or for one of the three around what is needed, most often exactly enough or one too few.
 pub fn for_closed_mesh(r: &mut Rng) -> Case {
     let make = r.pick(&[table as fn(&mut Rng) -> Case, full_table, body_table, body_table]);
     let mut c = make(r);

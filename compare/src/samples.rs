@@ -1,10 +1,12 @@
-// Document 01's "Samples at the edges", and after them some of document 02's No. 14 and No. 1, held against a side.
+// Document 01's "Samples at the edges", and after them some of document 02's No. 14, of issue 17 and of document 02's
+// No. 1, held against a side.
 // Truncation 1, maximum weight 100, size 1, confidence and weight 1 unless said.
 use crate::calls::{self, Side};
 use crate::case::{Case, Outcome};
 use crate::plain::keys::{key_of, neighbours};
 use crate::plain::{ABSENT, DONE, FAR};
 use crate::shape::{Places, Triangles};
+use std::collections::BTreeSet;
 
 pub struct Sample {
     pub what: &'static str,
@@ -67,10 +69,19 @@ fn tetrahedron(distances: [f32; 4]) -> Case {
     rows(&[0, 1, 2, 3].map(|i| (keys[i], distances[i])))
 }
 
-fn closed(side: &Side, c: &Case, triangles: usize) -> Outcome {
+// With places for so many triangles.
+fn room_for(c: &Case, triangles: usize) -> Case {
     let mut rooms = vec![64; 8];
     rooms.extend([triangles; 3]);
-    calls::extract_closed_mesh(side, &Case { rooms, ..c.clone() })
+    Case { rooms, ..c.clone() }
+}
+
+fn closed(side: &Side, c: &Case, triangles: usize) -> Outcome {
+    calls::extract_closed_mesh(side, &room_for(c, triangles))
+}
+
+fn turned(side: &Side, c: &Case, triangles: usize) -> Outcome {
+    calls::extract_turned_mesh(side, &room_for(c, triangles))
 }
 
 // Edges and triangles; none of either where the call is refused.
@@ -290,6 +301,48 @@ pub const SAMPLES: &[Sample] = &[
         holds: |s| {
             let refused = closed(s, &surrounded(), 23);
             closed_counts(s, &surrounded()) == [14, 24] && refused.answer == Some(6) && refused.numbers.iter().all(|n| n.1 == 0)
+        },
+    },
+    Sample {
+        what: "turned, that triangle is (0, 2, 1) where it looked inwards, and (0, 1, 2) where inside and outside are exchanged",
+        calls: &["akf_extract_turned_mesh"],
+        holds: |s| {
+            [[-0.5, 0.5, 0.5, 0.5], [0.5, 0.5, -0.5, 0.5], [-0.5, 0.5, -0.5, -0.5]].into_iter().all(|d| {
+                let other = d.map(|x: f32| -x);
+                triangle(&turned(s, &tetrahedron(d), 1), 0) == [0, 2, 1] && triangle(&turned(s, &tetrahedron(other), 1), 0) == [0, 1, 2]
+            })
+        },
+    },
+    Sample {
+        what: "turned, two corners inside: triangles (1, 3, 0) and (1, 2, 3); the other two inside: (1, 3, 2) and (1, 0, 3); room for one refuses with 6",
+        calls: &["akf_extract_turned_mesh"],
+        holds: |s| {
+            let (c, other) = (tetrahedron([-0.5, -0.5, 0.5, 0.5]), tetrahedron([0.5, 0.5, -0.5, -0.5]));
+            let (m, o) = (turned(s, &c, 2), turned(s, &other, 2));
+            [triangle(&m, 0), triangle(&m, 1)] == [[1, 3, 0], [1, 2, 3]]
+                && [triangle(&o, 0), triangle(&o, 1)] == [[1, 3, 2], [1, 0, 3]]
+                && turned(s, &c, 1).answer == Some(6)
+        },
+    },
+    Sample {
+        what: "turned, by whole numbers: flat triangles, all corners at one place, turn as if they were not",
+        calls: &["akf_extract_turned_mesh"],
+        holds: |s| {
+            // three edges run from (11,11,9), whose distance is 0: by the floats all three vertices stand there
+            let flat = turned(s, &tetrahedron([0.0, -0.5, -0.5, -0.5]), 1);
+            let small = turned(s, &tetrahedron([-1e-30, 0.0, -0.0, 0.0]), 1);
+            (2..5).all(|l| flat.lists[l].1[0] == flat.lists[l].1[1] && flat.lists[l].1[1] == flat.lists[l].1[2])
+                && triangle(&flat, 0) == [0, 1, 2]
+                && triangle(&small, 0) == [0, 2, 1]
+        },
+    },
+    Sample {
+        what: "turned, a centre with all 14 neighbours on the other side: each of 36 sides is run through once each way; room 23 refuses with 6",
+        calls: &["akf_extract_turned_mesh"],
+        holds: |s| {
+            let (m, refused) = (turned(s, &surrounded(), 24), turned(s, &surrounded(), 23));
+            let runs: BTreeSet<[u64; 2]> = (0..24).map(|i| triangle(&m, i)).flat_map(|[a, b, c]| [[a, b], [b, c], [c, a]]).collect();
+            m.numbers[1].1 == 24 && runs.len() == 72 && runs.iter().all(|&[u, v]| runs.contains(&[v, u])) && refused.answer == Some(6)
         },
     },
     Sample {

@@ -66,6 +66,7 @@ pub const COMPARED: &[Compared] = &[
     beside!(extract_mesh_from_tsdf, for_mesh),
     // the Rust has no closed mesh: the plain reading is the judge
     alone!(1, extract_closed_mesh, for_closed_mesh),
+    alone!(1, extract_turned_mesh, for_closed_mesh),
     // the Rust has no list of groups
     alone!(1, cell_edges, for_groups),
     beside!(surface_area, for_shape),

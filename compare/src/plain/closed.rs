@@ -120,9 +120,13 @@ fn two(edges: &[(u64, u64)], inside: &[u64], outside: &[u64]) -> [[u32; 3]; 2] {
     [[pr, ps, qs], [pr, qs, qr]]
 }
 
-// Both parts stand ascending, as the corners do.
+// The corners inside and those outside; both stand ascending, as the corners do.
+pub fn parted(rows: &[Row], t: &Tetrahedron) -> (Vec<u64>, Vec<u64>) {
+    t.iter().partition(|&&k| inside(rows, k))
+}
+
 pub fn triangles_in(rows: &[Row], edges: &[(u64, u64)], t: &Tetrahedron) -> Vec<[u32; 3]> {
-    let (inside, outside): (Vec<u64>, Vec<u64>) = t.iter().partition(|&&k| inside(rows, k));
+    let (inside, outside) = parted(rows, t);
     match inside.len() {
         1 => vec![single(edges, inside[0], &outside)],
         2 => two(edges, &inside, &outside).to_vec(),
@@ -131,29 +135,36 @@ pub fn triangles_in(rows: &[Row], edges: &[(u64, u64)], t: &Tetrahedron) -> Vec<
     }
 }
 
-pub fn closed(s: Settings, rows: &[Row]) -> Closed {
+// How the triangles of a tetrahedron are made: the one thing in which the turned mesh is another.
+pub type Cut = fn(&[Row], &[(u64, u64)], &Tetrahedron) -> Vec<[u32; 3]>;
+
+pub fn mesh(cut: Cut, s: Settings, rows: &[Row]) -> Closed {
     let tetrahedra = tetrahedra(rows);
     let edges = edges(rows, &tetrahedra);
     let vertices = vertices_on(s, rows, &edges);
-    let triangles = tetrahedra.iter().flat_map(|t| triangles_in(rows, &edges, t)).collect();
+    let triangles = tetrahedra.iter().flat_map(|t| cut(rows, &edges, t)).collect();
     Closed { tetrahedra, edges, vertices, triangles }
 }
 
-fn extract(s: Settings, t: Table, l: &ClosedLists) -> Done<Closed> {
+pub fn closed(s: Settings, rows: &[Row]) -> Closed {
+    mesh(triangles_in, s, rows)
+}
+
+fn made(cut: Cut, s: Settings, t: Table, l: &ClosedLists) -> Done<Closed> {
     let edge_lens = [l.edges[0].len(), l.edges[1].len()];
     let vertex_lens: Vec<usize> = l.places.iter().chain(&l.normals).map(|v| v.len()).collect();
     let triangle_lens = [0, 1, 2].map(|i: usize| l.triangles[i].len());
     let lists = one_set(&edge_lens, LISTS_LIMIT) && one_set(&vertex_lens, LISTS_LIMIT) && one_set(&triangle_lens, LISTS_LIMIT);
     let rows = sound_rows(s, t, lists)?;
-    let m = closed(s, &rows);
+    let m = mesh(cut, s, &rows);
     need(m.edges.len() <= edge_lens[0], 6)?;
     need(m.vertices.len() <= vertex_lens[0], 6)?;
     need(m.triangles.len() <= triangle_lens[0], 6)?;
     Ok(m)
 }
 
-pub fn extract_closed_mesh(s: Settings, t: Table, l: ClosedLists, edges: &mut usize, triangles: &mut usize) -> u32 {
-    let made = extract(s, t, &l);
+pub fn extract(cut: Cut, s: Settings, t: Table, l: ClosedLists, edges: &mut usize, triangles: &mut usize) -> u32 {
+    let made = made(cut, s, t, &l);
     let none = Closed { tetrahedra: Vec::new(), edges: Vec::new(), vertices: Vec::new(), triangles: Vec::new() };
     let m = made.as_ref().unwrap_or(&none);
     *edges = m.edges.len();
@@ -171,4 +182,8 @@ pub fn extract_closed_mesh(s: Settings, t: Table, l: ClosedLists, edges: &mut us
         fill(list, &m.triangles.iter().map(|t| t[corner]).collect::<Vec<_>>());
     }
     number(&made)
+}
+
+pub fn extract_closed_mesh(s: Settings, t: Table, l: ClosedLists, edges: &mut usize, triangles: &mut usize) -> u32 {
+    extract(triangles_in, s, t, l, edges, triangles)
 }

@@ -1,7 +1,7 @@
-// A plain reading of document 01, and of what document 02 adds to it, written from their text alone: lists are searched
-// from the front and everything is worked out by the sentence that asks for it. It judges what the Rust does not
-// settle: refusals, rooms, and every place of every lent list. The functions `pub fn` of this module's files that
-// `calls.rs` names take what the C face takes, slices for pointers and lengths.
+// A plain reading of document 01, of what document 02 adds to it, and of issue 17, written from their text alone: lists
+// are searched from the front and everything is worked out by the sentence that asks for it. It judges what the Rust
+// does not settle: refusals, rooms, and every place of every lent list. The functions `pub fn` of this module's files
+// that `calls.rs` names take what the C face takes, slices for pointers and lengths.
 pub mod closed;
 pub mod fuse;
 pub mod keys;
@@ -12,6 +12,7 @@ pub mod root;
 pub mod snap;
 pub mod stl;
 pub mod table;
+pub mod turned;
 
 pub const DONE: u32 = 0;
 pub const FAR: u32 = 100;
