@@ -1,15 +1,16 @@
 /* closed FILE.stl: a small last that closes. Its body is given by a formula (heel, waist, ball and toe from above, sole
- * and instep from the side); the cells near its surface are read in one pass and fused. The mesh that closes is written
- * to the file as binary STL, and to standard output as text: `cells N`, then for each vertex `v` with its place and
- * normal and `b` with the bits of its place, and `t` with a triangle's three vertex numbers, from 0; demo/picture draws
- * that. The body's lengths are millimetres, and so are the mesh's. Exits 1 where a call is refused or the file can't be
- * written. */
+ * and instep from the side); the cells near its surface are read in one pass and fused. The mesh that closes, each
+ * triangle turned outwards, is written to the file as binary STL, and to standard output as text: `cells N`, then for
+ * each vertex `v` with its place and `b` with the bits of its place, and `t` with a triangle's three vertex numbers,
+ * from 0; demo/picture draws that. The body's lengths are millimetres, and so are the mesh's. Exits 1 where a call is
+ * refused or the file can't be written. */
 #include "akfelzun.h"
 
 #include <stdio.h>
 #include <string.h>
 
-/* millimetres a cell; the table reaches 2.2 cells from the surface, since the corners of a tetrahedron lie at most 2 cells apart */
+/* millimetres a cell; the table reaches 2.2 cells from the surface, since the corners of a tetrahedron lie at most 2
+ * cells apart */
 #define CELL 9.0f
 #define TRUNCATION (2.2f * CELL)
 /* truncation, maximum weight, voxel size, maximum distance: in millimetres too */
@@ -47,7 +48,8 @@ static float outside_pair(float x, float y, struct disc a, struct disc b) {
 
 /* from above: heel, waist, ball and toe, which turns inwards */
 static float outside_plan(float x, float y) {
-    static const struct disc heel = {34.0f, 0.0f, 31.0f}, waist = {98.0f, 3.0f, 27.0f}, ball = {178.0f, -1.0f, 42.0f}, toe = {232.0f, 9.0f, 25.0f};
+    static const struct disc heel = {34.0f, 0.0f, 31.0f}, waist = {98.0f, 3.0f, 27.0f};
+    static const struct disc ball = {178.0f, -1.0f, 42.0f}, toe = {232.0f, 9.0f, 25.0f};
     float back = blended_least(outside_pair(x, y, heel, waist), outside_pair(x, y, waist, ball), 12.0f);
     return blended_least(back, outside_pair(x, y, ball, toe), 20.0f);
 }
@@ -59,7 +61,8 @@ static float height(const float *at, float x) {
     return at[i] + (place - (float)i) * (at[i + 1] - at[i]);
 }
 
-/* from the side: the heel's seat, the arched waist, the ball on the floor, the toe's spring; the cone over the heel, the instep, the toe */
+/* from the side: the heel's seat, the arched waist, the ball on the floor, the toe's spring; the cone over the heel,
+ * the instep, the toe */
 static float sole(float x) {
     static const float at[14] = {19, 19, 19, 19, 18, 16, 12, 7, 3, 1, 1, 3, 7, 12};
     return height(at, x);
@@ -69,8 +72,9 @@ static float instep(float x) {
     return height(at, x);
 }
 
-/* how far a place lies outside the last, in millimetres: its walls lean inwards with the height, and the back of the heel is round. Lengths across walls
- * and instep, which are not upright, are cut a little, so that none is longer than it is */
+/* how far a place lies outside the last, in millimetres: its walls lean inwards with the height, and the back of the
+ * heel is round. Lengths across walls and instep, which are not upright, are cut a little, so that none is longer than
+ * it is */
 static float outside_last(float x, float y, float z) {
     float low = sole(x), high = instep(x), lean = within(z - low, 0.0f, 100.0f);
     float bulge = 0.0022f * (z - 48.0f) * (z - 48.0f) * within(1.0f - x / 90.0f, 0.0f, 1.0f);
@@ -113,13 +117,15 @@ int main(int words, char **word) {
         fprintf(stderr, "usage: closed FILE.stl\n");
         return 2;
     }
-    uint32_t answer = akf_batch_update(SETTINGS, keys, ROWS, distances, ROWS, weights, ROWS, &rows, read_keys, n, readings, n, confidences, n, &at);
+    uint32_t answer = akf_batch_update(SETTINGS, keys, ROWS, distances, ROWS, weights, ROWS, &rows, read_keys, n,
+                                       readings, n, confidences, n, &at);
     if (answer == AKF_DONE)
-        answer = akf_extract_closed_mesh(SETTINGS, keys, ROWS, distances, ROWS, weights, ROWS, rows, first, EDGES, second, EDGES, px, EDGES, py, EDGES,
-                                         pz, EDGES, nx, EDGES, ny, EDGES, nz, EDGES, t0, TRIANGLES, t1, TRIANGLES, t2, TRIANGLES, &vertices, &triangles);
+        answer = akf_extract_turned_mesh(SETTINGS, keys, ROWS, distances, ROWS, weights, ROWS, rows, first, EDGES,
+                                         second, EDGES, px, EDGES, py, EDGES, pz, EDGES, nx, EDGES, ny, EDGES, nz,
+                                         EDGES, t0, TRIANGLES, t1, TRIANGLES, t2, TRIANGLES, &vertices, &triangles);
     if (answer == AKF_DONE)
-        answer = akf_export_mesh_stl(px, EDGES, py, EDGES, pz, EDGES, vertices, t0, TRIANGLES, t1, TRIANGLES, t2, TRIANGLES, triangles, file, sizeof file,
-                                     &bytes);
+        answer = akf_export_mesh_stl(px, EDGES, py, EDGES, pz, EDGES, vertices, t0, TRIANGLES, t1, TRIANGLES, t2,
+                                     TRIANGLES, triangles, file, sizeof file, &bytes);
     if (answer != AKF_DONE) {
         fprintf(stderr, "closed: refused with %u\n", answer);
         return 1;
@@ -130,7 +136,7 @@ int main(int words, char **word) {
     }
     printf("cells %zu\n", rows);
     for (size_t i = 0; i < vertices; i++) {
-        printf("v %.3f %.3f %.3f %.4f %.4f %.4f\n", px[i], py[i], pz[i], nx[i], ny[i], nz[i]);
+        printf("v %.3f %.3f %.3f\n", px[i], py[i], pz[i]);
         printf("b %08x %08x %08x\n", bits(px[i]), bits(py[i]), bits(pz[i]));
     }
     for (size_t i = 0; i < triangles; i++) printf("t %u %u %u\n", t0[i], t1[i], t2[i]);

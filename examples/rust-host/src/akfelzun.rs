@@ -80,43 +80,6 @@ mod face {
             edges: *mut usize,
             triangles: *mut usize,
         ) -> u32;
-        pub fn akf_extract_closed_mesh(
-            truncation: f32,
-            max_weight: f32,
-            voxel_size: f32,
-            max_distance: f32,
-            keys: *const u64,
-            keys_len: usize,
-            distances: *const f32,
-            distances_len: usize,
-            weights: *const f32,
-            weights_len: usize,
-            count: usize,
-            first: *mut u64,
-            first_len: usize,
-            second: *mut u64,
-            second_len: usize,
-            px: *mut f32,
-            px_len: usize,
-            py: *mut f32,
-            py_len: usize,
-            pz: *mut f32,
-            pz_len: usize,
-            nx: *mut f32,
-            nx_len: usize,
-            ny: *mut f32,
-            ny_len: usize,
-            nz: *mut f32,
-            nz_len: usize,
-            t0: *mut u32,
-            t0_len: usize,
-            t1: *mut u32,
-            t1_len: usize,
-            t2: *mut u32,
-            t2_len: usize,
-            edges: *mut usize,
-            triangles: *mut usize,
-        ) -> u32;
         pub fn akf_surface_area(
             px: *const f32,
             px_len: usize,
@@ -180,6 +143,54 @@ mod face {
             vertices: *mut usize,
         ) -> u32;
     }
+
+    /// Calls that are declared with the same parameters.
+    macro_rules! closing_calls {
+        ($($call:ident),*) => {
+            extern "C" {
+                $(
+                    pub fn $call(
+                        truncation: f32,
+                        max_weight: f32,
+                        voxel_size: f32,
+                        max_distance: f32,
+                        keys: *const u64,
+                        keys_len: usize,
+                        distances: *const f32,
+                        distances_len: usize,
+                        weights: *const f32,
+                        weights_len: usize,
+                        count: usize,
+                        first: *mut u64,
+                        first_len: usize,
+                        second: *mut u64,
+                        second_len: usize,
+                        px: *mut f32,
+                        px_len: usize,
+                        py: *mut f32,
+                        py_len: usize,
+                        pz: *mut f32,
+                        pz_len: usize,
+                        nx: *mut f32,
+                        nx_len: usize,
+                        ny: *mut f32,
+                        ny_len: usize,
+                        nz: *mut f32,
+                        nz_len: usize,
+                        t0: *mut u32,
+                        t0_len: usize,
+                        t1: *mut u32,
+                        t1_len: usize,
+                        t2: *mut u32,
+                        t2_len: usize,
+                        edges: *mut usize,
+                        triangles: *mut usize,
+                    ) -> u32;
+                )*
+            }
+        };
+    }
+    closing_calls!(akf_extract_closed_mesh, akf_extract_turned_mesh);
 }
 
 /// Why a call is refused, with the numbers of documents 01 and 02.
@@ -294,6 +305,75 @@ pub struct Mesh {
     pub triangles: [Vec<u32>; 3],
 }
 
+/// A call that meshes a table, in lists of its own; between normals and triangles it is lent the rest.
+macro_rules! meshed {
+    ($call:ident, $table:expr, $room:expr $(, $rest:expr)*) => {{
+        let (table, s, room) = ($table, $table.settings, $room);
+        let lengths = || vec![0.0f32; room.edges];
+        let numbers = || vec![0u32; room.triangles];
+        let (mut first, mut second) = (vec![0u64; room.edges], vec![0u64; room.edges]);
+        let [mut px, mut py, mut pz] = [lengths(), lengths(), lengths()];
+        let [mut nx, mut ny, mut nz] = [lengths(), lengths(), lengths()];
+        let [mut t0, mut t1, mut t2] = [numbers(), numbers(), numbers()];
+        let (mut edges, mut triangles) = (0, 0);
+        // SAFETY: each pointer is a list's own, with its length; no two lists overlap.
+        let number = unsafe {
+            face::$call(
+                s.truncation,
+                s.max_weight,
+                s.voxel_size,
+                s.max_distance,
+                table.keys.as_ptr(),
+                table.keys.len(),
+                table.distances.as_ptr(),
+                table.distances.len(),
+                table.weights.as_ptr(),
+                table.weights.len(),
+                table.count,
+                first.as_mut_ptr(),
+                first.len(),
+                second.as_mut_ptr(),
+                second.len(),
+                px.as_mut_ptr(),
+                px.len(),
+                py.as_mut_ptr(),
+                py.len(),
+                pz.as_mut_ptr(),
+                pz.len(),
+                nx.as_mut_ptr(),
+                nx.len(),
+                ny.as_mut_ptr(),
+                ny.len(),
+                nz.as_mut_ptr(),
+                nz.len(),
+                $($rest,)*
+                t0.as_mut_ptr(),
+                t0.len(),
+                t1.as_mut_ptr(),
+                t1.len(),
+                t2.as_mut_ptr(),
+                t2.len(),
+                &mut edges,
+                &mut triangles,
+            )
+        };
+        let cut = |mut list: Vec<f32>| {
+            list.truncate(edges);
+            list
+        };
+        let cut_numbers = |mut list: Vec<u32>| {
+            list.truncate(triangles);
+            list
+        };
+        let mesh = Mesh {
+            positions: [cut(px), cut(py), cut(pz)],
+            normals: [cut(nx), cut(ny), cut(nz)],
+            triangles: [cut_numbers(t0), cut_numbers(t1), cut_numbers(t2)],
+        };
+        answer(number, mesh)
+    }};
+}
+
 impl Table {
     pub fn new(settings: Settings, places: usize) -> Table {
         Table {
@@ -372,137 +452,19 @@ impl Table {
     }
 
     pub fn mesh(&self, room: Room) -> Answer<Mesh> {
-        let s = self.settings;
-        let lengths = || vec![0.0f32; room.edges];
-        let numbers = || vec![0u32; room.triangles];
-        let (mut first, mut second) = (vec![0u64; room.edges], vec![0u64; room.edges]);
-        let [mut px, mut py, mut pz] = [lengths(), lengths(), lengths()];
-        let [mut nx, mut ny, mut nz] = [lengths(), lengths(), lengths()];
         let mut groups = vec![0u32; room.groups];
-        let [mut t0, mut t1, mut t2] = [numbers(), numbers(), numbers()];
-        let (mut edges, mut triangles) = (0, 0);
-        // SAFETY: each pointer is a list's own, with its length; no two lists overlap.
-        let number = unsafe {
-            face::akf_extract_mesh_from_tsdf(
-                s.truncation,
-                s.max_weight,
-                s.voxel_size,
-                s.max_distance,
-                self.keys.as_ptr(),
-                self.keys.len(),
-                self.distances.as_ptr(),
-                self.distances.len(),
-                self.weights.as_ptr(),
-                self.weights.len(),
-                self.count,
-                first.as_mut_ptr(),
-                first.len(),
-                second.as_mut_ptr(),
-                second.len(),
-                px.as_mut_ptr(),
-                px.len(),
-                py.as_mut_ptr(),
-                py.len(),
-                pz.as_mut_ptr(),
-                pz.len(),
-                nx.as_mut_ptr(),
-                nx.len(),
-                ny.as_mut_ptr(),
-                ny.len(),
-                nz.as_mut_ptr(),
-                nz.len(),
-                groups.as_mut_ptr(),
-                groups.len(),
-                t0.as_mut_ptr(),
-                t0.len(),
-                t1.as_mut_ptr(),
-                t1.len(),
-                t2.as_mut_ptr(),
-                t2.len(),
-                &mut edges,
-                &mut triangles,
-            )
-        };
-        let cut = |mut list: Vec<f32>| {
-            list.truncate(edges);
-            list
-        };
-        let cut_numbers = |mut list: Vec<u32>| {
-            list.truncate(triangles);
-            list
-        };
-        let mesh = Mesh {
-            positions: [cut(px), cut(py), cut(pz)],
-            normals: [cut(nx), cut(ny), cut(nz)],
-            triangles: [cut_numbers(t0), cut_numbers(t1), cut_numbers(t2)],
-        };
-        answer(number, mesh)
+        let (list, length) = (groups.as_mut_ptr(), groups.len());
+        meshed!(akf_extract_mesh_from_tsdf, self, room, list, length)
     }
 
     /// The mesh that closes; the room for groups is not used.
     pub fn closed_mesh(&self, room: Room) -> Answer<Mesh> {
-        let s = self.settings;
-        let lengths = || vec![0.0f32; room.edges];
-        let numbers = || vec![0u32; room.triangles];
-        let (mut first, mut second) = (vec![0u64; room.edges], vec![0u64; room.edges]);
-        let [mut px, mut py, mut pz] = [lengths(), lengths(), lengths()];
-        let [mut nx, mut ny, mut nz] = [lengths(), lengths(), lengths()];
-        let [mut t0, mut t1, mut t2] = [numbers(), numbers(), numbers()];
-        let (mut edges, mut triangles) = (0, 0);
-        // SAFETY: each pointer is a list's own, with its length; no two lists overlap.
-        let number = unsafe {
-            face::akf_extract_closed_mesh(
-                s.truncation,
-                s.max_weight,
-                s.voxel_size,
-                s.max_distance,
-                self.keys.as_ptr(),
-                self.keys.len(),
-                self.distances.as_ptr(),
-                self.distances.len(),
-                self.weights.as_ptr(),
-                self.weights.len(),
-                self.count,
-                first.as_mut_ptr(),
-                first.len(),
-                second.as_mut_ptr(),
-                second.len(),
-                px.as_mut_ptr(),
-                px.len(),
-                py.as_mut_ptr(),
-                py.len(),
-                pz.as_mut_ptr(),
-                pz.len(),
-                nx.as_mut_ptr(),
-                nx.len(),
-                ny.as_mut_ptr(),
-                ny.len(),
-                nz.as_mut_ptr(),
-                nz.len(),
-                t0.as_mut_ptr(),
-                t0.len(),
-                t1.as_mut_ptr(),
-                t1.len(),
-                t2.as_mut_ptr(),
-                t2.len(),
-                &mut edges,
-                &mut triangles,
-            )
-        };
-        let cut = |mut list: Vec<f32>| {
-            list.truncate(edges);
-            list
-        };
-        let cut_numbers = |mut list: Vec<u32>| {
-            list.truncate(triangles);
-            list
-        };
-        let mesh = Mesh {
-            positions: [cut(px), cut(py), cut(pz)],
-            normals: [cut(nx), cut(ny), cut(nz)],
-            triangles: [cut_numbers(t0), cut_numbers(t1), cut_numbers(t2)],
-        };
-        answer(number, mesh)
+        meshed!(akf_extract_closed_mesh, self, room)
+    }
+
+    /// The same with each triangle turned outwards; the room for groups is not used.
+    pub fn turned_mesh(&self, room: Room) -> Answer<Mesh> {
+        meshed!(akf_extract_turned_mesh, self, room)
     }
 }
 

@@ -1,16 +1,20 @@
-//! What a plug-in in Rust does. Two passes over a small last are fused, the surface is meshed, and counts, area and box are
-//! printed; then the mesh that closes, the same as an STL file and read back, refusals and what is far.
+//! What a plug-in in Rust does. Two passes over a small last are fused, the surface is meshed, and counts, area and box
+//! are printed; then the mesh that closes, the same with its triangles turned outwards, this as an STL file and read
+//! back, refusals and what is far. Lengths are millimetres, which lathes and slicers read.
 mod akfelzun;
 
 use akfelzun::{key, read_stl, root, Answer, Mesh, Room, Settings, Table};
 use std::collections::BTreeMap;
 
+/// Millimetres a cell.
+const CELL: f32 = 1.25;
+
 /// How far a cell lies outside a ball.
-fn outside_ball(cell: [u16; 3], centre: [u16; 3], radius: f32) -> f32 {
+fn outside_ball(cell: [u16; 3], centre: [f32; 3], radius: f32) -> f32 {
     let squares: f32 = cell
         .iter()
         .zip(centre)
-        .map(|(&a, c)| (a as f32 - c as f32).powi(2))
+        .map(|(&a, c)| (a as f32 * CELL - c).powi(2))
         .sum();
     let Answer::Done(length) = root(squares) else {
         unreachable!("a sum of squares has a root")
@@ -20,7 +24,8 @@ fn outside_ball(cell: [u16; 3], centre: [u16; 3], radius: f32) -> f32 {
 
 /// A last in little: a heel and a toe.
 fn outside_last(cell: [u16; 3]) -> f32 {
-    outside_ball(cell, [16, 16, 16], 4.5).min(outside_ball(cell, [22, 16, 15], 3.5))
+    let heel = outside_ball(cell, [20.0, 20.0, 20.0], 5.625);
+    heel.min(outside_ball(cell, [27.5, 20.0, 18.75], 4.375))
 }
 
 /// One pass of the scanner, whose readings are all off by the same length.
@@ -40,17 +45,27 @@ fn scan(off: f32) -> (Vec<u64>, Vec<f32>) {
     (keys, distances)
 }
 
-/// How many sides belong to two triangles, and how many there are.
-fn shared_sides(mesh: &Mesh) -> (usize, usize) {
-    let mut triangles_of: BTreeMap<[u32; 2], usize> = BTreeMap::new();
-    for i in 0..mesh.triangles[0].len() {
-        let t = [0, 1, 2].map(|corner: usize| mesh.triangles[corner][i]);
+/// The vertex numbers of each triangle.
+fn triangles(mesh: &Mesh) -> Vec<[u32; 3]> {
+    let [t0, t1, t2] = &mesh.triangles;
+    (0..t0.len()).map(|i| [t0[i], t1[i], t2[i]]).collect()
+}
+
+/// How often each side is run through, from its lower vertex number to its higher and back.
+fn runs_of_sides(mesh: &Mesh) -> Vec<[usize; 2]> {
+    let mut runs: BTreeMap<[u32; 2], [usize; 2]> = BTreeMap::new();
+    for t in triangles(mesh) {
         for (a, b) in [(t[0], t[1]), (t[1], t[2]), (t[2], t[0])] {
-            *triangles_of.entry([a.min(b), a.max(b)]).or_default() += 1;
+            runs.entry([a.min(b), a.max(b)]).or_default()[(a > b) as usize] += 1;
         }
     }
-    let shared = triangles_of.values().filter(|&&n| n == 2).count();
-    (shared, triangles_of.len())
+    runs.into_values().collect()
+}
+
+/// How many triangles are those of another mesh with the last two vertex numbers swapped.
+fn swapped(mesh: &Mesh, other: &Mesh) -> usize {
+    let pairs = triangles(mesh).into_iter().zip(triangles(other));
+    pairs.filter(|(t, o)| *t == [o[0], o[2], o[1]]).count()
 }
 
 /// How many vertices that were read are the corners of the mesh, bit for bit.
@@ -81,15 +96,39 @@ fn tell_file(mesh: &Mesh) {
     );
 }
 
+/// The mesh that closes, and the same turned outwards, which is written as a file.
+fn tell_closed(closed: &Mesh, turned: &Mesh) {
+    let runs = runs_of_sides(closed);
+    println!(
+        "closed mesh: vertices {}, triangles {}, sides of two triangles {} of {}, area {:.3?}",
+        closed.positions[0].len(),
+        closed.triangles[0].len(),
+        runs.iter()
+            .filter(|[there, back]| there + back == 2)
+            .count(),
+        runs.len(),
+        closed.area()
+    );
+    let runs = runs_of_sides(turned);
+    println!(
+        "turned mesh: triangles {}, of them turned {}, sides run through once each way {} of {}",
+        turned.triangles[0].len(),
+        swapped(turned, closed),
+        runs.iter().filter(|&&r| r == [1, 1]).count(),
+        runs.len()
+    );
+    tell_file(turned);
+}
+
 fn main() {
     let settings = Settings {
-        truncation: 2.0,
+        truncation: 2.0 * CELL,
         max_weight: 100.0,
-        voxel_size: 1.0,
-        max_distance: 10.0,
+        voxel_size: CELL,
+        max_distance: 12.5,
     };
     let mut table = Table::new(settings, 4096);
-    for off in [0.125, -0.125] {
+    for off in [0.15625, -0.15625] {
         let (keys, distances) = scan(off);
         let fused = table.batch_update(&keys, &distances, &vec![0.5; keys.len()]);
         println!(
@@ -124,23 +163,20 @@ fn main() {
         groups: 0,
         triangles,
     };
-    match table.closed_mesh(room(262144)) {
-        Answer::Done(mesh) => {
-            println!(
-                "closed mesh: vertices {}, triangles {}, sides of two triangles {} of {}, area {:.3?}",
-                mesh.positions[0].len(),
-                mesh.triangles[0].len(),
-                shared_sides(&mesh).0,
-                shared_sides(&mesh).1,
-                mesh.area()
-            );
-            tell_file(&mesh);
-        }
-        other => println!("closed mesh: {:?}", other.refusal()),
+    match (
+        table.closed_mesh(room(262144)),
+        table.turned_mesh(room(262144)),
+    ) {
+        (Answer::Done(closed), Answer::Done(turned)) => tell_closed(&closed, &turned),
+        (closed, turned) => println!(
+            "closed mesh: {:?}, turned mesh: {:?}",
+            closed.refusal(),
+            turned.refusal()
+        ),
     }
     println!(
-        "closed mesh with room for one triangle: {:?}",
-        table.closed_mesh(room(1)).refusal()
+        "turned mesh with room for one triangle: {:?}",
+        table.turned_mesh(room(1)).refusal()
     );
     println!("key of (16, 16, 17): {:?}", key(0, 16, 16, 17));
     println!(
@@ -157,7 +193,7 @@ fn main() {
         unreachable!("an even cell is on the lattice")
     };
     println!(
-        "a reading of 3 m: {:?}",
+        "a reading of 3 mm: {:?}",
         table.update_from_depth(k, 3.0, 1.0)
     );
     let halves = table.batch_update(&[k, 1], &[0.5, 0.5], &[1.0, 1.0]);
