@@ -177,7 +177,7 @@ pub extern "C" fn akf_extract_turned_mesh(
         (now (ny .exit)) (now (nz .exit)) (now (t0 .exit)) (now (t1 .exit)) (now (t2 .exit)) ⌝ }
 {
     let settings = settings_of(truncation, max_weight, voxel_size, max_distance);
-    let meshed = turning::extract_turned_mesh(
+    let meshed = turned_mesh::extract_turned_mesh(
         settings,
         keys,
         distances,

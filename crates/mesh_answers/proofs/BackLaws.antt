@@ -11,7 +11,7 @@ use Rattle.mesh.specs.declared.Meshed.{Meshed}
 use Rattle.mesh.specs.declared.Rooms.{Rooms}
 use Rattle.mesh.specs.Mesh.{meshedNumber, IsMeshOn}
 use Rattle.mesh_answers.specs.Marching.{marchBack, marchHanded}
-use Rattle.turning.specs.Turned.{IsTurnedMesh}
+use Rattle.turned_mesh.specs.Turned.{IsTurnedMesh}
 use Rattle.mesh_answers.specs.Meshing.{edgesMeshed, trianglesMeshed, MeshBackOn, TurnedBack}
 
 pub march-back :

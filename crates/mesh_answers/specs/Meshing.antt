@@ -14,7 +14,7 @@ use Rattle.mesh.specs.declared.Rooms.{Rooms}
 use Rattle.mesh.specs.Mesh.{meshAnswerOn, meshedNumber, IsMeshOn}
 use Rattle.mesh.specs.declared.Meshed.{Meshed}
 use Rattle.mesh.specs.declared.Meshed.the-variants as meshed
-use Rattle.turning.specs.Turned.{IsTurnedMesh}
+use Rattle.turned_mesh.specs.Turned.{IsTurnedMesh}
 use Rattle.groups.specs.declared.Span.{Span}
 use Rattle.slopes.specs.declared.Vertex.{Vertex}
 use Rattle.surfaces.specs.declared.Bounds.{Bounds}

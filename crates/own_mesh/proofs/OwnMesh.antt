@@ -52,7 +52,7 @@ use Rattle.mesh.proofs.OpenLaws.{rise}
 use Rattle.mesh.proofs.MeshLaws.{tests, fit}
 use Rattle.mesh.proofs.Calls.{done-on}
 use Rattle.winding.specs.Winding.{looksIn, turnIf, outwards, turnedTriangles}
-use Rattle.turning.specs.Turned.{IsTurnedMesh}
+use Rattle.turned_mesh.specs.Turned.{IsTurnedMesh}
 
 -- ---- lists by their elements
 

@@ -1,4 +1,2 @@
 pub mod TurnLaws
-pub mod CallLaws
-pub mod TurnedCalls
 pub mod Determined

@@ -2,9 +2,9 @@
 use Prim.Native.Nat.{ℕ, _<_, _≤_}
 use mathlib.Core.Path.{_≡_}
 use mathlib.Core.Bool.{Bool, cond}
-use mathlib.Core.List.{List, _++_}
+use mathlib.Core.List.{List}
 use lib.Ieee.{Float}
-use lib.ListN.{length, getD, drop}
+use lib.ListN.{length, getD}
 use Rattle.lists.specs.Threes.{Three, three, threesIn}
 use Rattle.table.specs.Table.{rowsOf}
 use Rattle.edges.specs.Steps.{Accepted}
@@ -14,8 +14,6 @@ use Rattle.tetrahedra.specs.ClosedTriangles.{closedTriangles}
 use Rattle.winding.specs.declared.Spot.{Spot}
 use Rattle.winding.specs.Spots.{halfway, inFront}
 use Rattle.winding.specs.Winding.{turnIf}
-use Rattle.mesh.specs.declared.Meshed.{Meshed}
-use Rattle.mesh.specs.declared.Meshed.the-variants.{Done, Refused}
 
 -- a triangle's vertices are edges of two lists
 pub record Numbers (first second : List ℕ) (f : Three ℕ) : Type 0 where
@@ -64,12 +62,3 @@ pub record Ready (ks : List ℕ) (ds ws : List Float) (n : ℕ) (first second : 
   pub t1 : j ≤ length js
   pub t2 : j ≤ length ls
   pub triangles : threesIn is js ls j ≡ closedTriangles (rowsOf ks ds ws n)
-
--- the same, where a mesh is answered
-abbrev pub ReadyIf : Meshed → List ℕ → List Float → List Float → ℕ → List ℕ → List ℕ → List ℕ → List ℕ → List ℕ → Type 0
-ReadyIf a ks ds ws n first second is js ls = (m j : ℕ) → a ≡ Done m j → Ready ks ds ws n first second m is js ls j
-
--- a column of the triangles in place of that which a list held in front, where a mesh is answered
-abbrev pub turnedFor : Meshed → List ℕ → List ℕ → List ℕ
-turnedFor (Done m j) xs l = xs ++ drop j l
-turnedFor (Refused why) xs l = l

@@ -1,11 +1,11 @@
--- `turning::turn_meshed` meets its contract: each answer is a line of the definition.
+-- `turned_mesh::turn_meshed` meets its contract: each answer is a line of the definition.
 -- Assumes nothing.
 use borrow.Author.Needs.{needs}
-use Rattle.turning.proofs.turn_meshed.Statement.{statement}
-use Rattle.turning.proofs.turn_meshed.Tie as tie
-use Rattle.turning.proofs.turn_meshed.Reads as reads
-use Rattle.turning.proofs.turn_meshed.Lts as lts
+use Rattle.turned_mesh.proofs.turn_meshed.Statement.{statement}
+use Rattle.turned_mesh.proofs.turn_meshed.Tie as tie
+use Rattle.turned_mesh.proofs.turn_meshed.Reads as reads
+use Rattle.turned_mesh.proofs.turn_meshed.Lts as lts
 use Rattle.turning.proofs.turn_triangles.Reads as turn-triangles-reads
 
 -- src/lib.rt:116:22
 enum-known-meshed : tie.Need-enum-known-meshed

@@ -33,8 +33,9 @@ use Rattle.mesh.specs.Mesh.{meshCheck, haveRoomOn, meshAnswerOn, heldIn, IsClos
 use Rattle.mesh.proofs.MeshLaws.{fit}
 use Rattle.mesh.proofs.Calls.{done-on}
 use Rattle.mesh.proofs.ClosedCalls.{lists-padded, edges-held, triangles-held}
-use Rattle.turning.specs.Turned.{IsTurnedMesh}
-use Rattle.turning.specs.Steps.{Ready, turnedFor}
+use Rattle.turned_mesh.specs.Turned.{IsTurnedMesh}
+use Rattle.turning.specs.Steps.{Ready}
+use Rattle.turned_mesh.specs.Steps.{turnedFor}
 
 -- ---- columns
 

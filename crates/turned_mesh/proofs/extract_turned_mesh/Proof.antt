@@ -1,13 +1,13 @@
--- `turning::extract_turned_mesh` meets its contract: the closed mesh, turned.
+-- `turned_mesh::extract_turned_mesh` meets its contract: the closed mesh, turned.
 -- Assumes nothing.
-use Rattle.turning.proofs.CallLaws.{ready-by, turned-mesh}
+use Rattle.turned_mesh.proofs.CallLaws.{ready-by, turned-mesh}
 use borrow.Author.Needs.{needs}
-use Rattle.turning.proofs.extract_turned_mesh.Statement.{statement}
-use Rattle.turning.proofs.extract_turned_mesh.Tie as tie
-use Rattle.turning.proofs.extract_turned_mesh.Reads as reads
-use Rattle.turning.proofs.extract_turned_mesh.Lts as lts
+use Rattle.turned_mesh.proofs.extract_turned_mesh.Statement.{statement}
+use Rattle.turned_mesh.proofs.extract_turned_mesh.Tie as tie
+use Rattle.turned_mesh.proofs.extract_turned_mesh.Reads as reads
+use Rattle.turned_mesh.proofs.extract_turned_mesh.Lts as lts
 use Rattle.mesh.proofs.extract_closed_mesh.Reads as extract-closed-mesh-reads
-use Rattle.turning.proofs.turn_meshed.Reads as turn-meshed-reads
+use Rattle.turned_mesh.proofs.turn_meshed.Reads as turn-meshed-reads
 
 -- src/lib.rt:161:9
 extract-closed-mesh-requires : tie.Need-extract-closed-mesh-requires

@@ -32,8 +32,8 @@ use Rattle.mesh.proofs.OpenLaws.{rise}
 use Rattle.mesh.proofs.MeshLaws.{fit}
 use Rattle.mesh.proofs.Calls.{done-on}
 use Rattle.mesh.proofs.ClosedCalls.{edges-held, lists-wiped}
-use Rattle.turning.specs.Turned.{IsTurnedMesh}
-use Rattle.turning.proofs.CallLaws.{turned-length}
+use Rattle.turned_mesh.specs.Turned.{IsTurnedMesh}
+use Rattle.turned_mesh.proofs.CallLaws.{turned-length}
 
 module _ (s : Settings) (ks : List ℕ) (ds ws : List Float) (cnt : ℕ) (r : Rooms) (a : Meshed) (as' bs : List ℕ)
     (xs ys zs us vs ws' : List Float) (is js ls : List ℕ) (m : IsTurnedMesh s (table ks ds ws cnt) r a as' bs xs ys zs us vs ws' is js ls) where
