@@ -6,7 +6,8 @@
 # make examples  the two hosts and the test of bad input, on this machine
 # make compare   every call beside the Rust and the plain reading, 100,000 cases each (seed=N cases=N)
 # make misread   misreadings of documents 01 and 02 on purpose: the comparison must see each
-# make readers   the demo's STL file, read by Python and by ADMesh, where that is there
+# make readers   the demo's STL file, read by Python, and by ADMesh, Blender, PrusaSlicer and OpenSCAD, where they are
+#             there
 .PHONY: test demo quick lib examples compare misread readers bench bench-root bench-last
 
 test:

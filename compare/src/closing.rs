@@ -1,4 +1,4 @@
-// compare closed: the plain reading of document 02's No. 14 and of issue 17 by itself, without the C face: that a ball and a last close (every side belongs
+// compare closed: the plain reading of document 02's No. 14 and of the turned mesh by itself, without the C face: that a ball and a last close (every side belongs
 // to two triangles, the Euler characteristic is 2, the enclosed volume is the body's within a bound), how many sides stand open where cells are missing, and
 // over random cases that a side belongs to as many triangles as its place says. Of the turned mesh, that through each side of two triangles one runs one way
 // and one the other, that each triangle looks outwards, and that the volume is the body's with its sign.

@@ -85,7 +85,7 @@ fn run(c: &Compared, seed: u64, cases: usize, answers: &mut BTreeMap<u32, usize>
     (rust, face)
 }
 
-// The samples of documents 01 and 02 and of issue 17: how many do not hold.
+// The samples of documents 01 and 02 and of the turned mesh: how many do not hold.
 fn samples() -> usize {
     let (mut face, mut failed) = (0, 0);
     for sample in SAMPLES {
@@ -98,11 +98,11 @@ fn samples() -> usize {
             }
         }
     }
-    println!("samples of documents 01 and 02 and of issue 17: {} by the plain reading, {face} by the C face, {failed} differ", SAMPLES.len());
+    println!("samples of documents 01 and 02 and of the turned mesh: {} by the plain reading, {face} by the C face, {failed} differ", SAMPLES.len());
     failed
 }
 
-// The calls of document 02's No. 1, and that of issue 17.
+// The calls of document 02's No. 1, and the turned mesh.
 const FILES: [&str; 2] = ["akf_export_mesh_stl", "akf_import_mesh_stl"];
 const TURNED: [&str; 1] = ["akf_extract_turned_mesh"];
 
@@ -192,7 +192,7 @@ fn wrong_by(judge: impl Fn() -> usize, cases: usize) -> usize {
 fn misread(seed: u64, cases: usize, named: &[String]) -> ExitCode {
     use compare::misread::MISREAD;
     std::panic::set_hook(Box::new(|_| {}));
-    println!("seed {seed}; each misreading of documents 01 and 02 and of issue 17, and how many of {cases} cases of a call show it");
+    println!("seed {seed}; each misreading of documents 01 and 02 and of the turned mesh, and how many of {cases} cases of a call show it");
     println!("{:28}{:31}{:>10}{:>10}  what is misread", "misreading", "call", "the Rust", "plain");
     let (mut asked, mut unseen) = (0, 0);
     for (name, why, side) in MISREAD.iter().filter(|m| named.is_empty() || named.iter().any(|n| n == m.0)) {

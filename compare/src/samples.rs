@@ -1,4 +1,4 @@
-// Document 01's "Samples at the edges", and after them some of document 02's No. 14, of issue 17 and of document 02's
+// Document 01's "Samples at the edges", and after them some of document 02's No. 14, of the turned mesh and of document 02's
 // No. 1, held against a side.
 // Truncation 1, maximum weight 100, size 1, confidence and weight 1 unless said.
 use crate::calls::{self, Side};

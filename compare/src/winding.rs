@@ -1,4 +1,4 @@
-// Issue 17: what a side hands back as the turned mesh has one winding, and looks outwards. Judged from its own lists, over
+// What a side hands back as the turned mesh has one winding, and looks outwards. Judged from its own lists, over
 // the cases of the closed mesh: random fields, bodies with holes, damaged tables.
 use crate::calls::{extract_turned_mesh, Side};
 use crate::case::{Case, Outcome};

@@ -1,4 +1,4 @@
-// A plain reading of document 01, of what document 02 adds to it, and of issue 17, written from their text alone: lists
+// A plain reading of document 01, of what document 02 adds to it, and of the turned mesh, written from their text alone: lists
 // are searched from the front and everything is worked out by the sentence that asks for it. It judges what the Rust
 // does not settle: refusals, rooms, and every place of every lent list. The functions `pub fn` of this module's files
 // that `calls.rs` names take what the C face takes, slices for pointers and lengths.

@@ -1,4 +1,4 @@
-// Issue 17: No. 14's triangles in their order, each turned where it has to be so that it looks outwards. Directions are by
+// The turned mesh: No. 14's triangles in their order, each turned where it has to be so that it looks outwards. Directions are by
 // whole numbers: in doubled coordinates a cell stands at twice its own, and the middle of an edge at the sum of its ends'.
 use super::closed::{extract, mesh, parted, triangles_in, Closed, Tetrahedron};
 use super::keys::coords_of;

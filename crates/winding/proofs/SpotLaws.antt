@@ -7,10 +7,10 @@ use mathlib.Core.Path.{_≡_, refl, sym, ap, ap₂, _∙_}
 use mathlib.Core.Logic.{_⊎_, inl, inr}
 use mathlib.Core.Bool.{Bool, true, false, not, false≢true}
 use lib.Dec.{ltb}
-use borrow.Author.Tests.{lt-ltb, le-ltb}
+use borrow.Author.Tests.{lt-ltb, le-ltb, ltb-true}
 use Rattle.ids.proofs.KeyLaws.{coord-small}
 use Rattle.winding.specs.declared.Spot.{Spot}
-use Rattle.winding.specs.Spots.{both, halfway, triple, plusTerms, inFront}
+use Rattle.winding.specs.Spots.{both, halfway, triple, plusTerms, inFront, pointsFromTo}
 use Rattle.winding.specs.Steps.{Small}
 use Rattle.winding.proofs.Volume.{tri, vol, cycle, first-three, last-three, Far}
 
@@ -246,6 +246,18 @@ from-second false a b c p e = sums-same e (named-round a c b p ∙ named-round b
 pub turned-about : (s : Bool) (a b c p : Spot) → Stands s a b c p → Stands (not s) a c b p
 turned-about true a b c p e = sums-same e (named-round b c a p ∙ named-round a b c p) (named-round b a c p)
 turned-about false a b c p e = sums-same e (named-round b a c p) (named-round b c a p ∙ named-round a b c p)
+
+-- one point behind and another in front: the normal points from the one to the other
+sums-across : (e o e' o' x y : ℕ) → x ≡ e → y ≡ o → x < y → o' < e' → o' + e < e' + o
+sums-across e o e' o' x y p q h g = omega arith
+
+pub points-across : (a b c p q : Spot) → inFront a c b p ≡ true → inFront a b c q ≡ true → pointsFromTo a b c p q ≡ true
+unfolding inFront pointsFromTo
+points-across a b c p q behind before =
+    lt-ltb (plusTerms b a c q + plusTerms a b c p) (plusTerms a b c q + plusTerms b a c p)
+    (sums-across (plusTerms a b c p) (plusTerms b a c p) (plusTerms a b c q) (plusTerms b a c q) (plusTerms c a b p) (plusTerms a c b p)
+    (named-round b c a p ∙ named-round a b c p) (named-round b a c p) (ltb-true (plusTerms c a b p) (plusTerms a c b p) behind)
+    (ltb-true (plusTerms b a c q) (plusTerms a b c q) before))
 
 -- seen in the mirror of the first, of the second and of the third
 pub mirrored-first : (s : Bool) (a b c k l : Spot) → both k l ≡ both a a → Stands s a b c k → Stands (not s) a b c l

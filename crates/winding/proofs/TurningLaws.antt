@@ -23,11 +23,11 @@ use Rattle.tetrahedra.specs.ClosedEdges.{insideAt, closedEdges}
 use Rattle.tetrahedra.specs.ClosedTriangles.{vertexOf, rising, nth, alone, halves, cut, cutBy, trianglesOf, closedTriangles}
 use Rattle.tetrahedra.proofs.Corners.{place, eqc, corner-eq, everyBool, at-bool, other, free, pick, apart3}
 use Rattle.tetrahedra.proofs.Local.{signs, signs-are}
-use Rattle.winding.specs.Winding.{faces, looksIn, turnIf, outwards, turnedTriangles, LooksOutward, OutwardBy, SameButTurned, none, more}
+use Rattle.winding.specs.Winding.{faces, normalFromTo, looksIn, turnIf, outwards, turnedTriangles, LooksOutward, OutwardBy, SameButTurned, none, more}
 use Rattle.winding.specs.Facing.{leftHanded, turnedOf}
 use Rattle.winding.specs.Steps.{leftOf, oddRising, oddSigns, turnAlone, turnHalves, turnCut, turnBy, ruledOf}
 use Rattle.winding.proofs.Running.{oddOrder}
-use Rattle.winding.proofs.SpotLaws.{in-front, turned-about}
+use Rattle.winding.proofs.SpotLaws.{in-front, turned-about, points-across}
 use Rattle.winding.proofs.StandLaws.{Seen, hand-is, alone-seen, first-seen, second-seen}
 
 -- ---- the finite part: which corners are cut, and that the rule says what the corners' order says
@@ -258,18 +258,27 @@ module _ (rows : List Row) (up : ascending (keysOf rows) ≡ true) (t : Four) (m
   inside-behind g true s c o = ap (λ (x : Three ℕ). faces es x (at t c)) (turned-twice g) ∙ straight g true s c ∙ rw o
   inside-behind g false s c o = ap (λ (x : Three ℕ). faces es (turnIf true x) (at t c)) (not-turned g) ∙ swapped g false s c ∙ rw o
 
+  normal-out : (f : Three ℕ) (c d : Corner) → faces es (turnIf true f) (at t c) ≡ true → faces es f (at t d) ≡ true → normalFromTo es f (at t c) (at t d) ≡ true
+  unfolding turnIf
+  normal-out f c d behind before = points-across _ _ _ _ _ behind before
+
   -- Each outside corner lies in front of a turned triangle, and each inside corner behind it.
   pub outward-here : (f : Three ℕ) → f ∈ turnedOf rows es t → LooksOutward rows es f
   outward-here f i =
       let g = map-in (outwards rows es) (trianglesOf rows es t) i in
       let s = here .each (g .0) (g .1) in
       let e : f ≡ turnIf (s .0) (g .0) = g .2 ∙ turned-as (g .0) (s .0) (s .1) in
+      let front : (c : Corner) → w c ≡ false → faces es f (at t c) ≡ true =
+      λ c o. ap (λ (x : Three ℕ). faces es x (at t c)) e ∙ outside-front (g .0) (s .0) (s .1) c o in
+      let back : (c : Corner) → w c ≡ true → faces es (turnIf true f) (at t c) ≡ true =
+      λ c o. ap (λ (x : Three ℕ). faces es (turnIf true x) (at t c)) e ∙ inside-behind (g .0) (s .0) (s .1) c o in
       record {
         tetrahedron = t;
         listed = m;
         cut = (g .0, g .1, g .2);
-        outside = λ c o. ap (λ (x : Three ℕ). faces es x (at t c)) e ∙ outside-front (g .0) (s .0) (s .1) c o;
-        inside = λ c o. ap (λ (x : Three ℕ). faces es (turnIf true x) (at t c)) e ∙ inside-behind (g .0) (s .0) (s .1) c o;
+        outside = front;
+        inside = back;
+        normal = λ c d i o. normal-out f c d (back c i) (front d o);
       }
 
 -- ---- of the whole list

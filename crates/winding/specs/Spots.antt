@@ -30,3 +30,8 @@ plusTerms a b c p = triple b c p + (triple a p c + (triple a b p + triple a c b)
 unfoldable pub inFront : Spot → Spot → Spot → Spot → Bool
 unfolding plusTerms
 inFront a b c p = ltb (plusTerms b a c p) (plusTerms a b c p)
+
+-- The normal of a, b, c points from p to q: its product with q - p, which is the determinant at q less that at p, is above 0.
+unfoldable pub pointsFromTo : Spot → Spot → Spot → Spot → Spot → Bool
+unfolding plusTerms
+pointsFromTo a b c p q = ltb (plusTerms b a c q + plusTerms a b c p) (plusTerms a b c q + plusTerms b a c p)

@@ -17,7 +17,7 @@ use Rattle.tetrahedra.specs.ClosedEdges.{insideAt, closedEdges}
 use Rattle.tetrahedra.specs.ClosedTriangles.{trianglesOf, closedTriangles}
 use Rattle.tetrahedra.specs.Closing.{IsSide, Within, Shared}
 use Rattle.winding.specs.declared.Spot.{Spot}
-use Rattle.winding.specs.Spots.{halfway, inFront}
+use Rattle.winding.specs.Spots.{halfway, inFront, pointsFromTo}
 
 -- ---- which way a triangle looks: its vertices are taken in the middles of their edges
 
@@ -28,6 +28,10 @@ middleOf es u = halfway (edgeAt es u .first) (edgeAt es u .second)
 -- a cell lies in front of a triangle
 abbrev pub faces : List Edge → Three ℕ → ℕ → Bool
 faces es f k = inFront (middleOf es (f .a)) (middleOf es (f .b)) (middleOf es (f .c)) (halfway k k)
+
+-- a triangle's normal points from a cell to another
+abbrev pub normalFromTo : List Edge → Three ℕ → ℕ → ℕ → Bool
+normalFromTo es f k l = pointsFromTo (middleOf es (f .a)) (middleOf es (f .b)) (middleOf es (f .c)) (halfway k k) (halfway l l)
 
 -- of an edge's two cells, of which one is inside, that one
 abbrev pub insideEnd : List Row → Edge → ℕ
@@ -81,6 +85,8 @@ pub record LooksOutward (rows : List Row) (es : List Edge) (f : Three ℕ) : Typ
   pub cut : (g : Three ℕ) × (g ∈ trianglesOf rows es tetrahedron) × (f ≡ outwards rows es g)
   pub outside : (c : Corner) → insideAt rows (at tetrahedron c) ≡ false → faces es f (at tetrahedron c) ≡ true
   pub inside : (c : Corner) → insideAt rows (at tetrahedron c) ≡ true → faces es (turnIf true f) (at tetrahedron c) ≡ true
+  -- so its normal points from the inside corners to the outside ones
+  pub normal : (c d : Corner) → insideAt rows (at tetrahedron c) ≡ true → insideAt rows (at tetrahedron d) ≡ false → normalFromTo es f (at tetrahedron c) (at tetrahedron d) ≡ true
 
 -- all triangles over a table's edges look outwards
 abbrev pub OutwardBy : List Row → List Edge → List (Three ℕ) → Type 0
