@@ -67,13 +67,13 @@ unfolding samePair
 pair-corners t up i j k l =
     pair-same (at t i) (at t j) (at t k) (at t l) ∙ rw (at-eqb t up i k, at-eqb t up j l, at-eqb t up i l, at-eqb t up j k)
 
-pub and4-false : (a b c d : Bool) → a && (b && (c && d)) ≡ false → (a ≡ false) ⊎ ((b ≡ false) ⊎ ((c ≡ false) ⊎ (d ≡ false)))
+and4-false : (a b c d : Bool) → a && (b && (c && d)) ≡ false → (a ≡ false) ⊎ ((b ≡ false) ⊎ ((c ≡ false) ⊎ (d ≡ false)))
 and4-false false b c d e = inl refl
 and4-false true false c d e = inr (inl refl)
 and4-false true true false d e = inr (inr (inl refl))
 and4-false true true true d e = inr (inr (inr e))
 
-pub or4-true : (a b c d : Bool) → (a ≡ true) ⊎ ((b ≡ true) ⊎ ((c ≡ true) ⊎ (d ≡ true))) → a || (b || (c || d)) ≡ true
+or4-true : (a b c d : Bool) → (a ≡ true) ⊎ ((b ≡ true) ⊎ ((c ≡ true) ⊎ (d ≡ true))) → a || (b || (c || d)) ≡ true
 or4-true true b c d h = refl
 or4-true false true c d h = refl
 or4-true false false true d h = refl
@@ -123,7 +123,7 @@ module _ (rows : List Row) (up : ascending (keysOf rows) ≡ true) where
   abbrev pub edgeOf : ℕ → Edge
   edgeOf u = edgeAt es u
 
-  pub edge-in : (u : ℕ) → u < length es → edgeOf u ∈ es
+  edge-in : (u : ℕ) → u < length es → edgeOf u ∈ es
   edge-in u l = at-in es (edge 0 0) u l
 
   pub edge-up : (u : ℕ) → u < length es → edgeOf u .first < edgeOf u .second
@@ -185,7 +185,7 @@ module _ (rows : List Row) (up : ascending (keysOf rows) ≡ true) where
       let q = holds-corner (edgeOf u .second) t g in
       record { i = p .0; j = q .0; first = p .1; second = q .1 }
 
-  pub seen-edge : (u : ℕ) → u < length es → (t : Four) (s : Seen u t) → edgeOf u ≡ pairOf (at t (s .i)) (at t (s .j))
+  seen-edge : (u : ℕ) → u < length es → (t : Four) (s : Seen u t) → edgeOf u ≡ pairOf (at t (s .i)) (at t (s .j))
   seen-edge u l t s = rw (s .first, s .second) (sym (pair-up (edge-up u l)))
 
   pub seen-pairs : (u : ℕ) → u < length es → (t : Four) → Rising t → (s : Seen u t) → onEdge u t ≡ samePair (s .i) (s .j)
@@ -266,14 +266,14 @@ module _ (rows : List Row) (up : ascending (keysOf rows) ≡ true) where
           sides-are u v lu lv t
           ∙ ap₂ (λ (b c : Corner → Corner → Bool). countsBy b c (within t)) (seen-pairs u lu t r su) (seen-pairs v lv t r sv)
 
-      pub differ-here : samePair (su .i) (su .j) (sv .i) (sv .j) ≡ false
+      differ-here : samePair (su .i) (su .j) (sv .i) (sv .j) ≡ false
       differ-here =
           sym (pair-corners t r (sv .i) (sv .j) (su .i) (su .j))
           ∙ not-same (pairOf (at t (sv .i)) (at t (sv .j))) (pairOf (at t (su .i)) (at t (su .j)))
           (λ q. edges-differ (seen-edge u lu t su ∙ sym q ∙ sym (seen-edge v lv t sv)))
 
       -- where the edges meet, one triangle
-      pub one-here : OnFace es u v → sidesOf u v t ≡ 1
+      one-here : OnFace es u v → sidesOf u v t ≡ 1
       unfolding meets
       one-here f =
           counts-here
@@ -306,23 +306,23 @@ module _ (rows : List Row) (up : ascending (keysOf rows) ≡ true) where
     abbrev pub e2 : ℕ
     e2 = edgeOf u .second
 
-    abbrev pub f1 : ℕ
+    abbrev f1 : ℕ
     f1 = edgeOf v .first
 
-    abbrev pub f2 : ℕ
+    abbrev f2 : ℕ
     f2 = edgeOf v .second
 
     -- the third corner of the face
-    pub record Third : Type 0 where
+    record Third : Type 0 where
       pub key : ℕ
       pub end : (key ≡ f1) ⊎ (key ≡ f2)
-      pub not-e1 : e1 ≡ key → ⊥
-      pub not-e2 : e2 ≡ key → ⊥
+      not-e1 : e1 ≡ key → ⊥
+      not-e2 : e2 ≡ key → ⊥
 
-    pub same-ends : e1 ≡ f1 → e2 ≡ f2 → ⊥
+    same-ends : e1 ≡ f1 → e2 ≡ f2 → ⊥
     same-ends p q = edges-differ (λ i. record { first = p i; second = q i })
 
-    pub third : OnFace es u v → Third
+    third : OnFace es u v → Third
     third (inl p) = record { key = f2; end = inr refl; not-e1 = λ q. omega (arith, edge-up v lv); not-e2 = λ q. same-ends p q }
     third (inr (inl p)) =
         record { key = f1; end = inl refl; not-e1 = λ q. omega (arith, edge-up v lv); not-e2 = λ q. omega (arith, edge-up u lu, edge-up v lv) }
@@ -330,7 +330,7 @@ module _ (rows : List Row) (up : ascending (keysOf rows) ≡ true) where
         record { key = f2; end = inr refl; not-e1 = λ q. omega (arith, edge-up u lu, edge-up v lv); not-e2 = λ q. omega (arith, edge-up v lv) }
     third (inr (inr (inr p))) = record { key = f1; end = inl refl; not-e1 = λ q. same-ends q p; not-e2 = λ q. omega (arith, edge-up v lv) }
 
-    pub fourth-of : (t : Four) → Held t → (k : ℕ) → (k ≡ f1) ⊎ (k ≡ f2) → (e1 ≡ k → ⊥) → (e2 ≡ k → ⊥) → (w : ℕ) × Fourth t e1 e2 k w
+    fourth-of : (t : Four) → Held t → (k : ℕ) → (k ≡ f1) ⊎ (k ≡ f2) → (e1 ≡ k → ⊥) → (e2 ≡ k → ⊥) → (w : ℕ) × Fourth t e1 e2 k w
     fourth-of t h k end p q =
         fourth t (rising-in rows up t (h .listed)) (clique-in rows up t (h .listed)) e1 e2 k (h .u1) (h .u2)
         (⊎-elim (λ e. rw e (h .v1)) (λ e. rw e (h .v2)) end) (λ e. omega (arith, edge-up u lu)) p q

@@ -289,7 +289,7 @@ tetrahedron-is-clique t = (tetrahedron-clique t, clique-tetrahedron t)
 
 -- ---- G2: three pairwise adjacent cells have at most two common neighbours
 
-pub not-both : (k l : ℕ) → axial k l ≡ true → diagonal k l ≡ true → ⊥
+not-both : (k l : ℕ) → axial k l ≡ true → diagonal k l ≡ true → ⊥
 not-both k l a d = let x = axial-colour k l a in let y = diagonal-colour k l d in omega arith
 
 -- no distance is none
@@ -386,12 +386,12 @@ pub record Ringed (p q r u : ℕ) : Type 0 where
   pub qu : diagonal q u ≡ true
   pub ru : axial r u ≡ true
 
-pub to-y : (k l : ℕ) → Straight xOf yOf zOf k l → Straight yOf xOf zOf k l
+to-y : (k l : ℕ) → Straight xOf yOf zOf k l → Straight yOf xOf zOf k l
 to-y k l (inl a) = inr (inl a)
 to-y k l (inr (inl a)) = inl a
 to-y k l (inr (inr a)) = inr (inr (a .0, a .2, a .1))
 
-pub to-z : (k l : ℕ) → Straight xOf yOf zOf k l → Straight zOf xOf yOf k l
+to-z : (k l : ℕ) → Straight xOf yOf zOf k l → Straight zOf xOf yOf k l
 to-z k l (inl a) = inr (inl (a .0, a .2, a .1))
 to-z k l (inr (inl a)) = inr (inr (a .0, a .2, a .1))
 to-z k l (inr (inr a)) = inl a
@@ -399,77 +399,89 @@ to-z k l (inr (inr a)) = inl a
 Alike : ℕ → ℕ → ℕ → Type 0
 Alike u v w = (u ≡ v) ⊎ ((u ≡ w) ⊎ (v ≡ w))
 
+-- ---- along each axis
+
+pub settled-y : (k l : ℕ) → headOf k ≡ headOf l → yOf k ≡ yOf l → xOf k ≡ xOf l → zOf k ≡ zOf l → k ≡ l
+settled-y k l h y x z = same-key k l h x y z
+
+pub settled-z : (k l : ℕ) → headOf k ≡ headOf l → zOf k ≡ zOf l → xOf k ≡ xOf l → yOf k ≡ yOf l → k ≡ l
+settled-z k l h z x y = same-key k l h x y z
+
+pub in-x : (k l : ℕ) → diagonal k l ≡ true → Slants xOf yOf zOf same-key k l
+in-x k l e = let s = slant k l e in record { heads = s .heads; x = s .x; y = s .y; z = s .z }
+
+pub in-y : (k l : ℕ) → diagonal k l ≡ true → Slants yOf xOf zOf settled-y k l
+in-y k l e = let s = slant k l e in record { heads = s .heads; x = s .y; y = s .x; z = s .z }
+
+pub in-z : (k l : ℕ) → diagonal k l ≡ true → Slants zOf xOf yOf settled-z k l
+in-z k l e = let s = slant k l e in record { heads = s .heads; x = s .z; y = s .x; z = s .y }
+
+module _ (p q r : ℕ) (pr : diagonal p r ≡ true) (qr : diagonal q r ≡ true) where
+  pub near-x : (a : Along xOf yOf zOf p q) (u : ℕ) → Ringed p q r u → Beside xOf yOf zOf same-key p q r a (in-x p r pr) (in-x q r qr) u
+  near-x a u b = record { pu = in-x p u (b .pu); qu = in-x q u (b .qu); ru = axial-along r u (b .ru) }
+
+  pub near-y : (a : Along yOf xOf zOf p q) (u : ℕ) → Ringed p q r u → Beside yOf xOf zOf settled-y p q r a (in-y p r pr) (in-y q r qr) u
+  near-y a u b = record { pu = in-y p u (b .pu); qu = in-y q u (b .qu); ru = to-y r u (axial-along r u (b .ru)) }
+
+  pub near-z : (a : Along zOf xOf yOf p q) (u : ℕ) → Ringed p q r u → Beside zOf xOf yOf settled-z p q r a (in-z p r pr) (in-z q r qr) u
+  near-z a u b = record { pu = in-z p u (b .pu); qu = in-z q u (b .qu); ru = to-z r u (axial-along r u (b .ru)) }
+
 -- at most two points of the ring are axial to a third
 ring-two : (p q r u v w : ℕ) → axial p q ≡ true → diagonal p r ≡ true → diagonal q r ≡ true → Ringed p q r u → Ringed p q r v → Ringed p q r w → Alike u v w
 unfolding Alike
 ring-two p q r u v w pq pr qr bu bv bw = go (axial-along p q pq)
   where
-    settled-y : (k l : ℕ) → headOf k ≡ headOf l → yOf k ≡ yOf l → xOf k ≡ xOf l → zOf k ≡ zOf l → k ≡ l
-    settled-y k l h y x z = same-key k l h x y z
-
-    settled-z : (k l : ℕ) → headOf k ≡ headOf l → zOf k ≡ zOf l → xOf k ≡ xOf l → yOf k ≡ yOf l → k ≡ l
-    settled-z k l h z x y = same-key k l h x y z
-
-    in-x : (k l : ℕ) → diagonal k l ≡ true → Slants xOf yOf zOf same-key k l
-    in-x k l e = let s = slant k l e in record { heads = s .heads; x = s .x; y = s .y; z = s .z }
-
-    in-y : (k l : ℕ) → diagonal k l ≡ true → Slants yOf xOf zOf settled-y k l
-    in-y k l e = let s = slant k l e in record { heads = s .heads; x = s .y; y = s .x; z = s .z }
-
-    in-z : (k l : ℕ) → diagonal k l ≡ true → Slants zOf xOf yOf settled-z k l
-    in-z k l e = let s = slant k l e in record { heads = s .heads; x = s .z; y = s .x; z = s .y }
-
     go : Straight xOf yOf zOf p q → (u ≡ v) ⊎ ((u ≡ w) ⊎ (v ≡ w))
     go (inl a) =
-        let near : (t : ℕ) → Ringed p q r t → Beside xOf yOf zOf same-key p q r a (in-x p r pr) (in-x q r qr) t =
-        λ t b. record { pu = in-x p t (b .pu); qu = in-x q t (b .qu); ru = axial-along r t (b .ru) } in
+        let near = near-x p q r pr qr a in
         two-alike xOf yOf zOf same-key p q r a (in-x p r pr) (in-x q r qr) u v w (near u bu) (near v bv) (near w bw)
     go (inr (inl a)) =
-        let near : (t : ℕ) → Ringed p q r t → Beside yOf xOf zOf settled-y p q r a (in-y p r pr) (in-y q r qr) t =
-        λ t b. record { pu = in-y p t (b .pu); qu = in-y q t (b .qu); ru = to-y r t (axial-along r t (b .ru)) } in
+        let near = near-y p q r pr qr a in
         two-alike yOf xOf zOf settled-y p q r a (in-y p r pr) (in-y q r qr) u v w (near u bu) (near v bv) (near w bw)
     go (inr (inr a)) =
-        let near : (t : ℕ) → Ringed p q r t → Beside zOf xOf yOf settled-z p q r a (in-z p r pr) (in-z q r qr) t =
-        λ t b. record { pu = in-z p t (b .pu); qu = in-z q t (b .qu); ru = to-z r t (axial-along r t (b .ru)) } in
+        let near = near-z p q r pr qr a in
         two-alike zOf xOf yOf settled-z p q r a (in-z p r pr) (in-z q r qr) u v w (near u bu) (near v bv) (near w bw)
+
+-- ---- whichever pair of a face is the axial one
+
+module _ (p q r : ℕ) where
+  pub first-ring : (t : ℕ) → Shape p q r t → Ringed p q r t
+  first-ring t s = record { pu = s .kn; qu = s .ln; ru = s .mn }
+
+  pub second-ring : (t : ℕ) → Shape p r q t → Ringed p r q t
+  second-ring t s = record { pu = s .kn; qu = s .ln; ru = s .mn }
+
+  pub third-ring : (t : ℕ) → Shape p t q r → Ringed q r p t
+  third-ring t s = record { pu = diagonal-sym t q (s .lm); qu = diagonal-sym t r (s .ln); ru = s .kl }
+
+  pub to-first : axial p q ≡ true → (t : ℕ) → Splits p q r t → Ringed p q r t
+  to-first a t (inl s) = first-ring t s
+  to-first a t (inr (inl s)) = absurd (not-both p q a (s .km))
+  to-first a t (inr (inr s)) = absurd (not-both p q a (s .km))
+
+  pub to-second : axial p r ≡ true → (t : ℕ) → Splits p q r t → Ringed p r q t
+  to-second a t (inl s) = absurd (not-both p r a (s .km))
+  to-second a t (inr (inl s)) = second-ring t s
+  to-second a t (inr (inr s)) = absurd (not-both p r a (s .kn))
+
+  pub to-third : axial q r ≡ true → (t : ℕ) → Splits p q r t → Ringed q r p t
+  to-third a t (inl s) = absurd (not-both q r a (s .lm))
+  to-third a t (inr (inl s)) = absurd (not-both q r a (diagonal-sym r q (s .lm)))
+  to-third a t (inr (inr s)) = third-ring t s
 
 -- of three common neighbours of three pairwise adjacent cells two are the same
 pub common-two : (p q r u v w : ℕ) → Clique p q r u → Clique p q r v → Clique p q r w → (u ≡ v) ⊎ ((u ≡ w) ⊎ (v ≡ w))
 unfolding Alike
-common-two p q r u v w cu cv cw = go (split u cu) (split v cv) (split w cw)
+common-two p q r u v w cu cv cw = go (clique-splits p q r u cu) (clique-splits p q r v cv) (clique-splits p q r w cw)
   where
-    split : (t : ℕ) → Clique p q r t → Splits p q r t
-    split t c = clique-splits p q r t c
-
-    one : (t : ℕ) → Shape p q r t → Ringed p q r t
-    one t s = record { pu = s .kn; qu = s .ln; ru = s .mn }
-
-    two : (t : ℕ) → Shape p r q t → Ringed p r q t
-    two t s = record { pu = s .kn; qu = s .ln; ru = s .mn }
-
-    three : (t : ℕ) → Shape p t q r → Ringed q r p t
-    three t s = record { pu = diagonal-sym t q (s .lm); qu = diagonal-sym t r (s .ln); ru = s .kl }
-
-    to-one : axial p q ≡ true → (t : ℕ) → Splits p q r t → Ringed p q r t
-    to-one a t (inl s) = one t s
-    to-one a t (inr (inl s)) = absurd (not-both p q a (s .km))
-    to-one a t (inr (inr s)) = absurd (not-both p q a (s .km))
-
-    to-two : axial p r ≡ true → (t : ℕ) → Splits p q r t → Ringed p r q t
-    to-two a t (inl s) = absurd (not-both p r a (s .km))
-    to-two a t (inr (inl s)) = two t s
-    to-two a t (inr (inr s)) = absurd (not-both p r a (s .kn))
-
-    to-three : axial q r ≡ true → (t : ℕ) → Splits p q r t → Ringed q r p t
-    to-three a t (inl s) = absurd (not-both q r a (s .lm))
-    to-three a t (inr (inl s)) = absurd (not-both q r a (diagonal-sym r q (s .lm)))
-    to-three a t (inr (inr s)) = three t s
-
     go : Splits p q r u → Splits p q r v → Splits p q r w → (u ≡ v) ⊎ ((u ≡ w) ⊎ (v ≡ w))
-    go (inl s) y z = ring-two p q r u v w (s .kl) (s .km) (s .lm) (one u s) (to-one (s .kl) v y) (to-one (s .kl) w z)
-    go (inr (inl s)) y z = ring-two p r q u v w (s .kl) (s .km) (s .lm) (two u s) (to-two (s .kl) v y) (to-two (s .kl) w z)
+    go (inl s) y z =
+        ring-two p q r u v w (s .kl) (s .km) (s .lm) (first-ring p q r u s) (to-first p q r (s .kl) v y) (to-first p q r (s .kl) w z)
+    go (inr (inl s)) y z =
+        ring-two p r q u v w (s .kl) (s .km) (s .lm) (second-ring p q r u s) (to-second p q r (s .kl) v y) (to-second p q r (s .kl) w z)
     go (inr (inr s)) y z =
-        ring-two q r p u v w (s .mn) (diagonal-sym p q (s .km)) (diagonal-sym p r (s .kn)) (three u s) (to-three (s .mn) v y) (to-three (s .mn) w z)
+        ring-two q r p u v w (s .mn) (diagonal-sym p q (s .km)) (diagonal-sym p r (s .kn)) (third-ring p q r u s) (to-third p q r (s .mn) v y)
+        (to-third p q r (s .mn) w z)
 
 -- ---- two facts beside
 

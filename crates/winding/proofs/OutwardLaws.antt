@@ -19,7 +19,7 @@ use Rattle.tetrahedra.specs.Fours.{Four, Corner, c0, c1, c2, c3, corners, at}
 use Rattle.tetrahedra.specs.Tetrahedra.{tetrahedra}
 use Rattle.tetrahedra.specs.ClosedEdges.{insideAt, closedEdges}
 use Rattle.tetrahedra.specs.ClosedTriangles.{vertexOf, nth, rising, alone, halves}
-use Rattle.tetrahedra.proofs.Corners.{place, eqc, everyBool, at-bool, other, free, pick, apart3}
+use Rattle.tetrahedra.proofs.Corners.{place, eqc, everyBool, at-bool, or-first-true, or-second-true, other, free, pick, apart3}
 use Rattle.tetrahedra.proofs.Local.{signs, signs-are}
 use Rattle.tetrahedra.proofs.TetrahedronLaws.{clique-in}
 use Rattle.winding.specs.Winding.{runsThrough}
@@ -66,14 +66,6 @@ all-good : (left : Bool) (w : Corner → Bool) → goodBy left w ≡ true
 all-good left w = subst (λ (x : Corner → Bool). goodBy left x ≡ true) (signs-are w) (good-law left (w c0) (w c1) (w c2) (w c3))
 
 -- ---- the triangles
-
-or-first-true : (a b : Bool) → a ≡ true → a || b ≡ true
-or-first-true true b e = refl
-or-first-true false b e = absurd (false≢true e)
-
-or-second-true : (a b : Bool) → b ≡ true → a || b ≡ true
-or-second-true true b e = refl
-or-second-true false b e = e
 
 both-same : (x y : ℕ) → (eqb x x && eqb y y) ≡ true
 both-same x y = rw (eq-eqb x x refl, eq-eqb y y refl)

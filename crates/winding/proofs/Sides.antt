@@ -14,7 +14,7 @@ use Rattle.lists.proofs.Bools.{and-first, and-second}
 use Rattle.neighbors.specs.Neighbors.{apart, adjacent}
 use Rattle.tetrahedra.specs.Fours.{Four, Corner, c0, c1, c2, c3, at, Rising, holds}
 use Rattle.tetrahedra.specs.Tetrahedra.{axial, diagonal}
-use Rattle.tetrahedra.proofs.Lattice.{Slant, slant, Along, Straight, axial-along, Slants, Beside, Turned, level, turned, by-g, by-h, half-way, across, same-at, diagonal-sym, Ringed, to-y, to-z, not-both, Clique, CliqueOf, Shape, Splits, clique-splits}
+use Rattle.tetrahedra.proofs.Lattice.{Along, Straight, axial-along, Slants, Beside, Turned, level, turned, by-g, by-h, half-way, across, same-at, diagonal-sym, Ringed, settled-y, settled-z, in-x, in-y, in-z, near-x, near-y, near-z, first-ring, second-ring, third-ring, to-first, to-second, to-third, Clique, CliqueOf, Shape, Splits, clique-splits}
 use Rattle.tetrahedra.proofs.Corners.{eqc, everyCorner, at-corner, if-then, corner-holds, corners-same, other, free, pick, apart3, other-test, other-tests, Fourth, fourth, same-fourth}
 use Rattle.winding.specs.Spots.{cellSpot, triple, plusTerms, inFront}
 use Rattle.winding.specs.Facing.{leftHanded}
@@ -109,31 +109,7 @@ Flat p q r u = Far (plusOf p q r u) (plusOf q p r u)
 abbrev Balanced : ℕ → ℕ → ℕ → ℕ → ℕ → Type 0
 Balanced p q r u v = plusOf p q r u + plusOf p q r v ≡ plusOf q p r u + plusOf q p r v
 
-settled-y : (k l : ℕ) → headOf k ≡ headOf l → yOf k ≡ yOf l → xOf k ≡ xOf l → zOf k ≡ zOf l → k ≡ l
-settled-y k l h y x z = same-key k l h x y z
-
-settled-z : (k l : ℕ) → headOf k ≡ headOf l → zOf k ≡ zOf l → xOf k ≡ xOf l → yOf k ≡ yOf l → k ≡ l
-settled-z k l h z x y = same-key k l h x y z
-
-in-x : (k l : ℕ) → diagonal k l ≡ true → Slants xOf yOf zOf same-key k l
-in-x k l e = let s = slant k l e in record { heads = s .heads; x = s .x; y = s .y; z = s .z }
-
-in-y : (k l : ℕ) → diagonal k l ≡ true → Slants yOf xOf zOf settled-y k l
-in-y k l e = let s = slant k l e in record { heads = s .heads; x = s .y; y = s .x; z = s .z }
-
-in-z : (k l : ℕ) → diagonal k l ≡ true → Slants zOf xOf yOf settled-z k l
-in-z k l e = let s = slant k l e in record { heads = s .heads; x = s .z; y = s .x; z = s .y }
-
 module _ (p q r : ℕ) (pr : diagonal p r ≡ true) (qr : diagonal q r ≡ true) where
-  near-x : (a : Along xOf yOf zOf p q) (u : ℕ) → Ringed p q r u → Beside xOf yOf zOf same-key p q r a (in-x p r pr) (in-x q r qr) u
-  near-x a u b = record { pu = in-x p u (b .pu); qu = in-x q u (b .qu); ru = axial-along r u (b .ru) }
-
-  near-y : (a : Along yOf xOf zOf p q) (u : ℕ) → Ringed p q r u → Beside yOf xOf zOf settled-y p q r a (in-y p r pr) (in-y q r qr) u
-  near-y a u b = record { pu = in-y p u (b .pu); qu = in-y q u (b .qu); ru = to-y r u (axial-along r u (b .ru)) }
-
-  near-z : (a : Along zOf xOf yOf p q) (u : ℕ) → Ringed p q r u → Beside zOf xOf yOf settled-z p q r a (in-z p r pr) (in-z q r qr) u
-  near-z a u b = record { pu = in-z p u (b .pu); qu = in-z q u (b .qu); ru = to-z r u (axial-along r u (b .ru)) }
-
   from-y : (k l m n : ℕ) → vol yOf xOf zOf k l m n ≡ plusOf l k m n
   from-y k l m n = axes-1 xOf yOf zOf k l m n ∙ vol-plus l k m n
 
@@ -146,13 +122,13 @@ module _ (p q r : ℕ) (pr : diagonal p r ≡ true) (qr : diagonal q r ≡ true)
       go : Straight xOf yOf zOf p q → Far (plusOf p q r u) (plusOf q p r u)
       go (inl a) =
           far-both (vol-plus p q r u) (vol-plus q p r u)
-          (far-near xOf yOf zOf same-key p q r a (in-x p r pr) (in-x q r qr) u (near-x a u b))
+          (far-near xOf yOf zOf same-key p q r a (in-x p r pr) (in-x q r qr) u (near-x p q r pr qr a u b))
       go (inr (inl a)) =
           swapped (far-both (from-y p q r u) (from-y q p r u)
-          (far-near yOf xOf zOf settled-y p q r a (in-y p r pr) (in-y q r qr) u (near-y a u b)))
+          (far-near yOf xOf zOf settled-y p q r a (in-y p r pr) (in-y q r qr) u (near-y p q r pr qr a u b)))
       go (inr (inr a)) =
           far-both (from-z p q r u) (from-z q p r u)
-          (far-near zOf xOf yOf settled-z p q r a (in-z p r pr) (in-z q r qr) u (near-z a u b))
+          (far-near zOf xOf yOf settled-z p q r a (in-z p r pr) (in-z q r qr) u (near-z p q r pr qr a u b))
 
   balance : (u v : ℕ) → xOf u + xOf v ≡ xOf p + xOf q → yOf u + yOf v ≡ yOf p + yOf q → zOf u + zOf v ≡ zOf p + zOf q → Balanced p q r u v
   balance u v x y z =
@@ -163,42 +139,18 @@ module _ (p q r : ℕ) (pr : diagonal p r ≡ true) (qr : diagonal q r ≡ true)
     where
       go : Straight xOf yOf zOf p q → Balanced p q r u v
       go (inl a) =
-          let s = sums xOf yOf zOf same-key p q r a (in-x p r pr) (in-x q r qr) u v (near-x a u b) (near-x a v c) un in
+          let s = sums xOf yOf zOf same-key p q r a (in-x p r pr) (in-x q r qr) u v (near-x p q r pr qr a u b) (near-x p q r pr qr a v c) un in
           balance u v (s .f-sum) (s .g-sum) (s .h-sum)
       go (inr (inl a)) =
-          let s = sums yOf xOf zOf settled-y p q r a (in-y p r pr) (in-y q r qr) u v (near-y a u b) (near-y a v c) un in
+          let s = sums yOf xOf zOf settled-y p q r a (in-y p r pr) (in-y q r qr) u v (near-y p q r pr qr a u b) (near-y p q r pr qr a v c) un in
           balance u v (s .g-sum) (s .f-sum) (s .h-sum)
       go (inr (inr a)) =
-          let s = sums zOf xOf yOf settled-z p q r a (in-z p r pr) (in-z q r qr) u v (near-z a u b) (near-z a v c) un in
+          let s = sums zOf xOf yOf settled-z p q r a (in-z p r pr) (in-z q r qr) u v (near-z p q r pr qr a u b) (near-z p q r pr qr a v c) un in
           balance u v (s .g-sum) (s .h-sum) (s .f-sum)
 
 -- ---- whichever pair of a face is the axial one
 
 module _ (p q r : ℕ) where
-  one : (t : ℕ) → Shape p q r t → Ringed p q r t
-  one t s = record { pu = s .kn; qu = s .ln; ru = s .mn }
-
-  two : (t : ℕ) → Shape p r q t → Ringed p r q t
-  two t s = record { pu = s .kn; qu = s .ln; ru = s .mn }
-
-  three : (t : ℕ) → Shape p t q r → Ringed q r p t
-  three t s = record { pu = diagonal-sym t q (s .lm); qu = diagonal-sym t r (s .ln); ru = s .kl }
-
-  to-one : axial p q ≡ true → (t : ℕ) → Splits p q r t → Ringed p q r t
-  to-one a t (inl s) = one t s
-  to-one a t (inr (inl s)) = absurd (not-both p q a (s .km))
-  to-one a t (inr (inr s)) = absurd (not-both p q a (s .km))
-
-  to-two : axial p r ≡ true → (t : ℕ) → Splits p q r t → Ringed p r q t
-  to-two a t (inl s) = absurd (not-both p r a (s .km))
-  to-two a t (inr (inl s)) = two t s
-  to-two a t (inr (inr s)) = absurd (not-both p r a (s .kn))
-
-  to-three : axial q r ≡ true → (t : ℕ) → Splits p q r t → Ringed q r p t
-  to-three a t (inl s) = absurd (not-both q r a (s .lm))
-  to-three a t (inr (inl s)) = absurd (not-both q r a (diagonal-sym r q (s .lm)))
-  to-three a t (inr (inr s)) = three t s
-
   prq : (n : ℕ) → plusOf p r q n ≡ plusOf q p r n
   prq n = plus-first q p r n
 
@@ -216,21 +168,21 @@ module _ (p q r : ℕ) where
   clique-flat u c = go (clique-splits p q r u c)
     where
       go : Splits p q r u → Far (plusOf p q r u) (plusOf q p r u)
-      go (inl s) = ring-flat p q r (s .km) (s .lm) (s .kl) u (one u s)
-      go (inr (inl s)) = swapped (far-both (prq u) (rpq u) (ring-flat p r q (s .km) (s .lm) (s .kl) u (two u s)))
+      go (inl s) = ring-flat p q r (s .km) (s .lm) (s .kl) u (first-ring p q r u s)
+      go (inr (inl s)) = swapped (far-both (prq u) (rpq u) (ring-flat p r q (s .km) (s .lm) (s .kl) u (second-ring p q r u s)))
       go (inr (inr s)) =
-          far-both (qrp u) (rqp u) (ring-flat q r p (diagonal-sym p q (s .km)) (diagonal-sym p r (s .kn)) (s .mn) u (three u s))
+          far-both (qrp u) (rqp u) (ring-flat q r p (diagonal-sym p q (s .km)) (diagonal-sym p r (s .kn)) (s .mn) u (third-ring p q r u s))
 
   pub clique-balanced : (u v : ℕ) → Clique p q r u → Clique p q r v → (u ≡ v → ⊥) → Balanced p q r u v
   clique-balanced u v cu cv un = go (clique-splits p q r u cu) (clique-splits p q r v cv)
     where
       go : Splits p q r u → Splits p q r v → Balanced p q r u v
-      go (inl s) y = ring-balanced p q r (s .km) (s .lm) (s .kl) u v (one u s) (to-one (s .kl) v y) un
+      go (inl s) y = ring-balanced p q r (s .km) (s .lm) (s .kl) u v (first-ring p q r u s) (to-first p q r (s .kl) v y) un
       go (inr (inl s)) y =
-          let b = ring-balanced p r q (s .km) (s .lm) (s .kl) u v (two u s) (to-two (s .kl) v y) un in
+          let b = ring-balanced p r q (s .km) (s .lm) (s .kl) u v (second-ring p q r u s) (to-second p q r (s .kl) v y) un in
           omega (arith, b, prq u, prq v, rpq u, rpq v)
       go (inr (inr s)) y =
-          let b = ring-balanced q r p (diagonal-sym p q (s .km)) (diagonal-sym p r (s .kn)) (s .mn) u v (three u s) (to-three (s .mn) v y) un in
+          let b = ring-balanced q r p (diagonal-sym p q (s .km)) (diagonal-sym p r (s .kn)) (s .mn) u v (third-ring p q r u s) (to-third p q r (s .mn) v y) un in
           omega (arith, b, qrp u, qrp v, rqp u, rqp v)
 
 not-less : (a b c d : ℕ) → Far a b → a + c ≡ b + d → ltb a b ≡ not (ltb c d)
@@ -245,7 +197,7 @@ two-sides p q r u v cu cv un =
 
 -- ---- the corners in any order
 
-unlike-false : (a : Bool) → unlike a false ≡ a
+pub unlike-false : (a : Bool) → unlike a false ≡ a
 unlike-false true = refl
 unlike-false false = refl
 

@@ -37,7 +37,7 @@ use Rattle.winding.specs.Facing.{leftHanded}
 use Rattle.winding.specs.Steps.{leftOf}
 use Rattle.winding.proofs.Running.{oddOrder}
 use Rattle.winding.proofs.Volume.{Far}
-use Rattle.winding.proofs.Sides.{plusOf, clique-flat, fourth-corner, in-any-order}
+use Rattle.winding.proofs.Sides.{plusOf, clique-flat, unlike-false, fourth-corner, in-any-order}
 use Rattle.winding.proofs.SpotLaws.{Stands, in-front, mirrored-first, mirrored-second, mirrored-third, alone-stands, first-stands, second-stands}
 
 -- ---- which corner
@@ -97,10 +97,6 @@ front-same :
 front-same ea eb ec ek = rw (ea, eb, ec, ek)
 
 -- ---- Booleans
-
-pub unlike-false : (a : Bool) → unlike a false ≡ a
-unlike-false true = refl
-unlike-false false = refl
 
 pub unlike-true : (a : Bool) → unlike a true ≡ not a
 unlike-true true = refl
