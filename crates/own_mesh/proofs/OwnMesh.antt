@@ -315,7 +315,9 @@ module _ (s : Settings) (ks : List ℕ) (ds ws : List Float) (cnt : ℕ) (r : Ro
         many = length-map (closedTriangles (rows lent)) (outwards (rows lent) (closedEdges (rows lent)));
         named = λ up x l.
             let g = map-in (outwards (rows lent) (closedEdges (rows lent))) (closedTriangles (rows lent)) l in
-            rw (g .2) (turn-below (looksIn (rows lent) (closedEdges (rows lent)) (g .0)) (g .0) (length (closedEdges (rows lent))) (edges-named lent up Closed (g .0) (g .1)));
+            rw (g .2)
+            (turn-below (looksIn (rows lent) (closedEdges (rows lent)) (g .0)) (g .0) (length (closedEdges (rows lent)))
+            (edges-named lent up Closed (g .0) (g .1)));
         t0 = m .t0;
         t1 = m .t1;
         t2 = m .t2;

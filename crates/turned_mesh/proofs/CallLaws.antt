@@ -145,7 +145,8 @@ module _ (s : Settings) (ks : List ℕ) (ds ws : List Float) (cnt : ℕ) (r : Ro
       let held : (column : Three ℕ → ℕ) (l l' : List ℕ) (room : ℕ) → l ≡ heldIn 0 (meshAnswerOn Closed s t r) room (map column ts)
       → l' ≡ turnedFor a (map column (turnedTriangles (rows t))) l → l' ≡ heldIn 0 (meshAnswerOn Closed s t r) room (map column (turnedTriangles (rows t))) =
       λ column l l' room q f.
-      held-column a (map column ts) (map column (turnedTriangles (rows t))) l l' room (q ∙ ap (λ (x : Meshed). heldIn 0 x room (map column ts)) (sym (m .answer)))
+      held-column a (map column ts) (map column (turnedTriangles (rows t))) l l' room
+      (q ∙ ap (λ (x : Meshed). heldIn 0 x room (map column ts)) (sym (m .answer)))
       (λ i j e. counts i j e (map column (turnedTriangles (rows t))) column (length-map (turnedTriangles (rows t)) column)) f
       ∙ ap (λ (x : Meshed). heldIn 0 x room (map column (turnedTriangles (rows t)))) (m .answer) in
       record {

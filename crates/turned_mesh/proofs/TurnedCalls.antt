@@ -47,7 +47,8 @@ module _ (s : Settings) (ks : List ℕ) (ds ws : List Float) (cnt : ℕ) (r : Ro
   abbrev closedColumn : (Three ℕ → ℕ) → ℕ → List ℕ
   closedColumn column room = heldIn 0 (meshAnswerOn Closed s t r) room (map column (closedTriangles (rows t)))
 
-  pub as-closed : IsClosedMesh s t r a as' bs xs ys zs us vs ws' (closedColumn (λ f. f .a) (r .t0)) (closedColumn (λ f. f .b) (r .t1)) (closedColumn (λ f. f .c) (r .t2))
+  pub as-closed : IsClosedMesh s t r a as' bs xs ys zs us vs ws' (closedColumn (λ f. f .a) (r .t0)) (closedColumn (λ f. f .b) (r .t1))
+      (closedColumn (λ f. f .c) (r .t2))
   as-closed =
       record {
         answer = m .answer;
@@ -83,7 +84,13 @@ module _ (s : Settings) (ks : List ℕ) (ds ws : List Float) (cnt : ℕ) (r : Ro
     pub turned-triangles-held : threesIn is js ls j ≡ ts
     unfolding padded
     turned-triangles-held =
-        rw (held (r .t0) (column0 ts) is (m .t0), held (r .t1) (column1 ts) js (m .t1), held (r .t2) (column2 ts) ls (m .t2), done-on Closed s t r i j answered .3 ∙ sym (turned-length t))
+        rw (
+          held (r .t0) (column0 ts) is (m .t0),
+          held (r .t1) (column1 ts) js (m .t1),
+          held (r .t2) (column2 ts) ls
+              (m .t2),
+          done-on Closed s t r i j answered .3 ∙ sym (turned-length t),
+        )
         (threes-back ts (replicate (r .t0 - length (column0 ts)) 0) (replicate (r .t1 - length (column1 ts)) 0) (replicate (r .t2 - length (column2 ts)) 0))
 
     -- Of the triangles that the lists hold, through every side inside a tetrahedron, or on a face that two share, exactly one runs one way and exactly one the

@@ -273,7 +273,8 @@ module _ (ks : List ℕ) (ds ws : List Float) (n : ℕ) (first second : List ℕ
         }
 
     -- the triangle there, turned where it looks inwards, is the definition's
-    turned-there : (side : Bool) → side ≡ insideAt rows (getD first (getD is i 0) 0) → turnedAt side first second is t1 t2 i ≡ getD (turnedTriangles rows) i (three 0 0 0)
+    turned-there : (side : Bool) → side ≡ insideAt rows (getD first (getD is i 0) 0)
+        → turnedAt side first second is t1 t2 i ≡ getD (turnedTriangles rows) i (three 0 0 0)
     unfolding turnedTriangles
     turned-there side e =
         ap (λ (f : Three ℕ). turnIf (looksAt side first second f) f) same-there

@@ -166,8 +166,10 @@ module _ (vertex : Corner → Corner → ℕ) (left : Bool) (w : Corner → Bool
   cut-way b ins outs g f m = go (eqb (length ins) 1) (eqb (length ins) 2) (eqb (length ins) 3) g m
     where
       go : (x y z : Bool)
-          → cond x (goodAlone b left w (nth ins 0) outs) (cond y (goodHalves b left w (nth ins 0) (nth ins 1) (nth outs 0) (nth outs 1)) (cond z (goodAlone b left w (nth outs 0) ins) true)) ≡ true
-          → f ∈ cond x (turnAlone vertex b (nth ins 0) outs) (cond y (turnHalves vertex b (nth ins 0) (nth ins 1) (nth outs 0) (nth outs 1)) (cond z (turnAlone vertex b (nth outs 0) ins) []))
+          → cond x (goodAlone b left w (nth ins 0) outs)
+          (cond y (goodHalves b left w (nth ins 0) (nth ins 1) (nth outs 0) (nth outs 1)) (cond z (goodAlone b left w (nth outs 0) ins) true)) ≡ true
+          → f ∈ cond x (turnAlone vertex b (nth ins 0) outs)
+          (cond y (turnHalves vertex b (nth ins 0) (nth ins 1) (nth outs 0) (nth outs 1)) (cond z (turnAlone vertex b (nth outs 0) ins) []))
           → Way f
       go true y z g m = alone-way b (nth ins 0) outs g f m
       go false true z g m = halves-way b (nth ins 0) (nth ins 1) (nth outs 0) (nth outs 1) g f m

@@ -58,13 +58,15 @@ round : (u v x y z : ℕ) → runsThrough u v (three y z x) ≡ runsThrough u v 
 unfolding runsThrough
 round u v x y z = or-round (eqb x u && eqb y v) (eqb y u && eqb z v) (eqb z u && eqb x v)
 
-pub turn-runs : (u v : ℕ) (f : Bool) (x y z : ℕ) → runsThrough u v (turnIf f (three x y z)) ≡ cond f (runsThrough v u (three x y z)) (runsThrough u v (three x y z))
+pub turn-runs : (u v : ℕ) (f : Bool) (x y z : ℕ)
+    → runsThrough u v (turnIf f (three x y z)) ≡ cond f (runsThrough v u (three x y z)) (runsThrough u v (three x y z))
 unfolding turnIf
 turn-runs u v true x y z = flipped u v x y z
 turn-runs u v false x y z = refl
 
 -- the order in which No. 14 names the vertices of a single triangle does not matter
-pub rising-runs : (u v : ℕ) (f : Bool) (x y z : ℕ) → runsThrough u v (turnIf (unlike f (oddRising x y z)) (rising x y z)) ≡ cond f (runsThrough v u (three x y z)) (runsThrough u v (three x y z))
+pub rising-runs : (u v : ℕ) (f : Bool) (x y z : ℕ)
+    → runsThrough u v (turnIf (unlike f (oddRising x y z)) (rising x y z)) ≡ cond f (runsThrough v u (three x y z)) (runsThrough u v (three x y z))
 unfolding rising oddRising turnIf
 rising-runs u v f x y z = go f (leb x y) (leb y z) (leb x z)
   where
@@ -74,7 +76,11 @@ rising-runs u v f x y z = go f (leb x y) (leb y z) (leb x z)
     yxz : (u v : ℕ) → runsThrough u v (three y x z) ≡ runsThrough v u (three x y z)
     yxz u v = flipped u v y z x ∙ round v u x y z
 
-    go : (f p q r : Bool) → runsThrough u v (turnIf (unlike f (cond p (cond q false (cond r true false)) (cond r true (cond q false true)))) (cond p (cond q (three x y z) (cond r (three x z y) (three z x y))) (cond r (three y x z) (cond q (three y z x) (three z y x))))) ≡ cond f (runsThrough v u (three x y z)) (runsThrough u v (three x y z))
+    go : (f p q r : Bool)
+        → runsThrough u v
+        (turnIf (unlike f (cond p (cond q false (cond r true false)) (cond r true (cond q false true))))
+        (cond p (cond q (three x y z) (cond r (three x z y) (three z x y))) (cond r (three y x z) (cond q (three y z x) (three z y x)))))
+        ≡ cond f (runsThrough v u (three x y z)) (runsThrough u v (three x y z))
     go true true true r = flipped u v x y z
     go true true false true = flipped u v x y z
     go true true false false = zyx u v
@@ -113,7 +119,9 @@ module _ (vertex : Corner → Corner → ℕ) (u v : ℕ) (f : Bool) where
   abbrev pairsAt : ℕ → Corner → Corner → Bool
   pairsAt w i j = eqb (vertex i j) w
 
-  run-alone : (p : Corner) (cs : List Corner) → length (kept (runsThrough u v) (turnAlone vertex f p cs)) ≡ one (cond f (goAlone (pairsAt v) (pairsAt u) p cs) (goAlone (pairsAt u) (pairsAt v) p cs))
+  run-alone : (p : Corner) (cs : List Corner)
+      → length (kept (runsThrough u v) (turnAlone vertex f p cs))
+      ≡ one (cond f (goAlone (pairsAt v) (pairsAt u) p cs) (goAlone (pairsAt u) (pairsAt v) p cs))
   unfolding runsThrough
   run-alone p cs =
       let x = vertex p (nth cs 0) in
@@ -121,7 +129,10 @@ module _ (vertex : Corner → Corner → ℕ) (u v : ℕ) (f : Bool) where
       let z = vertex p (nth cs 2) in
       kept-one (runsThrough u v) (turnIf (unlike f (oddRising x y z)) (rising x y z)) ∙ ap one (rising-runs u v f x y z)
 
-  run-halves : (p q r s : Corner) → length (kept (runsThrough u v) (turnHalves vertex f p q r s)) ≡ one (cond f (goFirst (pairsAt v) (pairsAt u) p q r s) (goFirst (pairsAt u) (pairsAt v) p q r s)) + one (cond f (goSecond (pairsAt v) (pairsAt u) p q r s) (goSecond (pairsAt u) (pairsAt v) p q r s))
+  run-halves : (p q r s : Corner)
+      → length (kept (runsThrough u v) (turnHalves vertex f p q r s))
+      ≡ one (cond f (goFirst (pairsAt v) (pairsAt u) p q r s) (goFirst (pairsAt u) (pairsAt v) p q r s)) + one
+      (cond f (goSecond (pairsAt v) (pairsAt u) p q r s) (goSecond (pairsAt u) (pairsAt v) p q r s))
   unfolding runsThrough
   run-halves p q r s =
       kept-two (runsThrough u v) (turnIf f (three (vertex p r) (vertex p s) (vertex q s))) (turnIf f (three (vertex p r) (vertex q s) (vertex q r)))
@@ -142,7 +153,8 @@ pub runsBy : Bool → Pairs → Pairs → (Corner → Bool) → ℕ
 unfolding runCounts kept oddSigns
 runsBy left b c w = runCounts (unlike left (oddSigns w)) b c (kept w corners) (kept (λ (x : Corner). not (w x)) corners)
 
-pub run-cut-by : (vertex : Corner → Corner → ℕ) (u v : ℕ) (left : Bool) (w : Corner → Bool) → length (kept (runsThrough u v) (turnBy vertex left w)) ≡ runsBy left (λ i j. eqb (vertex i j) u) (λ i j. eqb (vertex i j) v) w
+pub run-cut-by : (vertex : Corner → Corner → ℕ) (u v : ℕ) (left : Bool) (w : Corner → Bool)
+    → length (kept (runsThrough u v) (turnBy vertex left w)) ≡ runsBy left (λ i j. eqb (vertex i j) u) (λ i j. eqb (vertex i j) v) w
 unfolding turnBy runsBy
 run-cut-by vertex u v left w = run-cut vertex u v (unlike left (oddSigns w)) (kept w corners) (kept (λ (x : Corner). not (w x)) corners)
 
@@ -174,13 +186,16 @@ innerTest left w i j k l =
 local-all : Bool → Bool → Bool → Bool → Bool → Bool
 unfolding faceTest innerTest everyCorner
 local-all left b0 b1 b2 b3 =
-    everyCorner (λ i. everyCorner (λ j. everyCorner (λ k. faceTest left (signs b0 b1 b2 b3) i j k && everyCorner (λ l. innerTest left (signs b0 b1 b2 b3) i j k l))))
+    everyCorner
+    (λ i. everyCorner
+    (λ j. everyCorner (λ k. faceTest left (signs b0 b1 b2 b3) i j k && everyCorner (λ l. innerTest left (signs b0 b1 b2 b3) i j k l))))
 
 local-tests : everyBool (λ left. everyBool (λ b0. everyBool (λ b1. everyBool (λ b2. everyBool (λ b3. local-all left b0 b1 b2 b3))))) ≡ true
 unfolding everyBool everyCorner local-all faceTest innerTest runsBy runCounts kept oddSigns forward oddOrder other pick free apart3 samePair meets countsBy counts
 local-tests = refl
 
-local-law : (left b0 b1 b2 b3 : Bool) (i j k : Corner) → (faceTest left (signs b0 b1 b2 b3) i j k && everyCorner (λ l. innerTest left (signs b0 b1 b2 b3) i j k l)) ≡ true
+local-law : (left b0 b1 b2 b3 : Bool) (i j k : Corner)
+    → (faceTest left (signs b0 b1 b2 b3) i j k && everyCorner (λ l. innerTest left (signs b0 b1 b2 b3) i j k l)) ≡ true
 unfolding local-all
 local-law left b0 b1 b2 b3 i j k =
     let test : Bool → Bool → Bool → Bool → Bool → Corner → Corner → Corner → Bool =
@@ -192,7 +207,9 @@ local-law left b0 b1 b2 b3 i j k =
     (at-bool (λ b2. everyBool (λ b3. local-all left b0 b1 b2 b3))
     (at-bool (λ b1. everyBool (λ b2. everyBool (λ b3. local-all left b0 b1 b2 b3)))
     (at-bool (λ b0. everyBool (λ b1. everyBool (λ b2. everyBool (λ b3. local-all left b0 b1 b2 b3))))
-    (at-bool (λ left. everyBool (λ b0. everyBool (λ b1. everyBool (λ b2. everyBool (λ b3. local-all left b0 b1 b2 b3))))) local-tests left) b0) b1) b2) b3) i) j) k
+    (at-bool
+    (λ left. everyBool
+    (λ b0. everyBool (λ b1. everyBool (λ b2. everyBool (λ b3. local-all left b0 b1 b2 b3))))) local-tests left) b0) b1) b2) b3) i) j) k
 
 -- through a side on a face: by the signs and the side on which the tetrahedron lies
 module _ (left : Bool) (w : Corner → Bool) (m a b : Corner) (d : apart3 m a b ≡ true) (p : unlike (w m) (w a) ≡ true) (q : unlike (w m) (w b) ≡ true) where
@@ -217,7 +234,8 @@ module _ (left : Bool) (w : Corner → Bool) (m a b : Corner) (d : apart3 m a b 
   back-run = eqb-true _ _ (and-second there back face-here)
 
 -- through a side inside: as many one way as the other way
-pub inner-run : (left : Bool) (w : Corner → Bool) (i j k l : Corner) → unlike (w i) (w j) ≡ true → unlike (w k) (w l) ≡ true → meets i j k l ≡ false → runsBy left (samePair i j) (samePair k l) w + runsBy left (samePair i j) (samePair k l) w ≡ countsBy (samePair i j) (samePair k l) w
+pub inner-run : (left : Bool) (w : Corner → Bool) (i j k l : Corner) → unlike (w i) (w j) ≡ true → unlike (w k) (w l) ≡ true → meets i j k l ≡ false
+    → runsBy left (samePair i j) (samePair k l) w + runsBy left (samePair i j) (samePair k l) w ≡ countsBy (samePair i j) (samePair k l) w
 unfolding innerTest
 inner-run left w i j k l p q m =
     eqb-true _ _
@@ -261,7 +279,8 @@ kept-turned u v f (x ∷ xs) =
     )
 
 -- a cut has as many triangles with a side, turned or not
-pub turned-sides : (vertex : Corner → Corner → ℕ) (u v : ℕ) (left : Bool) (w : Corner → Bool) → length (kept (hasSide u v) (turnBy vertex left w)) ≡ length (kept (hasSide u v) (cutBy vertex w))
+pub turned-sides : (vertex : Corner → Corner → ℕ) (u v : ℕ) (left : Bool) (w : Corner → Bool)
+    → length (kept (hasSide u v) (turnBy vertex left w)) ≡ length (kept (hasSide u v) (cutBy vertex w))
 unfolding turnBy turnCut cutBy cut
 turned-sides vertex u v left w = go (kept w corners) (kept (λ (x : Corner). not (w x)) corners)
   where
@@ -271,11 +290,14 @@ turned-sides vertex u v left w = go (kept w corners) (kept (λ (x : Corner). not
     g : Three ℕ → Bool
     g = hasSide u v
 
-    go : (ins outs : List Corner) → length (kept (hasSide u v) (turnCut vertex (unlike left (oddSigns w)) ins outs)) ≡ length (kept (hasSide u v) (cut vertex ins outs))
+    go : (ins outs : List Corner)
+        → length (kept (hasSide u v) (turnCut vertex (unlike left (oddSigns w)) ins outs)) ≡ length (kept (hasSide u v) (cut vertex ins outs))
     go ins outs =
         let p = nth ins 0 in
-        let a : (q : Corner) (cs : List Corner) → length (kept (hasSide u v) (turnAlone vertex (unlike left (oddSigns w)) q cs)) ≡ length (kept (hasSide u v) (alone vertex q cs)) =
-        λ q cs. kept-turned u v (λ _. unlike (unlike left (oddSigns w)) (oddRising (vertex q (nth cs 0)) (vertex q (nth cs 1)) (vertex q (nth cs 2)))) (alone vertex q cs) in
+        let a : (q : Corner) (cs : List Corner)
+        → length (kept (hasSide u v) (turnAlone vertex (unlike left (oddSigns w)) q cs)) ≡ length (kept (hasSide u v) (alone vertex q cs)) =
+        λ q cs. kept-turned u v (λ _. unlike (unlike left (oddSigns w)) (oddRising (vertex q (nth cs 0)) (vertex q (nth cs 1)) (vertex q (nth cs 2))))
+        (alone vertex q cs) in
         let h = kept-turned u v (λ _. unlike left (oddSigns w)) (halves vertex (nth ins 0) (nth ins 1) (nth outs 0) (nth outs 1)) in
         kept-cond (hasSide u v) (eqb (length ins) 1) (turnAlone vertex (unlike left (oddSigns w)) p outs) _
         ∙ cond-eq (eqb (length ins) 1) (a p outs)

@@ -1,4 +1,5 @@
--- Small tables, computed on the definitions; the expected triangles were found by geometry (normal of the triangle of edge middles against outside minus inside).
+-- Small tables, computed on the definitions; the expected triangles were found by geometry, apart from them (the normal at the edges' middles against
+-- outside minus inside).
 -- Assumes nothing.
 use Prim.Native.Nat.{ℕ}
 use mathlib.Core.Path.{_≡_, refl}

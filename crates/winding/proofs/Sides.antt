@@ -20,11 +20,12 @@ use Rattle.winding.specs.Spots.{cellSpot, triple, plusTerms, inFront}
 use Rattle.winding.specs.Facing.{leftHanded}
 use Rattle.winding.specs.Steps.{leftOf}
 use Rattle.winding.proofs.Running.{oddOrder, forward}
-use Rattle.winding.proofs.Volume.{tri, vol, cycle, first-three, last-three, mirrored, axes-1, axes-2, Far, far-both, swapped, far-second, far-third}
+use Rattle.winding.proofs.Volume.{first-terms, last-terms, tri, cycle, vol, mirrored, axes-1, axes-2, Far, far-both, swapped, far-second, far-third}
 
 -- ---- along one axis the pair p, q; r a point of its ring, and u, v points of the ring that are axial to r
 
-module _ (f g h : ℕ → ℕ) (settled : (k l : ℕ) → headOf k ≡ headOf l → f k ≡ f l → g k ≡ g l → h k ≡ h l → k ≡ l) (p q r : ℕ) (pq : Along f g h p q) (pr : Slants f g h settled p r) (qr : Slants f g h settled q r) where
+module _ (f g h : ℕ → ℕ) (settled : (k l : ℕ) → headOf k ≡ headOf l → f k ≡ f l → g k ≡ g l → h k ≡ h l → k ≡ l) (p q r : ℕ) (pq : Along f g h p q)
+    (pr : Slants f g h settled p r) (qr : Slants f g h settled q r) where
   abbrev Near : ℕ → Type 0
   Near u = Beside f g h settled p q r pq pr qr u
 
@@ -101,7 +102,7 @@ unfolding tri plusOf plusTerms triple
 vol-plus k l m n = refl
 
 plus-first : (k l m n : ℕ) → plusOf l m k n ≡ plusOf k l m n
-plus-first k l m n = sym (vol-plus l m k n) ∙ first-three xOf yOf zOf k l m n ∙ vol-plus k l m n
+plus-first k l m n = sym (vol-plus l m k n) ∙ first-terms (tri xOf yOf zOf) (cycle xOf yOf zOf) k l m n ∙ vol-plus k l m n
 
 abbrev Flat : ℕ → ℕ → ℕ → ℕ → Type 0
 Flat p q r u = Far (plusOf p q r u) (plusOf q p r u)
@@ -182,7 +183,8 @@ module _ (p q r : ℕ) where
           let b = ring-balanced p r q (s .km) (s .lm) (s .kl) u v (second-ring p q r u s) (to-second p q r (s .kl) v y) un in
           omega (arith, b, prq u, prq v, rpq u, rpq v)
       go (inr (inr s)) y =
-          let b = ring-balanced q r p (diagonal-sym p q (s .km)) (diagonal-sym p r (s .kn)) (s .mn) u v (third-ring p q r u s) (to-third p q r (s .mn) v y) un in
+          let b = ring-balanced q r p (diagonal-sym p q (s .km)) (diagonal-sym p r (s .kn)) (s .mn) u v (third-ring p q r u s)
+          (to-third p q r (s .mn) v y) un in
           omega (arith, b, qrp u, qrp v, rqp u, rqp v)
 
 not-less : (a b c d : ℕ) → Far a b → a + c ≡ b + d → ltb a b ≡ not (ltb c d)
@@ -212,19 +214,32 @@ odd-case : (e o m n : ℕ) → Far e o → m ≡ o → n ≡ e → ltb m n ≡ u
 odd-case e o m n d p q = rw (p, q) (far-flip e o d)
 
 plus-last : (k l m n : ℕ) → plusOf k m n l ≡ plusOf k l m n
-plus-last k l m n = sym (vol-plus k m n l) ∙ last-three xOf yOf zOf k l m n ∙ vol-plus k l m n
+plus-last k l m n = sym (vol-plus k m n l) ∙ last-terms (tri xOf yOf zOf) (cycle xOf yOf zOf) k l m n ∙ vol-plus k l m n
 
-module _ (t : Four) (c : CliqueOf t) where
+module _ (t : Four) (cl : CliqueOf t) where
+  abbrev a : ℕ
+  a = t .a
+
+  abbrev b : ℕ
+  b = t .b
+
+  abbrev c : ℕ
+  c = t .c
+
+  abbrev d : ℕ
+  d = t .d
+
   abbrev e : ℕ
-  e = plusOf (t .a) (t .b) (t .c) (t .d)
+  e = plusOf a b c d
 
   abbrev o : ℕ
-  o = plusOf (t .b) (t .a) (t .c) (t .d)
+  o = plusOf b a c d
 
   apart-eo : Far e o
-  apart-eo = clique-flat (t .a) (t .b) (t .c) (t .d) c
+  apart-eo = clique-flat a b c d cl
 
-  pub in-any-order : (i j k : Corner) → apart3 i j k ≡ true → leftHanded (at t i) (at t j) (at t k) (at t (other i j k)) ≡ unlike (leftOf t) (oddOrder i j k (other i j k))
+  pub in-any-order : (i j k : Corner) → apart3 i j k ≡ true
+      → leftHanded (at t i) (at t j) (at t k) (at t (other i j k)) ≡ unlike (leftOf t) (oddOrder i j k (other i j k))
   unfolding leftHanded inFront plusOf apart3 oddOrder other pick free
   in-any-order c0 c0 c0 h = absurd (false≢true h)
   in-any-order c0 c0 c1 h = absurd (false≢true h)
@@ -232,58 +247,102 @@ module _ (t : Four) (c : CliqueOf t) where
   in-any-order c0 c0 c3 h = absurd (false≢true h)
   in-any-order c0 c1 c0 h = absurd (false≢true h)
   in-any-order c0 c1 c1 h = absurd (false≢true h)
-  in-any-order c0 c1 c2 h = even-case e o (plusOf (t .a) (t .b) (t .c) (t .d)) (plusOf (t .b) (t .a) (t .c) (t .d)) refl refl
-  in-any-order c0 c1 c3 h = odd-case e o (plusOf (t .a) (t .b) (t .d) (t .c)) (plusOf (t .b) (t .a) (t .d) (t .c)) apart-eo (plus-last (t .a) (t .c) (t .b) (t .d) ∙ plus-first (t .b) (t .a) (t .c) (t .d)) (plus-last (t .b) (t .c) (t .a) (t .d) ∙ plus-first (t .a) (t .b) (t .c) (t .d))
+  in-any-order c0 c1 c2 h = even-case e o (plusOf a b c d) (plusOf b a c d) refl refl
+  in-any-order c0 c1 c3 h =
+      odd-case e o (plusOf a b d c) (plusOf b a d c) apart-eo (plus-last a c b d ∙ plus-first b a c d)
+      (plus-last b c a d ∙ plus-first a b c d)
   in-any-order c0 c2 c0 h = absurd (false≢true h)
-  in-any-order c0 c2 c1 h = odd-case e o (plusOf (t .a) (t .c) (t .b) (t .d)) (plusOf (t .c) (t .a) (t .b) (t .d)) apart-eo (plus-first (t .b) (t .a) (t .c) (t .d)) (plus-first (t .b) (t .c) (t .a) (t .d) ∙ plus-first (t .a) (t .b) (t .c) (t .d))
+  in-any-order c0 c2 c1 h =
+      odd-case e o (plusOf a c b d) (plusOf c a b d) apart-eo (plus-first b a c d)
+      (plus-first b c a d ∙ plus-first a b c d)
   in-any-order c0 c2 c2 h = absurd (false≢true h)
-  in-any-order c0 c2 c3 h = even-case e o (plusOf (t .a) (t .c) (t .d) (t .b)) (plusOf (t .c) (t .a) (t .d) (t .b)) (plus-last (t .a) (t .b) (t .c) (t .d)) (plus-last (t .c) (t .b) (t .a) (t .d) ∙ plus-first (t .a) (t .c) (t .b) (t .d) ∙ plus-first (t .b) (t .a) (t .c) (t .d))
+  in-any-order c0 c2 c3 h =
+      even-case e o (plusOf a c d b) (plusOf c a d b) (plus-last a b c d)
+      (plus-last c b a d ∙ plus-first a c b d ∙ plus-first b a c d)
   in-any-order c0 c3 c0 h = absurd (false≢true h)
-  in-any-order c0 c3 c1 h = even-case e o (plusOf (t .a) (t .d) (t .b) (t .c)) (plusOf (t .d) (t .a) (t .b) (t .c)) (plus-last (t .a) (t .c) (t .d) (t .b) ∙ plus-last (t .a) (t .b) (t .c) (t .d)) (plus-first (t .b) (t .d) (t .a) (t .c) ∙ plus-last (t .b) (t .c) (t .d) (t .a) ∙ plus-last (t .b) (t .a) (t .c) (t .d))
-  in-any-order c0 c3 c2 h = odd-case e o (plusOf (t .a) (t .d) (t .c) (t .b)) (plusOf (t .d) (t .a) (t .c) (t .b)) apart-eo (plus-last (t .a) (t .b) (t .d) (t .c) ∙ plus-last (t .a) (t .c) (t .b) (t .d) ∙ plus-first (t .b) (t .a) (t .c) (t .d)) (plus-first (t .c) (t .d) (t .a) (t .b) ∙ plus-first (t .a) (t .c) (t .d) (t .b) ∙ plus-last (t .a) (t .b) (t .c) (t .d))
+  in-any-order c0 c3 c1 h =
+      even-case e o (plusOf a d b c) (plusOf d a b c) (plus-last a c d b ∙ plus-last a b c d)
+      (plus-first b d a c ∙ plus-last b c d a ∙ plus-last b a c d)
+  in-any-order c0 c3 c2 h =
+      odd-case e o (plusOf a d c b) (plusOf d a c b) apart-eo (plus-last a b d c ∙ plus-last a c b d ∙ plus-first b a c d)
+      (plus-first c d a b ∙ plus-first a c d b ∙ plus-last a b c d)
   in-any-order c0 c3 c3 h = absurd (false≢true h)
   in-any-order c1 c0 c0 h = absurd (false≢true h)
   in-any-order c1 c0 c1 h = absurd (false≢true h)
-  in-any-order c1 c0 c2 h = odd-case e o (plusOf (t .b) (t .a) (t .c) (t .d)) (plusOf (t .a) (t .b) (t .c) (t .d)) apart-eo refl refl
-  in-any-order c1 c0 c3 h = even-case e o (plusOf (t .b) (t .a) (t .d) (t .c)) (plusOf (t .a) (t .b) (t .d) (t .c)) (plus-last (t .b) (t .c) (t .a) (t .d) ∙ plus-first (t .a) (t .b) (t .c) (t .d)) (plus-last (t .a) (t .c) (t .b) (t .d) ∙ plus-first (t .b) (t .a) (t .c) (t .d))
+  in-any-order c1 c0 c2 h = odd-case e o (plusOf b a c d) (plusOf a b c d) apart-eo refl refl
+  in-any-order c1 c0 c3 h =
+      even-case e o (plusOf b a d c) (plusOf a b d c) (plus-last b c a d ∙ plus-first a b c d)
+      (plus-last a c b d ∙ plus-first b a c d)
   in-any-order c1 c1 c0 h = absurd (false≢true h)
   in-any-order c1 c1 c1 h = absurd (false≢true h)
   in-any-order c1 c1 c2 h = absurd (false≢true h)
   in-any-order c1 c1 c3 h = absurd (false≢true h)
-  in-any-order c1 c2 c0 h = even-case e o (plusOf (t .b) (t .c) (t .a) (t .d)) (plusOf (t .c) (t .b) (t .a) (t .d)) (plus-first (t .a) (t .b) (t .c) (t .d)) (plus-first (t .a) (t .c) (t .b) (t .d) ∙ plus-first (t .b) (t .a) (t .c) (t .d))
+  in-any-order c1 c2 c0 h =
+      even-case e o (plusOf b c a d) (plusOf c b a d) (plus-first a b c d)
+      (plus-first a c b d ∙ plus-first b a c d)
   in-any-order c1 c2 c1 h = absurd (false≢true h)
   in-any-order c1 c2 c2 h = absurd (false≢true h)
-  in-any-order c1 c2 c3 h = odd-case e o (plusOf (t .b) (t .c) (t .d) (t .a)) (plusOf (t .c) (t .b) (t .d) (t .a)) apart-eo (plus-last (t .b) (t .a) (t .c) (t .d)) (plus-last (t .c) (t .a) (t .b) (t .d) ∙ plus-first (t .b) (t .c) (t .a) (t .d) ∙ plus-first (t .a) (t .b) (t .c) (t .d))
-  in-any-order c1 c3 c0 h = odd-case e o (plusOf (t .b) (t .d) (t .a) (t .c)) (plusOf (t .d) (t .b) (t .a) (t .c)) apart-eo (plus-last (t .b) (t .c) (t .d) (t .a) ∙ plus-last (t .b) (t .a) (t .c) (t .d)) (plus-first (t .a) (t .d) (t .b) (t .c) ∙ plus-last (t .a) (t .c) (t .d) (t .b) ∙ plus-last (t .a) (t .b) (t .c) (t .d))
+  in-any-order c1 c2 c3 h =
+      odd-case e o (plusOf b c d a) (plusOf c b d a) apart-eo (plus-last b a c d)
+      (plus-last c a b d ∙ plus-first b c a d ∙ plus-first a b c d)
+  in-any-order c1 c3 c0 h =
+      odd-case e o (plusOf b d a c) (plusOf d b a c) apart-eo (plus-last b c d a ∙ plus-last b a c d)
+      (plus-first a d b c ∙ plus-last a c d b ∙ plus-last a b c d)
   in-any-order c1 c3 c1 h = absurd (false≢true h)
-  in-any-order c1 c3 c2 h = even-case e o (plusOf (t .b) (t .d) (t .c) (t .a)) (plusOf (t .d) (t .b) (t .c) (t .a)) (plus-last (t .b) (t .a) (t .d) (t .c) ∙ plus-last (t .b) (t .c) (t .a) (t .d) ∙ plus-first (t .a) (t .b) (t .c) (t .d)) (plus-first (t .c) (t .d) (t .b) (t .a) ∙ plus-first (t .b) (t .c) (t .d) (t .a) ∙ plus-last (t .b) (t .a) (t .c) (t .d))
+  in-any-order c1 c3 c2 h =
+      even-case e o (plusOf b d c a) (plusOf d b c a) (plus-last b a d c ∙ plus-last b c a d ∙ plus-first a b c d)
+      (plus-first c d b a ∙ plus-first b c d a ∙ plus-last b a c d)
   in-any-order c1 c3 c3 h = absurd (false≢true h)
   in-any-order c2 c0 c0 h = absurd (false≢true h)
-  in-any-order c2 c0 c1 h = even-case e o (plusOf (t .c) (t .a) (t .b) (t .d)) (plusOf (t .a) (t .c) (t .b) (t .d)) (plus-first (t .b) (t .c) (t .a) (t .d) ∙ plus-first (t .a) (t .b) (t .c) (t .d)) (plus-first (t .b) (t .a) (t .c) (t .d))
+  in-any-order c2 c0 c1 h =
+      even-case e o (plusOf c a b d) (plusOf a c b d) (plus-first b c a d ∙ plus-first a b c d)
+      (plus-first b a c d)
   in-any-order c2 c0 c2 h = absurd (false≢true h)
-  in-any-order c2 c0 c3 h = odd-case e o (plusOf (t .c) (t .a) (t .d) (t .b)) (plusOf (t .a) (t .c) (t .d) (t .b)) apart-eo (plus-last (t .c) (t .b) (t .a) (t .d) ∙ plus-first (t .a) (t .c) (t .b) (t .d) ∙ plus-first (t .b) (t .a) (t .c) (t .d)) (plus-last (t .a) (t .b) (t .c) (t .d))
-  in-any-order c2 c1 c0 h = odd-case e o (plusOf (t .c) (t .b) (t .a) (t .d)) (plusOf (t .b) (t .c) (t .a) (t .d)) apart-eo (plus-first (t .a) (t .c) (t .b) (t .d) ∙ plus-first (t .b) (t .a) (t .c) (t .d)) (plus-first (t .a) (t .b) (t .c) (t .d))
+  in-any-order c2 c0 c3 h =
+      odd-case e o (plusOf c a d b) (plusOf a c d b) apart-eo (plus-last c b a d ∙ plus-first a c b d ∙ plus-first b a c d)
+      (plus-last a b c d)
+  in-any-order c2 c1 c0 h =
+      odd-case e o (plusOf c b a d) (plusOf b c a d) apart-eo (plus-first a c b d ∙ plus-first b a c d)
+      (plus-first a b c d)
   in-any-order c2 c1 c1 h = absurd (false≢true h)
   in-any-order c2 c1 c2 h = absurd (false≢true h)
-  in-any-order c2 c1 c3 h = even-case e o (plusOf (t .c) (t .b) (t .d) (t .a)) (plusOf (t .b) (t .c) (t .d) (t .a)) (plus-last (t .c) (t .a) (t .b) (t .d) ∙ plus-first (t .b) (t .c) (t .a) (t .d) ∙ plus-first (t .a) (t .b) (t .c) (t .d)) (plus-last (t .b) (t .a) (t .c) (t .d))
+  in-any-order c2 c1 c3 h =
+      even-case e o (plusOf c b d a) (plusOf b c d a) (plus-last c a b d ∙ plus-first b c a d ∙ plus-first a b c d)
+      (plus-last b a c d)
   in-any-order c2 c2 c0 h = absurd (false≢true h)
   in-any-order c2 c2 c1 h = absurd (false≢true h)
   in-any-order c2 c2 c2 h = absurd (false≢true h)
   in-any-order c2 c2 c3 h = absurd (false≢true h)
-  in-any-order c2 c3 c0 h = even-case e o (plusOf (t .c) (t .d) (t .a) (t .b)) (plusOf (t .d) (t .c) (t .a) (t .b)) (plus-first (t .a) (t .c) (t .d) (t .b) ∙ plus-last (t .a) (t .b) (t .c) (t .d)) (plus-first (t .a) (t .d) (t .c) (t .b) ∙ plus-last (t .a) (t .b) (t .d) (t .c) ∙ plus-last (t .a) (t .c) (t .b) (t .d) ∙ plus-first (t .b) (t .a) (t .c) (t .d))
-  in-any-order c2 c3 c1 h = odd-case e o (plusOf (t .c) (t .d) (t .b) (t .a)) (plusOf (t .d) (t .c) (t .b) (t .a)) apart-eo (plus-first (t .b) (t .c) (t .d) (t .a) ∙ plus-last (t .b) (t .a) (t .c) (t .d)) (plus-first (t .b) (t .d) (t .c) (t .a) ∙ plus-last (t .b) (t .a) (t .d) (t .c) ∙ plus-last (t .b) (t .c) (t .a) (t .d) ∙ plus-first (t .a) (t .b) (t .c) (t .d))
+  in-any-order c2 c3 c0 h =
+      even-case e o (plusOf c d a b) (plusOf d c a b) (plus-first a c d b ∙ plus-last a b c d)
+      (plus-first a d c b ∙ plus-last a b d c ∙ plus-last a c b d ∙ plus-first b a c d)
+  in-any-order c2 c3 c1 h =
+      odd-case e o (plusOf c d b a) (plusOf d c b a) apart-eo (plus-first b c d a ∙ plus-last b a c d)
+      (plus-first b d c a ∙ plus-last b a d c ∙ plus-last b c a d ∙ plus-first a b c d)
   in-any-order c2 c3 c2 h = absurd (false≢true h)
   in-any-order c2 c3 c3 h = absurd (false≢true h)
   in-any-order c3 c0 c0 h = absurd (false≢true h)
-  in-any-order c3 c0 c1 h = odd-case e o (plusOf (t .d) (t .a) (t .b) (t .c)) (plusOf (t .a) (t .d) (t .b) (t .c)) apart-eo (plus-first (t .b) (t .d) (t .a) (t .c) ∙ plus-last (t .b) (t .c) (t .d) (t .a) ∙ plus-last (t .b) (t .a) (t .c) (t .d)) (plus-last (t .a) (t .c) (t .d) (t .b) ∙ plus-last (t .a) (t .b) (t .c) (t .d))
-  in-any-order c3 c0 c2 h = even-case e o (plusOf (t .d) (t .a) (t .c) (t .b)) (plusOf (t .a) (t .d) (t .c) (t .b)) (plus-first (t .c) (t .d) (t .a) (t .b) ∙ plus-first (t .a) (t .c) (t .d) (t .b) ∙ plus-last (t .a) (t .b) (t .c) (t .d)) (plus-last (t .a) (t .b) (t .d) (t .c) ∙ plus-last (t .a) (t .c) (t .b) (t .d) ∙ plus-first (t .b) (t .a) (t .c) (t .d))
+  in-any-order c3 c0 c1 h =
+      odd-case e o (plusOf d a b c) (plusOf a d b c) apart-eo (plus-first b d a c ∙ plus-last b c d a ∙ plus-last b a c d)
+      (plus-last a c d b ∙ plus-last a b c d)
+  in-any-order c3 c0 c2 h =
+      even-case e o (plusOf d a c b) (plusOf a d c b) (plus-first c d a b ∙ plus-first a c d b ∙ plus-last a b c d)
+      (plus-last a b d c ∙ plus-last a c b d ∙ plus-first b a c d)
   in-any-order c3 c0 c3 h = absurd (false≢true h)
-  in-any-order c3 c1 c0 h = even-case e o (plusOf (t .d) (t .b) (t .a) (t .c)) (plusOf (t .b) (t .d) (t .a) (t .c)) (plus-first (t .a) (t .d) (t .b) (t .c) ∙ plus-last (t .a) (t .c) (t .d) (t .b) ∙ plus-last (t .a) (t .b) (t .c) (t .d)) (plus-last (t .b) (t .c) (t .d) (t .a) ∙ plus-last (t .b) (t .a) (t .c) (t .d))
+  in-any-order c3 c1 c0 h =
+      even-case e o (plusOf d b a c) (plusOf b d a c) (plus-first a d b c ∙ plus-last a c d b ∙ plus-last a b c d)
+      (plus-last b c d a ∙ plus-last b a c d)
   in-any-order c3 c1 c1 h = absurd (false≢true h)
-  in-any-order c3 c1 c2 h = odd-case e o (plusOf (t .d) (t .b) (t .c) (t .a)) (plusOf (t .b) (t .d) (t .c) (t .a)) apart-eo (plus-first (t .c) (t .d) (t .b) (t .a) ∙ plus-first (t .b) (t .c) (t .d) (t .a) ∙ plus-last (t .b) (t .a) (t .c) (t .d)) (plus-last (t .b) (t .a) (t .d) (t .c) ∙ plus-last (t .b) (t .c) (t .a) (t .d) ∙ plus-first (t .a) (t .b) (t .c) (t .d))
+  in-any-order c3 c1 c2 h =
+      odd-case e o (plusOf d b c a) (plusOf b d c a) apart-eo (plus-first c d b a ∙ plus-first b c d a ∙ plus-last b a c d)
+      (plus-last b a d c ∙ plus-last b c a d ∙ plus-first a b c d)
   in-any-order c3 c1 c3 h = absurd (false≢true h)
-  in-any-order c3 c2 c0 h = odd-case e o (plusOf (t .d) (t .c) (t .a) (t .b)) (plusOf (t .c) (t .d) (t .a) (t .b)) apart-eo (plus-first (t .a) (t .d) (t .c) (t .b) ∙ plus-last (t .a) (t .b) (t .d) (t .c) ∙ plus-last (t .a) (t .c) (t .b) (t .d) ∙ plus-first (t .b) (t .a) (t .c) (t .d)) (plus-first (t .a) (t .c) (t .d) (t .b) ∙ plus-last (t .a) (t .b) (t .c) (t .d))
-  in-any-order c3 c2 c1 h = even-case e o (plusOf (t .d) (t .c) (t .b) (t .a)) (plusOf (t .c) (t .d) (t .b) (t .a)) (plus-first (t .b) (t .d) (t .c) (t .a) ∙ plus-last (t .b) (t .a) (t .d) (t .c) ∙ plus-last (t .b) (t .c) (t .a) (t .d) ∙ plus-first (t .a) (t .b) (t .c) (t .d)) (plus-first (t .b) (t .c) (t .d) (t .a) ∙ plus-last (t .b) (t .a) (t .c) (t .d))
+  in-any-order c3 c2 c0 h =
+      odd-case e o (plusOf d c a b) (plusOf c d a b) apart-eo (plus-first a d c b ∙ plus-last a b d c ∙ plus-last a c b d ∙ plus-first b a c d)
+      (plus-first a c d b ∙ plus-last a b c d)
+  in-any-order c3 c2 c1 h =
+      even-case e o (plusOf d c b a) (plusOf c d b a) (plus-first b d c a ∙ plus-last b a d c ∙ plus-last b c a d ∙ plus-first a b c d)
+      (plus-first b c d a ∙ plus-last b a c d)
   in-any-order c3 c2 c2 h = absurd (false≢true h)
   in-any-order c3 c2 c3 h = absurd (false≢true h)
   in-any-order c3 c3 c0 h = absurd (false≢true h)
@@ -297,7 +356,8 @@ pub other-free : (i j k : Corner) → apart3 i j k ≡ true → free i j k (othe
 unfolding other-test
 other-free i j k =
     if-then (apart3 i j k) (free i j k (other i j k))
-    (at-corner (λ k. other-test i j k) (at-corner (λ j. everyCorner (λ k. other-test i j k)) (at-corner (λ i. everyCorner (λ j. everyCorner (λ k. other-test i j k))) other-tests i) j) k)
+    (at-corner (λ k. other-test i j k)
+    (at-corner (λ j. everyCorner (λ k. other-test i j k)) (at-corner (λ i. everyCorner (λ j. everyCorner (λ k. other-test i j k))) other-tests i) j) k)
 
 module _ (t : Four) (up : Rising t) (cl : CliqueOf t) (i j k : Corner) (d : apart3 i j k ≡ true) where
   apart-keys : (x y : Corner) → eqc x y ≡ false → at t x ≡ at t y → ⊥
@@ -331,7 +391,8 @@ turn-about a false true e = rw e
 turn-about a false false e = rw e
 
 -- two tetrahedra that share a face lie on opposite sides of it, so their triangles run through its side in opposite directions
-pub opposite-ways : (t x : Four) → Rising t → Rising x → CliqueOf t → CliqueOf x → (i j k i' j' k' : Corner) → apart3 i j k ≡ true → apart3 i' j' k' ≡ true → at x i' ≡ at t i → at x j' ≡ at t j → at x k' ≡ at t k → (t ≡ x → ⊥) → (b : Bool) → forward (leftOf t) i j k b ≡ not (forward (leftOf x) i' j' k' b)
+pub opposite-ways : (t x : Four) → Rising t → Rising x → CliqueOf t → CliqueOf x → (i j k i' j' k' : Corner) → apart3 i j k ≡ true → apart3 i' j' k' ≡ true
+    → at x i' ≡ at t i → at x j' ≡ at t j → at x k' ≡ at t k → (t ≡ x → ⊥) → (b : Bool) → forward (leftOf t) i j k b ≡ not (forward (leftOf x) i' j' k' b)
 unfolding forward
 opposite-ways t x tup xup tc xc i j k i' j' k' d d' ei ej ek un b =
     let o : ℕ = at t (other i j k) in

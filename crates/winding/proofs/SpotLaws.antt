@@ -12,7 +12,7 @@ use Rattle.ids.proofs.KeyLaws.{coord-small}
 use Rattle.winding.specs.declared.Spot.{Spot}
 use Rattle.winding.specs.Spots.{both, halfway, triple, plusTerms, inFront, pointsFromTo}
 use Rattle.winding.specs.Steps.{Small}
-use Rattle.winding.proofs.Volume.{tri, vol, cycle, first-three, last-three, Far}
+use Rattle.winding.proofs.Volume.{terms, first-terms, tri, cycle, Far}
 
 -- ---- for a program
 
@@ -86,30 +86,43 @@ eight-terms :
     ≡ ((triple a b c + triple a b c') + (triple a b' c + triple a b' c')) + ((triple a' b c + triple a' b c') + (triple a' b' c + triple a' b' c'))
 eight-terms a a' b b' c c' = omega (arith, add-first a a' (both b b') (both c c'), four-terms a b b' c c', four-terms a' b b' c c')
 
--- ---- over any T that is the same turned round: the terms of a determinant, the points kept shut
+-- ---- over any T that is the same turned round, the points kept shut
 
 module _ {P : Type 0} (T : P → P → P → ℕ) (round : (a b c : P) → T b c a ≡ T a b c) where
-  abbrev terms : P → P → P → P → ℕ
-  terms a b c p = T b c p + (T a p c + (T a b p + T a c b))
-
-  -- the three points named from the second on
-  terms-round : (a b c p : P) → terms b c a p ≡ terms a b c p
-  terms-round a b c p = omega (arith, round a b c, round a p c, round a b p, round b c p, round c a p, round b a c, round b p a)
+  abbrev own : P → P → P → P → ℕ
+  own a b c p = terms T round a b c p
 
   -- two points on either side of the first
   terms-mirrored :
       (a b c k l : P)
       → ((m n : P) → T m n k + T m n l ≡ T m n a + T m n a)
-      → terms a b c k + terms a b c l ≡ terms b a c k + terms b a c l
+      → own a b c k + own a b c l ≡ own b a c k + own b a c l
   terms-mirrored a b c k l s =
-      omega (arith, s b c, s c b, s a b, s b a, s c a, s a c, round c a k, round c a l, round c b k, round c b l, round a c b, round a c a, round c a a, round b a a, round a b a)
+      omega (
+        arith,
+        s b c,
+        s c b,
+        s a b,
+        s b a,
+        s c a,
+        s a c,
+        round c a k,
+        round c a l,
+        round c b k,
+        round c b l,
+        round a c b,
+        round a c a,
+        round c a a,
+        round b a a,
+        round a b a,
+      )
 
   -- the middles of the edges of four points
   module _ (add : P → P → P)
       (eight : (a a' b b' c c' : P) → T (add a a') (add b b') (add c c')
       ≡ ((T a b c + T a b c') + (T a b' c + T a b' c')) + ((T a' b c + T a' b c') + (T a' b' c + T a' b' c'))) where
     -- of one point against three others
-    terms-alone : (p x y z : P) → terms (add p x) (add p y) (add p z) (add p p) + terms p x y z ≡ terms (add p y) (add p x) (add p z) (add p p) + terms x p y z
+    terms-alone : (p x y z : P) → own (add p x) (add p y) (add p z) (add p p) + own p x y z ≡ own (add p y) (add p x) (add p z) (add p p) + own x p y z
     terms-alone p x y z =
         omega (
           arith,
@@ -144,7 +157,7 @@ module _ {P : Type 0} (T : P → P → P → ℕ) (round : (a b c : P) → T b c
         )
 
     -- of two points against two others, both triangles
-    terms-first : (p q r s : P) → terms (add p r) (add p s) (add q s) (add p p) + terms p q r s ≡ terms (add p s) (add p r) (add q s) (add p p) + terms q p r s
+    terms-first : (p q r s : P) → own (add p r) (add p s) (add q s) (add p p) + own p q r s ≡ own (add p s) (add p r) (add q s) (add p p) + own q p r s
     terms-first p q r s =
         omega (
           arith,
@@ -175,7 +188,7 @@ module _ {P : Type 0} (T : P → P → P → ℕ) (round : (a b c : P) → T b c
           round r s s,
         )
 
-    terms-second : (p q r s : P) → terms (add p r) (add q s) (add q r) (add p p) + terms p q r s ≡ terms (add q s) (add p r) (add q r) (add p p) + terms q p r s
+    terms-second : (p q r s : P) → own (add p r) (add q s) (add q r) (add p p) + own p q r s ≡ own (add q s) (add p r) (add q r) (add p p) + own q p r s
     terms-second p q r s =
         omega (
           arith,
@@ -236,7 +249,7 @@ in-front false a b c p e = le-ltb (plusTerms b a c p) (plusTerms a b c p) (omega
 
 -- the three points named from the second on
 named-round : (a b c p : Spot) → plusTerms b c a p ≡ plusTerms a b c p
-named-round a b c p = sym (terms-of b c a p) ∙ terms-round triple around a b c p ∙ terms-of a b c p
+named-round a b c p = sym (terms-of b c a p) ∙ first-terms triple around a b c p ∙ terms-of a b c p
 
 pub from-second : (s : Bool) (a b c p : Spot) → Stands s a b c p → Stands s b c a p
 from-second true a b c p e = sums-same e (named-round a b c p) (named-round a c b p ∙ named-round b a c p)

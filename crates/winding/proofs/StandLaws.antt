@@ -54,7 +54,8 @@ one-of-four i j k d c =
     (at-corner (λ j. everyCorner (λ k. everyCorner (λ c. all-test i j k c)))
     (at-corner (λ i. everyCorner (λ j. everyCorner (λ k. everyCorner (λ c. all-test i j k c)))) all-tests i) j) k) c) d in
     ⊎-elim (λ e. inl (corner-eq c i e))
-    (λ r. ⊎-elim (λ e. inr (inl (corner-eq c j e))) (λ s. ⊎-elim (λ e. inr (inr (inl (corner-eq c k e)))) (λ e. inr (inr (inr (corner-eq c o e)))) (or-cases (eqc c k) (eqc c o) s))
+    (λ r. ⊎-elim (λ e. inr (inl (corner-eq c j e)))
+    (λ s. ⊎-elim (λ e. inr (inr (inl (corner-eq c k e)))) (λ e. inr (inr (inr (corner-eq c o e)))) (or-cases (eqc c k) (eqc c o) s))
     (or-cases (eqc c j) (eqc c k || eqc c o) r)) (or-cases (eqc c i) (eqc c j || (eqc c k || eqc c o)) h)
 
 -- ---- points halfway
@@ -159,7 +160,8 @@ module _ (rows : List Row) (up : ascending (keysOf rows) ≡ true) (t : Four) (m
     unfolding vertexOf
     vertex-edge =
         let u = numberIn es (pairOf (at t i) (at t j)) in
-        sym (same-edge (pairOf (at t i) (at t j)) (edgeAt es u) (sym (number-is es (edges-distinct rows up) (pairOf (at t i) (at t j)) u vertex-small) ∙ eq-eqb u u refl))
+        sym (same-edge (pairOf (at t i) (at t j)) (edgeAt es u)
+        (sym (number-is es (edges-distinct rows up) (pairOf (at t i) (at t j)) u vertex-small) ∙ eq-eqb u u refl))
 
     vertex-middle : middleOf es (vertex i j) ≡ halfway (at t i) (at t j)
     vertex-middle = ap (λ (e : Edge). halfway (e .first) (e .second)) vertex-edge ∙ pair-halfway (at t i) (at t j)
@@ -247,10 +249,13 @@ module _ (rows : List Row) (up : ascending (keysOf rows) ≡ true) (t : Four) (m
           let s = alone-stands (cellSpot (at t p)) (cellSpot (at t a)) (cellSpot (at t b)) (cellSpot (at t o)) (flat p a b d) in
           ⊎-elim (λ e. put _ _ _ alone-k v e (sym (unlike-twice hand (not (inner p)))) s)
           (λ r.
-          ⊎-elim (λ e. put _ _ _ alone-k v e (sym (unlike-other hand (inner p) (inner a) xa)) (mirrored-first hand _ _ _ (own p) (own a) (opposite (at t p) (at t a)) s))
+          ⊎-elim (λ e. put _ _ _ alone-k v e (sym (unlike-other hand (inner p) (inner a) xa))
+          (mirrored-first hand _ _ _ (own p) (own a) (opposite (at t p) (at t a)) s))
           (λ r.
-          ⊎-elim (λ e. put _ _ _ alone-k v e (sym (unlike-other hand (inner p) (inner b) xb)) (mirrored-second hand _ _ _ (own p) (own b) (opposite (at t p) (at t b)) s))
-          (λ e. put _ _ _ alone-k v e (sym (unlike-other hand (inner p) (inner o) xo)) (mirrored-third hand _ _ _ (own p) (own o) (opposite (at t p) (at t o)) s)) r) r)
+          ⊎-elim (λ e. put _ _ _ alone-k v e (sym (unlike-other hand (inner p) (inner b) xb))
+          (mirrored-second hand _ _ _ (own p) (own b) (opposite (at t p) (at t b)) s))
+          (λ e. put _ _ _ alone-k v e (sym (unlike-other hand (inner p) (inner o) xo))
+          (mirrored-third hand _ _ _ (own p) (own o) (opposite (at t p) (at t o)) s)) r) r)
           (one-of-four p a b d v)
 
       pub alone-seen : Seen (three (vertex p a) (vertex p b) (vertex p o)) alone-k
@@ -281,7 +286,8 @@ module _ (rows : List Row) (up : ascending (keysOf rows) ≡ true) (t : Four) (m
           (λ r.
           ⊎-elim (λ e. put _ _ _ hand v e (twice ∙ inside-k a ia) at-a)
           (λ r.
-          ⊎-elim (λ e. put _ _ _ hand v e (outside-k b ob) (mirrored-first hand (half p b) (half p o) (half a o) (own p) (own b) (opposite (at t p) (at t b)) s))
+          ⊎-elim (λ e. put _ _ _ hand v e (outside-k b ob)
+          (mirrored-first hand (half p b) (half p o) (half a o) (own p) (own b) (opposite (at t p) (at t b)) s))
           (λ e. put _ _ _ hand v e (outside-k o oo) at-o) r) r)
           (one-of-four p a b d v)
 
@@ -296,7 +302,8 @@ module _ (rows : List Row) (up : ascending (keysOf rows) ≡ true) (t : Four) (m
           ⊎-elim (λ e. put _ _ _ hand v e (twice ∙ inside-k a ia) at-a)
           (λ r.
           ⊎-elim (λ e. put _ _ _ hand v e (outside-k b ob) at-b)
-          (λ e. put _ _ _ hand v e (ap not twice ∙ outside-k o oo) (mirrored-second (not (not hand)) (half p b) (half a o) (half a b) (own a) (own o) (opposite (at t a) (at t o)) at-a)) r) r)
+          (λ e. put _ _ _ hand v e (ap not twice ∙ outside-k o oo)
+          (mirrored-second (not (not hand)) (half p b) (half a o) (half a b) (own a) (own o) (opposite (at t a) (at t o)) at-a)) r) r)
           (one-of-four p a b d v)
 
       pub first-seen : Seen (three (vertex p b) (vertex p o) (vertex a o)) hand

@@ -151,7 +151,9 @@ module _ (rows : List Row) (up : ascending (keysOf rows) ≡ true) (t : Four) (m
           → SeenAs (three (v p y) (v p x) (v p z)) (unlike f true)
           → SeenAs (three (v p y) (v p z) (v p x)) (unlike f false)
           → SeenAs (three (v p z) (v p y) (v p x)) (unlike f true)
-          → SeenAs (cond i (cond j (three (v p x) (v p y) (v p z)) (cond k (three (v p x) (v p z) (v p y)) (three (v p z) (v p x) (v p y)))) (cond k (three (v p y) (v p x) (v p z)) (cond j (three (v p y) (v p z) (v p x)) (three (v p z) (v p y) (v p x)))))
+          → SeenAs
+          (cond i (cond j (three (v p x) (v p y) (v p z)) (cond k (three (v p x) (v p z) (v p y)) (three (v p z) (v p x) (v p y))))
+          (cond k (three (v p y) (v p x) (v p z)) (cond j (three (v p y) (v p z) (v p x)) (three (v p z) (v p y) (v p x)))))
           (unlike f (cond i (cond j false (cond k true false)) (cond k true (cond j false true))))
       go true true k a b c d e g = a
       go true false true a b c d e g = b
@@ -195,7 +197,8 @@ module _ (rows : List Row) (up : ascending (keysOf rows) ≡ true) (t : Four) (m
   turned-as : (g : Three ℕ) (k : Bool) → SeenAs g k → outwards rows es g ≡ turnIf k g
   turned-as g k s = ap (λ (b : Bool). turnIf b g) (s .looks)
 
-  alone-turned : (f : Bool) (p : Corner) (cs : List Corner) → fitAlone f left w p (nth cs 0) (nth cs 1) (nth cs 2) ≡ true → Turned (alone v p cs) (turnAlone v f p cs)
+  alone-turned : (f : Bool) (p : Corner) (cs : List Corner) → fitAlone f left w p (nth cs 0) (nth cs 1) (nth cs 2) ≡ true
+      → Turned (alone v p cs) (turnAlone v f p cs)
   alone-turned f p cs h =
       let x = v p (nth cs 0) in
       let y = v p (nth cs 1) in
@@ -223,9 +226,14 @@ module _ (rows : List Row) (up : ascending (keysOf rows) ≡ true) (t : Four) (m
   cut-turned f ins outs h = go (eqb (length ins) 1) (eqb (length ins) 2) (eqb (length ins) 3) h
     where
       go : (x y z : Bool)
-          → cond x (fitAlone f left w (nth ins 0) (nth outs 0) (nth outs 1) (nth outs 2)) (cond y (fitHalves f left w (nth ins 0) (nth ins 1) (nth outs 0) (nth outs 1)) (cond z (fitAlone f left w (nth outs 0) (nth ins 0) (nth ins 1) (nth ins 2)) true)) ≡ true
-          → Turned (cond x (alone v (nth ins 0) outs) (cond y (halves v (nth ins 0) (nth ins 1) (nth outs 0) (nth outs 1)) (cond z (alone v (nth outs 0) ins) [])))
-          (cond x (turnAlone v f (nth ins 0) outs) (cond y (turnHalves v f (nth ins 0) (nth ins 1) (nth outs 0) (nth outs 1)) (cond z (turnAlone v f (nth outs 0) ins) [])))
+          → cond x (fitAlone f left w (nth ins 0) (nth outs 0) (nth outs 1) (nth outs 2))
+          (cond y (fitHalves f left w (nth ins 0) (nth ins 1) (nth outs 0) (nth outs 1))
+          (cond z (fitAlone f left w (nth outs 0) (nth ins 0) (nth ins 1) (nth ins 2)) true)) ≡ true
+          → Turned
+          (cond x (alone v (nth ins 0) outs)
+          (cond y (halves v (nth ins 0) (nth ins 1) (nth outs 0) (nth outs 1)) (cond z (alone v (nth outs 0) ins) [])))
+          (cond x (turnAlone v f (nth ins 0) outs)
+          (cond y (turnHalves v f (nth ins 0) (nth ins 1) (nth outs 0) (nth outs 1)) (cond z (turnAlone v f (nth outs 0) ins) [])))
       go true y z h = alone-turned f (nth ins 0) outs h
       go false true z h = halves-turned f (nth ins 0) (nth ins 1) (nth outs 0) (nth outs 1) h
       go false false true h = alone-turned f (nth outs 0) ins h

@@ -187,7 +187,8 @@ module _ (rows : List Row) (up : ascending (keysOf rows) ≡ true) where
         (cases (λ (b : Bool). sidesOf rows up u v x ≡ 0) (aroundTest rows up u v lu lv un x)
         (λ a. absurd (only-two rows up u v lu lv un f t t' x h h' (held-by rows up u v lu lv un x m a) n i j)) (λ a. none-there rows up u v lu lv un x a))) in
         let o =
-        opposite-ways t t' (rising-in rows up t (h .listed)) (rising-in rows up t' (h' .listed)) (clique-in rows up t (h .listed)) (clique-in rows up t' (h' .listed))
+        opposite-ways t t' (rising-in rows up t (h .listed)) (rising-in rows up t' (h' .listed)) (clique-in rows up t (h .listed))
+        (clique-in rows up t' (h' .listed))
         (p .cm) (p .ca) (p .cb) (q .cm) (q .ca) (q .cb) (p .three) (q .three) (q .em ∙ sym (p .em)) (q .ea ∙ sym (p .ea)) (q .eb ∙ sym (p .eb)) n
         (insideAt rows (k .m)) in
         all-runs u v ∙ s ∙ ap₂ _+_ (p .count) (q .count)
@@ -211,9 +212,11 @@ module _ (rows : List Row) (up : ascending (keysOf rows) ≡ true) where
         (cases (λ (b : Bool). sidesOf rows up u v z ≡ 0) (aroundTest rows up u v lu lv un z)
         (λ a. absurd (p (only-one rows up u v lu lv un d t z h (held-by rows up u v lu lv un z i a)))) (λ a. none-there rows up u v lu lv un z a))) in
         let a = corners-differ t ris (x .i) (y .i) (λ q. d .0 (edgeOf' v .first) (List·Memᴰ·tail (List·Memᴰ·head refl)) (sym (x .first) ∙ q ∙ y .first)) in
-        let b = corners-differ t ris (x .i) (y .j) (λ q. d .0 (edgeOf' v .second) (List·Memᴰ·tail (List·Memᴰ·tail (List·Memᴰ·head refl))) (sym (x .first) ∙ q ∙ y .second)) in
+        let b = corners-differ t ris (x .i) (y .j)
+        (λ q. d .0 (edgeOf' v .second) (List·Memᴰ·tail (List·Memᴰ·tail (List·Memᴰ·head refl))) (sym (x .first) ∙ q ∙ y .second)) in
         let c = corners-differ t ris (x .j) (y .i) (λ q. d .1 .0 (edgeOf' v .first) (List·Memᴰ·head refl) (sym (x .second) ∙ q ∙ y .first)) in
-        let e = corners-differ t ris (x .j) (y .j) (λ q. d .1 .0 (edgeOf' v .second) (List·Memᴰ·tail (List·Memᴰ·head refl)) (sym (x .second) ∙ q ∙ y .second)) in
+        let e = corners-differ t ris (x .j) (y .j)
+        (λ q. d .1 .0 (edgeOf' v .second) (List·Memᴰ·tail (List·Memᴰ·head refl)) (sym (x .second) ∙ q ∙ y .second)) in
         let apart : meets (x .i) (x .j) (y .i) (y .j) ≡ false = rw (a, b, c, e) in
         let doubled =
         inner-run (leftOf t) (inner t) (x .i) (x .j) (y .i) (y .j) (seen-crossed rows up u lu t x) (seen-crossed rows up v lv t y) apart
@@ -246,7 +249,13 @@ module _ (rows : List Row) (up : ascending (keysOf rows) ≡ true) where
   side-back : (u v : ℕ) → IsSide (closedTriangles rows) u v → IsSide (closedTriangles rows) v u
   unfolding hasSide
   side-back u v s =
-      record { differ = λ e. s .differ (sym e); triangle = s .triangle; listed = s .listed; side = and-comm (names v (s .triangle)) (names u (s .triangle)) ∙ s .side }
+      record {
+        differ = λ e. s .differ (sym e);
+        triangle = s .triangle;
+        listed = s .listed;
+        side = and-comm (names v (s .triangle)) (names u (s .triangle))
+            ∙ s .side;
+      }
 
   around-back : (u v : ℕ) (t : Four) → Around (ends es u v) t → Around (ends es v u) t
   unfolding All

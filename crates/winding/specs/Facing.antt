@@ -25,8 +25,8 @@ leftHanded k l m n = inFront (cellSpot l) (cellSpot k) (cellSpot m) (cellSpot n)
 abbrev pub turnedOf : List Row → List Edge → Four → List (Three ℕ)
 turnedOf rows es t = map (outwards rows es) (trianglesOf rows es t)
 
--- i and the two corners j, k of the other sign, in a tetrahedron with the corners i, j, k, l: right-handed in this order where i is inside, left-handed where it
--- is outside. (Right-handed: seen from l, the corners i, j, k turn to the left.)
+-- i and the two corners j, k of the other sign, in a tetrahedron with the corners i, j, k, l: right-handed in this order where i is inside, left-handed
+-- where it is outside. (Right-handed: seen from l, the corners i, j, k turn to the left.)
 pub record Facing (rows : List Row) (t : Four) (i j k l : Corner) : Type 0 where
   pub listed : t ∈ tetrahedra rows
   pub all : Distinct (i ∷ j ∷ k ∷ l ∷ [])

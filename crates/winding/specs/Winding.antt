@@ -86,7 +86,8 @@ pub record LooksOutward (rows : List Row) (es : List Edge) (f : Three ℕ) : Typ
   pub outside : (c : Corner) → insideAt rows (at tetrahedron c) ≡ false → faces es f (at tetrahedron c) ≡ true
   pub inside : (c : Corner) → insideAt rows (at tetrahedron c) ≡ true → faces es (turnIf true f) (at tetrahedron c) ≡ true
   -- so its normal points from the inside corners to the outside ones
-  pub normal : (c d : Corner) → insideAt rows (at tetrahedron c) ≡ true → insideAt rows (at tetrahedron d) ≡ false → normalFromTo es f (at tetrahedron c) (at tetrahedron d) ≡ true
+  pub normal : (c d : Corner) → insideAt rows (at tetrahedron c) ≡ true → insideAt rows (at tetrahedron d) ≡ false
+      → normalFromTo es f (at tetrahedron c) (at tetrahedron d) ≡ true
 
 -- all triangles over a table's edges look outwards
 abbrev pub OutwardBy : List Row → List Edge → List (Three ℕ) → Type 0

@@ -3,15 +3,10 @@
 use borrow.Author.Needs.{needs}
 use Rattle.turned_mesh.proofs.turn_meshed.Statement.{statement}
 use Rattle.turned_mesh.proofs.turn_meshed.Tie as tie
-use Rattle.turned_mesh.proofs.turn_meshed.Reads as reads
-use Rattle.turned_mesh.proofs.turn_meshed.Lts as lts
-use Rattle.turning.proofs.turn_triangles.Reads as turn-triangles-reads
 
--- src/lib.rt:116:22
 enum-known-meshed : tie.Need-enum-known-meshed
 enum-known-meshed c = search needs
 
--- src/lib.rt:116:43
 turn-triangles-requires : tie.Need-turn-triangles-requires
 turn-triangles-requires c κs =
     let s = c .before .before .before .before .before .before .before .before .before .before .before .before .before in
@@ -20,22 +15,18 @@ turn-triangles-requires c κs =
 enum-told : tie.Need-enum-told
 enum-told c = search needs
 
--- src/lib.rt:97:1
 same-length : tie.Need-same-length
 same-length c = search needs
 
--- src/lib.rt:97:1
 same-length-2 : tie.Need-same-length-2
 same-length-2 c = search needs
 
--- src/lib.rt:97:1
 returns : tie.Need-returns
 returns c =
     let turned = c .before .before .before .before .turn-triangles .ensures in
     let told = c .before .before .before .before .before .before .before .before .meshed .given .1 in
     (rw told (turned .0), rw told (turned .1))
 
--- src/lib.rt:97:1
 returns-2 : tie.Need-returns-2
 returns-2 c = search needs
 

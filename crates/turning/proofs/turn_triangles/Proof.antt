@@ -10,10 +10,6 @@ use Rattle.turning.proofs.TurnLaws.{written, a-first, near-below, side-
 use borrow.Author.Needs.{needs}
 use Rattle.turning.proofs.turn_triangles.Statement.{statement}
 use Rattle.turning.proofs.turn_triangles.Tie as tie
-use Rattle.turning.proofs.turn_triangles.Reads as reads
-use Rattle.turning.proofs.turn_triangles.Lts as lts
-use Rattle.search.proofs.place_near.Reads as place-near-reads
-use Rattle.turning.proofs.turn_at.Reads as turn-at-reads
 
 abbrev Inv-loop : tie.InvT-loop
 Inv-loop keys distances weights count first second edges triangles t0 t1₀ t2₀ near₀ i₀ t1 t2 near i =
@@ -23,23 +19,18 @@ Inv-loop keys distances weights count first second edges triangles t0 t1₀ t2�
 abbrev μ-loop : tie.MeasureT-loop
 μ-loop keys distances weights count first second edges triangles t0 t1₀ t2₀ near₀ i₀ t1 t2 near i = triangles - i
 
--- src/lib.rt:87:5
 loop-holds : tie.Need-loop-holds Inv-loop μ-loop
 loop-holds c = (omega arith, (refl, refl))
 
--- src/lib.rt:88:17
 mul-a : tie.Need-mul-a Inv-loop μ-loop
 mul-a c = search needs
 
--- src/lib.rt:88:17
 shared-slice-read-a : tie.Need-shared-slice-read-a Inv-loop μ-loop
 shared-slice-read-a c = search needs
 
--- src/lib.rt:88:17
 cast-a : tie.Need-cast-a Inv-loop μ-loop
 cast-a c = omega (arith, c .shared-slice-known7 .given (c .before .before .loop .i))
 
--- src/lib.rt:89:54
 mul-place-near : tie.Need-mul-place-near Inv-loop μ-loop
 mul-place-near c =
     let turn = c .before in
@@ -47,7 +38,6 @@ mul-place-near c =
     let h = a-first _ _ _ _ _ _ _ _ _ _ _ (s .pre) _ (turn .loop-test .taken) in
     search needs
 
--- src/lib.rt:89:54
 shared-slice-read-place-near : tie.Need-shared-slice-read-place-near Inv-loop μ-loop
 shared-slice-read-place-near c =
     let turn = c .before .before in
@@ -55,11 +45,9 @@ shared-slice-read-place-near c =
     let h = a-first _ _ _ _ _ _ _ _ _ _ _ (s .pre) _ (turn .loop-test .taken) in
     search needs
 
--- src/lib.rt:89:9
 place-near-requires : tie.Need-place-near-requires Inv-loop μ-loop
 place-near-requires c κs = search needs
 
--- src/lib.rt:90:20
 mul-side : tie.Need-mul-side Inv-loop μ-loop
 mul-side c =
     let turn = c .before .before .before in
@@ -69,7 +57,6 @@ mul-side c =
     let a = s .pre .accepted in
     search needs
 
--- src/lib.rt:90:20
 shared-slice-read-side : tie.Need-shared-slice-read-side Inv-loop μ-loop
 shared-slice-read-side c =
     let turn = c .before .before .before .before in
@@ -79,7 +66,6 @@ shared-slice-read-side c =
     let a = s .pre .accepted in
     search needs
 
--- src/lib.rt:91:9
 turn-at-requires : tie.Need-turn-at-requires Inv-loop μ-loop
 turn-at-requires c κs =
     let turn = c .before .before .before .before .before .before in
@@ -87,15 +73,12 @@ turn-at-requires c κs =
     let s = l .before .before .before .before .before .before .before .before .before in
     at-hand _ _ _ _ _ _ _ _ _ _ _ (s .pre) _ (turn .loop-test .taken) _ _ (l .loop .inv .1 .0) (l .loop .inv .1 .1)
 
--- src/lib.rt:92:9
 add-i : tie.Need-add-i Inv-loop μ-loop
 add-i c = search needs
 
--- src/lib.rt:87:5
 loop-less : tie.Need-loop-less Inv-loop μ-loop
 loop-less c = search needs
 
--- src/lib.rt:87:5
 loop-again : tie.Need-loop-again Inv-loop μ-loop
 loop-again c =
     let at-turn = c .before .before .before .before in
@@ -115,7 +98,6 @@ loop-again c =
       ),
     )
 
--- src/lib.rt:66:1
 same-length : tie.Need-same-length Inv-loop μ-loop
 same-length c =
     let l = c .before in
@@ -123,7 +105,6 @@ same-length c =
     let h = long1 _ _ _ _ _ _ _ _ _ _ _ (s .pre) _ (l .loop .inv .0) _ (l .loop .inv .1 .0) in
     search needs
 
--- src/lib.rt:66:1
 same-length-2 : tie.Need-same-length-2 Inv-loop μ-loop
 same-length-2 c =
     let l = c .before in
@@ -131,7 +112,6 @@ same-length-2 c =
     let h = long2 _ _ _ _ _ _ _ _ _ _ _ (s .pre) _ (l .loop .inv .0) _ (l .loop .inv .1 .1) in
     search needs
 
--- src/lib.rt:66:1
 returns : tie.Need-returns Inv-loop μ-loop
 returns c =
     let l = c .before in

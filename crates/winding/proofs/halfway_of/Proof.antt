@@ -4,55 +4,40 @@ use Rattle.winding.proofs.SpotLaws.{halfway-small}
 use borrow.Author.Needs.{needs}
 use Rattle.winding.proofs.halfway_of.Statement.{statement}
 use Rattle.winding.proofs.halfway_of.Tie as tie
-use Rattle.winding.proofs.halfway_of.Reads as reads
-use Rattle.winding.proofs.halfway_of.Lts as lts
-use Rattle.ids.proofs.morton_decode.Reads as morton-decode-reads
 
--- src/lib.rt:19:9
 morton-decode-requires : tie.Need-morton-decode-requires
 morton-decode-requires c κs = search needs
 
--- src/lib.rt:20:9
 morton-decode-requires-2 : tie.Need-morton-decode-requires-2
 morton-decode-requires-2 c κs = search needs
 
--- src/lib.rt:22:12
 cast-t5 : tie.Need-cast-t5
 cast-t5 c = search needs
 
--- src/lib.rt:22:25
 cast-t6 : tie.Need-cast-t6
 cast-t6 c = search needs
 
--- src/lib.rt:22:12
 add-t7 : tie.Need-add-t7
 add-t7 c = search needs
 
--- src/lib.rt:23:12
 cast-t8 : tie.Need-cast-t8
 cast-t8 c = search needs
 
--- src/lib.rt:23:25
 cast-t9 : tie.Need-cast-t9
 cast-t9 c = search needs
 
--- src/lib.rt:23:12
 add-t10 : tie.Need-add-t10
 add-t10 c = search needs
 
--- src/lib.rt:24:12
 cast-t11 : tie.Need-cast-t11
 cast-t11 c = search needs
 
--- src/lib.rt:24:25
 cast-t12 : tie.Need-cast-t12
 cast-t12 c = search needs
 
--- src/lib.rt:24:12
 add-t13 : tie.Need-add-t13
 add-t13 c = search needs
 
--- src/lib.rt:15:1
 returns : tie.Need-returns
 returns c =
     let second = c .before .before .before .before .before .before in

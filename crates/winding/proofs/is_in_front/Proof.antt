@@ -4,36 +4,25 @@ use Rattle.winding.proofs.SpotLaws.{by-terms}
 use borrow.Author.Needs.{needs}
 use Rattle.winding.proofs.is_in_front.Statement.{statement}
 use Rattle.winding.proofs.is_in_front.Tie as tie
-use Rattle.winding.proofs.is_in_front.Reads as reads
-use Rattle.winding.proofs.is_in_front.Lts as lts
-use Rattle.winding.proofs.halfway_of.Reads as halfway-of-reads
-use Rattle.winding.proofs.plus_terms.Reads as plus-terms-reads
 
--- src/lib.rt:58:9
 halfway-of-requires : tie.Need-halfway-of-requires
 halfway-of-requires c κs = search needs
 
--- src/lib.rt:59:9
 halfway-of-requires-2 : tie.Need-halfway-of-requires-2
 halfway-of-requires-2 c κs = search needs
 
--- src/lib.rt:60:9
 halfway-of-requires-3 : tie.Need-halfway-of-requires-3
 halfway-of-requires-3 c κs = search needs
 
--- src/lib.rt:61:9
 halfway-of-requires-4 : tie.Need-halfway-of-requires-4
 halfway-of-requires-4 c κs = search needs
 
--- src/lib.rt:62:5
 plus-terms-requires : tie.Need-plus-terms-requires
 plus-terms-requires c κs = search needs
 
--- src/lib.rt:62:45
 plus-terms-requires-2 : tie.Need-plus-terms-requires-2
 plus-terms-requires-2 c κs = search needs
 
--- src/lib.rt:55:1
 returns : tie.Need-returns
 returns c =
     let at-terms = c .before in

@@ -5,18 +5,13 @@ use Rattle.winding.proofs.SpotLaws.{square-small, product-small}
 use borrow.Author.Needs.{needs}
 use Rattle.winding.proofs.product.Statement.{statement}
 use Rattle.winding.proofs.product.Tie as tie
-use Rattle.winding.proofs.product.Reads as reads
-use Rattle.winding.proofs.product.Lts as lts
 
--- src/lib.rt:34:10
 mul-result : tie.Need-mul-result
 mul-result c = record { fits = omega (arith, square-small _ _ (c .pre .1) (c .pre .2)) }
 
--- src/lib.rt:34:5
 mul-result-2 : tie.Need-mul-result-2
 mul-result-2 c = record { fits = omega (arith, product-small _ _ _ (c .pre .0) (c .pre .1) (c .pre .2)) }
 
--- src/lib.rt:29:1
 returns : tie.Need-returns
 returns c = (search needs, product-small _ _ _ (c .pre .0) (c .pre .1) (c .pre .2))
 

@@ -4,31 +4,22 @@ use Rattle.winding.specs.Spots.{triple}
 use borrow.Author.Needs.{needs}
 use Rattle.winding.proofs.triple_of.Statement.{statement}
 use Rattle.winding.proofs.triple_of.Tie as tie
-use Rattle.winding.proofs.triple_of.Reads as reads
-use Rattle.winding.proofs.triple_of.Lts as lts
-use Rattle.winding.proofs.product.Reads as product-reads
 
--- src/lib.rt:43:5
 product-requires : tie.Need-product-requires
 product-requires c κs = search needs
 
--- src/lib.rt:43:31
 product-requires-2 : tie.Need-product-requires-2
 product-requires-2 c κs = search needs
 
--- src/lib.rt:43:56
 product-requires-3 : tie.Need-product-requires-3
 product-requires-3 c κs = search needs
 
--- src/lib.rt:43:31
 add-result : tie.Need-add-result
 add-result c = search needs
 
--- src/lib.rt:43:5
 add-result-2 : tie.Need-add-result-2
 add-result-2 c = search needs
 
--- src/lib.rt:38:1
 returns : tie.Need-returns
 unfolding triple
 returns c = search needs
