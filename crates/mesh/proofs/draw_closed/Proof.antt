@@ -13,22 +13,37 @@ clear-from-u32-requires : tie.Need-clear-from-u32-requires
 clear-from-u32-requires c κs = search needs
 
 same-length : tie.Need-same-length
-same-length c = search needs
+same-length c =
+    let settled = c .before .before .before .before .before .before .before in
+    let at-call = settled .before .before .before .before .before .before .before in
+    at-call .list-closed .kept .1 .1 .1 .1 .1 .0
 
 same-length-2 : tie.Need-same-length-2
-same-length-2 c = search needs
+same-length-2 c =
+    let settled = c .before .before .before .before .before .before .before in
+    let at-call = settled .before .before .before .before .before .before .before in
+    at-call .list-closed .kept .1 .1 .1 .1 .1 .1 .0
 
 same-length-3 : tie.Need-same-length-3
-same-length-3 c = search needs
+same-length-3 c = c .before .before .clear-from-u32 .kept .0
 
 same-length-4 : tie.Need-same-length-4
-same-length-4 c = search needs
+same-length-4 c =
+    let settled = c .before .before .before .before .before .before .before in
+    let at-call = settled .before .before .before .before .before .before .before in
+    at-call .list-closed .kept .1 .1 .1 .1 .1 .1 .1 .0
 
 same-length-5 : tie.Need-same-length-5
-same-length-5 c = search needs
+same-length-5 c =
+    let settled = c .before .before .before .before .before .before .before in
+    let at-call = settled .before .before .before .before .before .before .before in
+    at-call .list-closed .kept .1 .1 .1 .1 .1 .1 .1 .1 .0
 
 same-length-6 : tie.Need-same-length-6
-same-length-6 c = search needs
+same-length-6 c =
+    let settled = c .before .before .before .before .before .before .before in
+    let at-call = settled .before .before .before .before .before .before .before in
+    at-call .list-closed .kept .1 .1 .1 .1 .1 .1 .1 .1 .1 .0
 
 returns : tie.Need-returns
 returns c =

@@ -15,37 +15,70 @@ extract-requires : tie.Need-extract-requires
 extract-requires c κs = search needs
 
 same-length : tie.Need-same-length
-same-length c = search needs
+same-length c =
+    let settled = c .before .before .before .before .before .before .before .before .before .before .before in
+    let at-call = settled .before .before .before .before .before .before .before .before .before .before .before .before in
+    at-call .extract .kept .1 .1 .1 .1 .1 .1 .0
 
 same-length-2 : tie.Need-same-length-2
-same-length-2 c = search needs
+same-length-2 c =
+    let settled = c .before .before .before .before .before .before .before .before .before .before .before in
+    let at-call = settled .before .before .before .before .before .before .before .before .before .before .before .before in
+    at-call .extract .kept .1 .1 .1 .1 .1 .1 .1 .0
 
 same-length-3 : tie.Need-same-length-3
-same-length-3 c = search needs
+same-length-3 c =
+    let settled = c .before .before .before .before .before .before .before .before .before .before .before in
+    let at-call = settled .before .before .before .before .before .before .before .before .before .before .before .before in
+    at-call .extract .kept .1 .1 .1 .1 .1 .1 .1 .1 .0
 
 same-length-4 : tie.Need-same-length-4
-same-length-4 c = search needs
+same-length-4 c =
+    let settled = c .before .before .before .before .before .before .before .before .before .before .before in
+    let at-call = settled .before .before .before .before .before .before .before .before .before .before .before .before in
+    at-call .extract .kept .1 .1 .1 .1 .1 .1 .1 .1 .1 .0
 
 same-length-5 : tie.Need-same-length-5
-same-length-5 c = search needs
+same-length-5 c =
+    let settled = c .before .before .before .before .before .before .before .before .before .before .before in
+    let at-call = settled .before .before .before .before .before .before .before .before .before .before .before .before in
+    at-call .extract .kept .1 .1 .1 .1 .1 .1 .1 .1 .1 .1 .0
 
 same-length-6 : tie.Need-same-length-6
-same-length-6 c = search needs
+same-length-6 c =
+    let settled = c .before .before .before .before .before .before .before .before .before .before .before in
+    let at-call = settled .before .before .before .before .before .before .before .before .before .before .before .before in
+    at-call .extract .kept .1 .1 .1 .1 .1 .1 .1 .1 .1 .1 .1 .0
 
 same-length-7 : tie.Need-same-length-7
-same-length-7 c = search needs
+same-length-7 c =
+    let settled = c .before .before .before .before .before .before .before .before .before .before .before in
+    let at-call = settled .before .before .before .before .before .before .before .before .before .before .before .before in
+    at-call .extract .kept .1 .1 .1 .1 .1 .1 .1 .1 .1 .1 .1 .1 .0
 
 same-length-8 : tie.Need-same-length-8
-same-length-8 c = search needs
+same-length-8 c =
+    let settled = c .before .before .before .before .before .before .before .before .before .before .before in
+    let at-call = settled .before .before .before .before .before .before .before .before .before .before .before .before in
+    at-call .extract .kept .1 .1 .1 .1 .1 .1 .1 .1 .1 .1 .1 .1 .1 .0
 
 same-length-9 : tie.Need-same-length-9
-same-length-9 c = search needs
+same-length-9 c =
+    let settled = c .before .before .before .before .before .before .before .before .before .before .before in
+    let at-call = settled .before .before .before .before .before .before .before .before .before .before .before .before in
+    at-call .extract .kept .1 .1 .1 .1 .1 .1 .1 .1 .1 .1 .1 .1 .1 .1 .1 .0
 
 same-length-10 : tie.Need-same-length-10
-same-length-10 c = search needs
+same-length-10 c =
+    let settled = c .before .before .before .before .before .before .before .before .before .before .before in
+    let at-call = settled .before .before .before .before .before .before .before .before .before .before .before .before in
+    at-call .extract .kept .1 .1 .1 .1 .1 .1 .1 .1 .1 .1 .1 .1 .1 .1 .1 .1 .0
 
 same-length-11 : tie.Need-same-length-11
-same-length-11 c = search needs
+same-length-11 c =
+    let settled = c .before .before .before .before .before .before .before .before .before .before .before in
+    let at-call = settled .before .before .before .before .before .before .before .before .before .before .before .before in
+    at-call .extract .kept .1 .1 .1 .1 .1 .1 .1 .1 .1 .1 .1 .1 .1 .1 .1 .1 .1 .0
 
 returns : tie.Need-returns
 returns c =
