@@ -34,7 +34,7 @@ pub extern "C" fn akf_export_mesh_stl(
         (exportAnswer (now (px .entry)) (now (py .entry)) (now (pz .entry)) vertices (now (t0 .entry)) (now (t1 .entry))
         (now (t2 .entry)) triangles (length (now (file .entry)))) ⌝ }
 {
-    let answer = stl::export_mesh_stl(px, py, pz, vertices, t0, t1, t2, triangles, file);
+    let answer = stl_writing::export_mesh_stl(px, py, pz, vertices, t0, t1, t2, triangles, file);
     let back = list_back(answer);
     *written = back.count;
     back.number
@@ -62,7 +62,7 @@ pub extern "C" fn akf_import_mesh_stl(
     ensures { λ _. ⌜ now (vertices .exit) ≡ countOf
         (importAnswer (now (file .entry)) (length (now (px .entry))) (length (now (py .entry))) (length (now (pz .entry)))) ⌝ }
 {
-    let answer = stl::import_mesh_stl(file, px, py, pz);
+    let answer = stl_reading::import_mesh_stl(file, px, py, pz);
     let back = list_back(answer);
     *vertices = back.count;
     back.number

@@ -1,9 +1,6 @@
-pub mod PatternLaws
 pub mod WritingLaws
-pub mod ReadingLaws
 pub mod FileLaws
 pub mod AnswerLaws
-pub mod Determined
 pub mod RefusalLaws
 pub mod CallLaws
 pub mod Samples

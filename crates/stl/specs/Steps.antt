@@ -1,4 +1,4 @@
--- What the private functions promise each other.
+-- What the private functions of the writer and the reader promise each other.
 use Prim.Native.Nat.{ℕ, _+_, _*_, _≤_}
 use mathlib.Core.Path.{_≡_}
 use mathlib.Core.Bool.{Bool, true, cond, _&&_}
@@ -12,10 +12,7 @@ use Rattle.lists.specs.Listing.{roomFor}
 use Rattle.lists.specs.declared.Listed.{Listed}
 use Rattle.lists.specs.declared.Listed.the-variants.{Count, Refused}
 use Rattle.floats.specs.Floats.{f32}
-use Rattle.slopes.specs.declared.Vertex.{Vertex}
-use Rattle.words.specs.Words.{wordFrom}
-use Rattle.stl.specs.declared.reading.Patterns.{Patterns}
-use Rattle.corners.specs.Corners.{setOk, vertex, every, vertexOk, verticesIn, triangleOk, trianglesIn}
+use Rattle.corners.specs.Corners.{setOk, every, vertexOk, verticesIn, triangleOk, trianglesIn}
 use Rattle.corners.specs.Steps.{Lent}
 use Rattle.stl.specs.Files.{statedIn, lengthBad}
 use Rattle.stl.specs.Calls.{fileFits}
@@ -30,14 +27,6 @@ pub record Writable (xs ys zs : List Float) (n : ℕ) (is js ks : List ℕ) (m r
   pub fits : 84 + 50 * m ≤ room
 
 -- ---- reading
-
--- the patterns of a vertex's three floats, from a place on
-abbrev pub patternsFrom : List ℕ → ℕ → Patterns
-patternsFrom bs at = record { x = wordFrom bs at; y = wordFrom bs (at + 4); z = wordFrom bs (at + 8) }
-
--- the vertex of three patterns
-abbrev pub patternVertex : Patterns → Vertex
-patternVertex v = vertex (f32 (v .x)) (f32 (v .y)) (f32 (v .z))
 
 -- three floats by their patterns, from a place on, where there is room for all three
 abbrev pub putThree : List Float → ℕ → ℕ → ℕ → ℕ → List Float

@@ -1,0 +1,3 @@
+mod PatternLaws
+mod ReadingLaws
+pub mod Determined
