@@ -13,13 +13,12 @@
 test:
 	@.ci/run
 
-# the runs that take seconds: the tools on made-up inputs, the root against the processor's, each call beside the Rust,
-# what closes, the hosts, files of STL, the program on its inputs
+# the runs that take seconds: the root against the processor's; while the face's archive is made, the tools on made-up
+# inputs and what closes; then each call beside the Rust, the hosts, files of STL, the program on its inputs
 quick:
-	@tests/tools/run
 	@bench/root/run quick
+	@tools/native-face >/dev/null & face=$$!; tests/tools/run && compare/run closed && wait $$face
 	@compare/run short
-	@compare/run closed
 	@examples/run
 	@tests/stl/run
 	@tests/lastcheck/run
