@@ -1,23 +1,22 @@
 // The march, and questions about a marched table.
 use answers::keys::list_back;
-use answers::readings::settings_of;
 use mesh_answers::marching::distance_back;
 use mesh_answers::marching::free_back;
 use mesh_answers::marching::march_back;
 use mesh_answers::marching::slope_back;
 use mesh_answers::marching::stats_found;
 use mesh_answers::marching::stats_number;
+use table::settings_of;
 ghost use mathlib.Core.Path.{_≡_};
 ghost use lib.ListN.{length};
 ghost use Rattle.lists.specs.Listing.{countOf, listedNumber};
-ghost use Rattle.table.specs.Table.{table};
+ghost use Rattle.table.specs.Table.{settingsOf, table};
 ghost use Rattle.esdf.specs.Compute.{computed, places};
 ghost use Rattle.marched.specs.Marched.{marchedTable};
 ghost use Rattle.esdf_questions.specs.Lookups.{getDistance, distanceNumber, isFreeSpace, freeNumber};
 ghost use Rattle.esdf_questions.specs.Gradient.{getGradient, gradientNumber};
 ghost use Rattle.esdf_surveys.specs.Within.{withinListed, withinKeys, withinDistances};
 ghost use Rattle.esdf_surveys.specs.Statistics.{getStats, statisticsNumber};
-ghost use Rattle.answers.specs.Readings.{settingsOf};
 ghost use Rattle.mesh_answers.specs.Marching.{marchBack, marchHanded, marchedDistance, freeFound, slopeFound, marchedStats};
 
 #[no_mangle]

@@ -1,5 +1,4 @@
 // The mesh of a table, a cell's edge numbers, area, box and statistics.
-use answers::readings::settings_of;
 use mesh_answers::meshing::area_back;
 use mesh_answers::meshing::box_number;
 use mesh_answers::meshing::high_corner;
@@ -8,9 +7,10 @@ use mesh_answers::meshing::mesh_back;
 use mesh_answers::meshing::normals_back;
 use mesh_answers::meshing::span_length;
 use mesh_answers::meshing::span_start;
+use table::settings_of;
 ghost use mathlib.Core.Path.{_≡_};
 ghost use lib.ListN;
-ghost use Rattle.table.specs.Table.{table};
+ghost use Rattle.table.specs.Table.{settingsOf, table};
 ghost use mathlib.Core.List.{[]};
 ghost use Rattle.edges.specs.declared.Surface.the-variants.{Closed};
 ghost use Rattle.mesh.specs.Mesh.{rooms};
@@ -18,7 +18,6 @@ ghost use Rattle.groups.specs.CellEdges.{cellSpan};
 ghost use Rattle.surfaces.specs.Areas.{areaAnswer, areaNumber, areaValue};
 ghost use Rattle.surfaces.specs.Boxes.{boxAnswer, boxNumber};
 ghost use Rattle.surfaces.specs.Stats.{statsAnswer, statsNumber, statsValue};
-ghost use Rattle.answers.specs.Readings.{settingsOf};
 ghost use Rattle.answers.specs.Keys.{oneIf};
 ghost use Rattle.mesh_answers.specs.Meshing.{MeshBackOn, TurnedBack, MeshBack, spanStart, spanLength, lowCorner, highCorner};
 

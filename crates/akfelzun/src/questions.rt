@@ -5,17 +5,16 @@ use answers::questions::stats_found;
 use answers::questions::stats_number;
 use answers::questions::surface_back;
 use answers::questions::weight_back;
-use answers::readings::settings_of;
 use floats::Metres;
+use table::settings_of;
 ghost use mathlib.Core.Path.{_≡_};
 ghost use lib.ListN.{length};
 ghost use Rattle.lists.specs.Listing.{countOf, listedNumber};
-ghost use Rattle.table.specs.Table.{table};
+ghost use Rattle.table.specs.Table.{settingsOf, table};
 ghost use Rattle.tsdf_questions.specs.Lookups.{lookedUp, distanceOf, weightOf, surfaceOf, distanceNumber, weightNumber, surfaceNumber};
 ghost use Rattle.tsdf_surveys.specs.Surface.{surfaceListed, surfaceHeld};
 ghost use Rattle.tsdf_surveys.specs.Statistics.{statisticsOf, statisticsNumber};
 ghost use Rattle.edges.specs.Listing.{edgesAnswer, firstsHeld, secondsHeld};
-ghost use Rattle.answers.specs.Readings.{settingsOf};
 ghost use Rattle.answers.specs.Questions.{distanceFound, weightFound, surfaceFound, statsFound};
 
 #[no_mangle]

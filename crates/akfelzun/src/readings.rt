@@ -1,13 +1,13 @@
 // Fusing a reading or a batch of readings into a table.
 use answers::readings::batch_back;
 use answers::readings::fused_number;
-use answers::readings::settings_of;
 use floats::Metres;
+use table::settings_of;
 ghost use mathlib.Core.Path.{_≡_};
-ghost use Rattle.table.specs.Table.{table};
+ghost use Rattle.table.specs.Table.{settingsOf, table};
 ghost use Rattle.fusing.specs.Fusing.{fuse};
 ghost use Rattle.batching.specs.Batches.{batch};
-ghost use Rattle.answers.specs.Readings.{settingsOf, directReading, rayReading, fuseBack, fuseHanded, batchBack, batchHanded};
+ghost use Rattle.answers.specs.Readings.{directReading, rayReading, fuseBack, fuseHanded, batchBack, batchHanded};
 
 #[no_mangle]
 pub extern "C" fn akf_update_from_depth(

@@ -6,7 +6,6 @@ use Rattle.answers.specs.declared.YesBack.{YesBack}
 use Rattle.answers.specs.declared.CountBack.{CountBack}
 use Rattle.answers.specs.declared.keys.KeyBack.{KeyBack}
 use Rattle.answers.specs.declared.keys.PlaceBack.{PlaceBack}
-use Rattle.answers.proofs.readings.settings_of.Reads as settings_of
 use Rattle.answers.proofs.readings.fused_number.Reads as fused_number
 use Rattle.answers.proofs.readings.batch_back.Reads as batch_back
 use Rattle.answers.proofs.keys.one_if.Reads as one_if
@@ -23,9 +22,6 @@ use Rattle.answers.proofs.questions.weight_back.Reads as weight_back
 use Rattle.answers.proofs.questions.surface_back.Reads as surface_back
 use Rattle.answers.proofs.questions.stats_number.Reads as stats_number
 use Rattle.answers.proofs.questions.stats_found.Reads as stats_found
-
-pub settings-of-determined : (κs : _) (a : _) (r r' : _) (s s' : _) → settings_of.Post κs a r s → settings_of.Post κs a r' s' → r ≡ r'
-settings-of-determined κs a r r' s s' p q = p ∙ sym q
 
 pub fused-number-determined : (κs : _) (a : _) (r r' : _) (s s' : _) → fused_number.Post κs a r s → fused_number.Post κs a r' s' → r ≡ r'
 fused-number-determined κs a r r' s s' p q = p ∙ sym q

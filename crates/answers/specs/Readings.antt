@@ -1,22 +1,11 @@
--- The settings and readings that a host's numbers stand for, and what fusing hands back.
+-- The readings that a host's numbers stand for, and what fusing hands back.
 use Prim.Native.Nat.{ℕ}
 use lib.Ieee.{Float}
 use Rattle.table.specs.Table.{Table}
-use Rattle.table.specs.declared.Settings.{Settings}
 use Rattle.fusing.specs.Fusing.{Outcome, fusedNumber}
 use Rattle.batching.specs.Batches.{BatchOutcome, batchedNumber, batchedAt}
 use Rattle.measuring.specs.declared.Reading.{Reading}
 use Rattle.measuring.specs.declared.Reading.the-variants.{Direct, Ray}
-
--- the four settings in their one order
-abbrev pub settingsOf : Float → Float → Float → Float → Settings
-settingsOf truncation weight size farthest =
-    record {
-      truncation = record { 0 = truncation };
-      «max_weight» = weight;
-      «voxel_size» = record { 0 = size };
-      «max_distance» = record { 0 = farthest };
-    }
 
 -- a direct reading
 abbrev pub directReading : Float → Float → Reading

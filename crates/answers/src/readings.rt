@@ -3,25 +3,10 @@ use crate::CountBack;
 use crate::DONE;
 use crate::FAR;
 use batching::Batched;
-use floats::Metres;
 use fusing::Fused;
-use table::Settings;
 ghost use mathlib.Core.Path.{_≡_};
 ghost use Rattle.fusing.specs.Fusing.{fusedNumber};
 ghost use Rattle.batching.specs.Batches.{batchedNumber, batchedAt};
-ghost use Rattle.answers.specs.Readings.{settingsOf};
-
-// The four settings, in the order in which a host gives them.
-pub fn settings_of(truncation: f32, max_weight: f32, voxel_size: f32, max_distance: f32) -> Settings
-    ensures { λ r. ⌜ r ≡ settingsOf truncation «max_weight» «voxel_size» «max_distance» ⌝ }
-{
-    Settings {
-        truncation: Metres(truncation),
-        max_weight,
-        voxel_size: Metres(voxel_size),
-        max_distance: Metres(max_distance),
-    }
-}
 
 // The number of a fuse's answer.
 pub fn fused_number(fused: Fused) -> u32

@@ -1,7 +1,7 @@
 // A batch of readings, fused in turn (src/layers/tsdf.rs: batch_update): many at a time through own rows, few one by one.
 use batching::Batched;
 use floats::Metres;
-use fusing::Fused;
+use fusing::Step;
 use fusing::fuse_sound;
 use measuring::Reading;
 use owning::Run;
@@ -46,11 +46,12 @@ fn batch_one(
         distance: Metres(distance),
         confidence,
     };
-    let answer = fuse_sound(settings, keys, distances, weights, count, key, reading);
-    match answer {
-        Fused::Refused(why) => Run::Refused(why, from),
-        Fused::Far => Run::Reached(from + 1),
-        Fused::Stored => Run::Reached(from + 1),
+    let step = fuse_sound(settings, keys, distances, weights, count, key, reading);
+    match step {
+        Step::Refused(why) => Run::Refused(why, from),
+        Step::Far => Run::Reached(from + 1),
+        Step::Added(_) => Run::Reached(from + 1),
+        Step::Changed(_) => Run::Reached(from + 1),
     }
 }
 

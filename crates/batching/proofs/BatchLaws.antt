@@ -21,7 +21,7 @@ use Rattle.fusing.specs.declared.Fused.{Fused}
 use Rattle.fusing.specs.declared.Fused.the-variants as Fused
 use Rattle.batching.specs.declared.Batched.{Batched}
 use Rattle.batching.specs.declared.Batched.the-variants as Batched
-use Rattle.fusing.specs.Fusing.{Outcome, fuseIf, fuse}
+use Rattle.fusing.specs.Fusing.{Outcome, fuseIf, effectOf, fuse}
 use Rattle.batching.specs.Batches.{BatchOutcome, batchOutcome, directOf, stopOr, batchFrom, batchIf, batchCheck, batch}
 use Rattle.fusing.proofs.Keeping.{fuse-keeps}
 use Rattle.fusing.proofs.FuseLaws.{refused-unchanged}
@@ -49,7 +49,7 @@ abbrev pub asBatch : Outcome → BatchOutcome
 asBatch o = stopOr (o .answer) 0 (o .left) (batchOutcome Batched.Done (o .left))
 
 pub batch-of-one : (s : Settings) (t : Table) (k : ℕ) (d c : Float) → batch s t (k ∷ []) (d ∷ []) (c ∷ []) ≡ asBatch (fuse s t k (directOf (row k d c)))
-unfolding batch batchIf batchFrom beside fuse fuseIf stopOr
+unfolding batch batchIf batchFrom beside fuse effectOf fuseIf stopOr
 batch-of-one s t k d c =
     ap (λ (q : Checked). batchIf q s t (row k d c ∷ [])) (check-once s t 1 1 1 refl) ∙ go (tableCheck s t) refl
   where

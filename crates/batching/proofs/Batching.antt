@@ -13,10 +13,10 @@ use Rattle.table.specs.declared.Settings.{Settings}
 use Rattle.table.specs.declared.Checked.the-variants.{Passed}
 use Rattle.table.specs.Table.{row, Table, beside, rowsOf, tableCheck}
 use Rattle.table.proofs.RowLaws.{row-at}
-use Rattle.fusing.specs.declared.Fused.{Fused}
-use Rattle.fusing.specs.declared.Fused.the-variants.{Stored, Far, Refused}
+use Rattle.fusing.specs.declared.Step.{Step}
+use Rattle.fusing.specs.declared.Step.the-variants.{Far, Added, Changed, Refused}
 use Rattle.batching.specs.declared.Batched.the-variants as Batched
-use Rattle.fusing.specs.Fusing.{Outcome, outcome, fuse}
+use Rattle.fusing.specs.Fusing.{Effect, effect, effectOf, fusedOf, fuse}
 use Rattle.batching.specs.Batches.{BatchOutcome, batchOutcome, directOf, stopOr, batchFrom}
 use Rattle.fusing.proofs.Keeping.{fuse-keeps}
 
@@ -49,27 +49,32 @@ module _ (s : Settings) (t : Table) (ks : List ℕ) (ds cs : List Float) (i : �
   unfolding batchFrom
   ended h = rw (beside-past ks ds cs i h)
 
-  -- the i-th reading answers a and leaves u
-  module _ (p : length ds ≡ length ks) (q : length cs ≡ length ks) (h : i < length ks) (a : Fused) (u : Table)
-      (e : outcome a u ≡ fuse s t (getD ks i 0) (directOf (row (getD ks i 0) (getD ds i nan) (getD cs i nan)))) where
-    one : from i t ≡ stopOr a i u (from (i + 1) u)
-    unfolding batchFrom
+  -- the i-th reading does so and leaves u
+  module _ (p : length ds ≡ length ks) (q : length cs ≡ length ks) (h : i < length ks) (step : Step) (u : Table)
+      (e : effect step u ≡ effectOf s t (getD ks i 0) (directOf (row (getD ks i 0) (getD ds i nan) (getD cs i nan)))) where
+    one : from i t ≡ stopOr (fusedOf step) i u (from (i + 1) u)
+    unfolding batchFrom fuse
     one = rw (beside-at ks ds cs i p q h, ← e, add-one)
 
-    pub stops : (why : Refusal) → a ≡ Refused why → from i t ≡ batchOutcome (Batched.Refused why i) u
+    pub stops : (why : Refusal) → step ≡ Refused why → from i t ≡ batchOutcome (Batched.Refused why i) u
     unfolding stopOr
     stops why f = one ∙ rw f
 
-    pub goes-on : a ≡ Stored → from i t ≡ from (i + 1) u
-    unfolding stopOr
-    goes-on f = one ∙ rw f
-
-    pub goes-on-far : a ≡ Far → from i t ≡ from (i + 1) u
+    pub goes-on-far : step ≡ Far → from i t ≡ from (i + 1) u
     unfolding stopOr
     goes-on-far f = one ∙ rw f
 
+    pub goes-on-added : (at : ℕ) → step ≡ Added at → from i t ≡ from (i + 1) u
+    unfolding stopOr
+    goes-on-added at f = one ∙ rw f
+
+    pub goes-on-changed : (at : ℕ) → step ≡ Changed at → from i t ≡ from (i + 1) u
+    unfolding stopOr
+    goes-on-changed at f = one ∙ rw f
+
     -- the table passes the check again
     pub passes-again : tableCheck s t ≡ Passed → tableCheck s u ≡ Passed
+    unfolding fuse
     passes-again c =
-        ap (λ (o : Outcome). tableCheck s (o .left)) e
+        ap (λ (o : Effect). tableCheck s (o .left)) e
         ∙ fuse-keeps s t (getD ks i 0) (directOf (row (getD ks i 0) (getD ds i nan) (getD cs i nan))) c

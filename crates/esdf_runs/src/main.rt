@@ -1,17 +1,12 @@
 // Marches the samples of document 01 that are run: the empty table, and one seed at (10, 10, 10) in enough room, a row too few
 // and a waiting place too few.
 use esdf::Marched;
-use floats::Metres;
 use table::Settings;
+use table::settings_of;
 
 // Truncation 1, maximum weight 100, size 1, maximum distance 2.
 fn settings() -> Settings {
-    Settings {
-        truncation: Metres(1.0),
-        max_weight: 100.0,
-        voxel_size: Metres(1.0),
-        max_distance: Metres(2.0),
-    }
+    settings_of(1.0, 100.0, 1.0, 2.0)
 }
 
 // The march from the first `count` of one row: (10, 10, 10), whose key is 3640, at distance 0.

@@ -16,11 +16,11 @@ use Rattle.ids.specs.Morton.{respaced}
 use Rattle.root.specs.Root.{rootBelow, isqrt, rounded, rootOf}
 use Rattle.table.specs.declared.Settings.{Settings}
 use Rattle.search.specs.Keys.{risesFrom, ascending, next, find}
-use Rattle.table.specs.Table.{Row, Table, table, beside, rows, rowsOk, need, tableCheck, put, relaid}
+use Rattle.table.specs.Table.{Row, Table, table, settingsOf, beside, rows, rowsOk, need, tableCheck, put, relaid}
 use Rattle.measuring.specs.declared.Reading.{Reading}
 use Rattle.measuring.specs.declared.Reading.the-variants.{Direct, Ray}
 use Rattle.measuring.specs.Readings.{squares, rayDistance, admitIf, admitted}
-use Rattle.fusing.specs.Fusing.{fusedVoxel, voxelAt, hasPlace, stored, fusedNear, fusedIf, fuseIf, fuse, fusedNumber}
+use Rattle.fusing.specs.Fusing.{newWeight, fusedVoxel, voxelAt, hasPlace, stepAt, stored, fusedNear, fusedIf, fuseIf, effectOf, fuse, fusedNumber}
 
 -- floats stand as bits throughout
 abbrev pub metres : ℕ → Metres
@@ -54,14 +54,8 @@ abbrev pub bits : ℕ → ℕ → ℕ → Bits
 bits k d w = record { key = k; distance = d; weight = w }
 
 -- size 1, maximum distance 1
-abbrev pub settingsOf : Sample → Settings
-settingsOf s =
-    record {
-      truncation = metres (s .truncation);
-      «max_weight» = f32 (s .most);
-      «voxel_size» = metres 0x3F80_0000;
-      «max_distance» = metres 0x3F80_0000;
-    }
+abbrev pub settingsUnder : Sample → Settings
+settingsUnder s = settingsOf (f32 (s .truncation)) (f32 (s .most)) (f32 0x3F80_0000) (f32 0x3F80_0000)
 
 unfoldable pub sameRows : List Row → List Bits → Bool
 sameRows [] [] = true
@@ -79,7 +73,7 @@ runs s left t (r ∷ rs) =
     eqb (fusedNumber (o .answer)) (r .answer) && runs s left (o .left) rs
 
 abbrev pub holds : Sample → Bool
-holds s = runs (settingsOf s) (s .left) (table (replicate (s .room) 0) (replicate (s .room) zero32) (replicate (s .room) zero32) 0) (s .steps)
+holds s = runs (settingsUnder s) (s .left) (table (replicate (s .room) 0) (replicate (s .room) zero32) (replicate (s .room) zero32) 0) (s .steps)
 
 unfoldable pub allHold : List Sample → Bool
 allHold [] = true
@@ -149,6 +143,6 @@ samples =
 pub samples-hold : allHold samples ≡ true
 unfolding trailingZeros span climb size odd units round neg sum add sub mul div lt eq le ofFields ofBits toBits ofInt
     beside rowsOk risesFrom ascending need tableCheck next find put relaid admitIf admitted squares rayDistance rootBelow
-    isqrt rounded rootOf respaced sameParity fusedVoxel voxelAt hasPlace stored fusedNear fusedIf fuseIf fuse sameRows
+    isqrt rounded rootOf respaced sameParity newWeight fusedVoxel voxelAt hasPlace stepAt stored fusedNear fusedIf fuseIf effectOf fuse sameRows
     runs allHold samples
 samples-hold = refl

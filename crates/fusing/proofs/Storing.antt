@@ -15,38 +15,39 @@ use Rattle.search.specs.Keys.{find, ascending, halved}
 use Rattle.table.specs.Table.{table, lengthsOk}
 use Rattle.search.proofs.KeyLaws.{halved-place}
 use Rattle.table.proofs.Putting.{relaid-set, relaid-open}
+use Rattle.fusing.specs.declared.Averaging.{Averaging}
 use Rattle.fusing.specs.declared.Voxel.{Voxel}
 use Rattle.measuring.specs.declared.Measured.{Measured}
-use Rattle.fusing.specs.declared.Fused.the-variants as Fused
-use Rattle.fusing.specs.Fusing.{Outcome, outcome, fusedVoxel, voxelAt, hasPlace, stored, fusedNear}
+use Rattle.fusing.specs.declared.Step.the-variants as Step
+use Rattle.fusing.specs.Fusing.{Effect, effect, fusedVoxel, voxelAt, hasPlace, stepAt, stored, fusedNear}
 
-module _ (most : Float) (k : ℕ) (m : Measured) (ks : List ℕ) (ds ws : List Float) (n : ℕ) where
-  abbrev whole : Outcome
-  whole = fusedNear most (table ks ds ws n) k m
+module _ (how : Averaging) (k : ℕ) (m : Measured) (ks : List ℕ) (ds ws : List Float) (n : ℕ) where
+  abbrev whole : Effect
+  whole = fusedNear how (table ks ds ws n) k m
 
   -- a stored key: its voxel is changed, or the new distance is out of range
-  module _ (i : ℕ) (e : find k (take n ks) ≡ At i) (v : Voxel) (q : v ≡ fusedVoxel most (record { distance = getD ds i nan; weight = getD ws i nan }) m) where
-    pub too-large : within million (v .distance) ≡ false → outcome (Fused.Refused TooLarge) (table ks ds ws n) ≡ whole
-    unfolding fusedNear stored hasPlace voxelAt
+  module _ (i : ℕ) (e : find k (take n ks) ≡ At i) (v : Voxel) (q : v ≡ fusedVoxel how (record { distance = getD ds i nan; weight = getD ws i nan }) m) where
+    pub too-large : within million (v .distance) ≡ false → effect (Step.Refused TooLarge) (table ks ds ws n) ≡ whole
+    unfolding fusedNear stored hasPlace stepAt voxelAt
     too-large h = rw (e, ← q, h)
 
     pub changed :
         within million (v .distance) ≡ true
         → lengthsOk (length ks) (length ds) (length ws) n ≡ true
         → ascending (take n ks) ≡ true
-        → outcome Fused.Stored (table ks (set ds i (v .distance)) (set ws i (v .weight)) n) ≡ whole
-    unfolding fusedNear stored hasPlace voxelAt
+        → effect (Step.Changed i) (table ks (set ds i (v .distance)) (set ws i (v .weight)) n) ≡ whole
+    unfolding fusedNear stored hasPlace stepAt voxelAt
     changed h known a = rw (e, ← q, h, relaid-set ks ds ws n known a k i (v .distance) (v .weight) e)
 
   -- a new key: it has no place, its distance is out of range, or it gets a row
   module _ (e : find k (take n ks) ≡ Absent) where
-    pub no-place : length ks ≤ n → outcome (Fused.Refused NoPlace) (table ks ds ws n) ≡ whole
-    unfolding fusedNear stored hasPlace voxelAt
+    pub no-place : length ks ≤ n → effect (Step.Refused NoPlace) (table ks ds ws n) ≡ whole
+    unfolding fusedNear stored hasPlace stepAt voxelAt
     no-place g = rw (e, le-ltb n (length ks) g)
 
-    module _ (g : n < length ks) (v : Voxel) (q : v ≡ fusedVoxel most (record { distance = zero32; weight = zero32 }) m) where
-      pub too-large-new : within million (v .distance) ≡ false → outcome (Fused.Refused TooLarge) (table ks ds ws n) ≡ whole
-      unfolding fusedNear stored hasPlace voxelAt
+    module _ (g : n < length ks) (v : Voxel) (q : v ≡ fusedVoxel how (record { distance = zero32; weight = zero32 }) m) where
+      pub too-large-new : within million (v .distance) ≡ false → effect (Step.Refused TooLarge) (table ks ds ws n) ≡ whole
+      unfolding fusedNear stored hasPlace stepAt voxelAt
       too-large-new h = rw (e, lt-ltb n (length ks) g, ← q, h)
 
       pub added :
@@ -59,7 +60,8 @@ module _ (most : Float) (k : ℕ) (m : Measured) (ks : List ℕ) (ds ws : List F
           → ks' ≡ inserted ks n p k
           → ds' ≡ inserted ds n p (v .distance)
           → ws' ≡ inserted ws n p (v .weight)
-          → outcome Fused.Stored (table ks' ds' ws' (n + 1)) ≡ whole
-      unfolding fusedNear stored hasPlace voxelAt
+          → effect (Step.Added p) (table ks' ds' ws' (n + 1)) ≡ whole
+      unfolding fusedNear stored hasPlace stepAt voxelAt
       added h known a p o ks' ds' ws' x y z =
-          rw (e, lt-ltb n (length ks) g, ← q, h, relaid-open ks ds ws n known k (v .distance) (v .weight) e g p (o ∙ halved-place k (take n ks) a), x, y, z)
+          let placed = o ∙ halved-place k (take n ks) a in
+          rw (e, lt-ltb n (length ks) g, ← q, h, ← placed, relaid-open ks ds ws n known k (v .distance) (v .weight) e g p placed, x, y, z)

@@ -12,9 +12,12 @@ use Rattle.search.specs.declared.Found.{Found}
 use Rattle.search.specs.declared.Found.the-variants.{At, Absent}
 use Rattle.table.specs.declared.Checked.{Checked}
 use Rattle.table.specs.declared.Checked.the-variants as Checked
-use Rattle.search.specs.Keys.{find}
+use Rattle.search.specs.Keys.{find, placeOf}
 use Rattle.table.specs.Table.{row, Table, rows, tableCheck, put, relaid}
+use Rattle.fusing.specs.declared.Averaging.{Averaging}
 use Rattle.fusing.specs.declared.Voxel.{Voxel}
+use Rattle.fusing.specs.declared.Step.{Step}
+use Rattle.fusing.specs.declared.Step.the-variants as Step
 use Rattle.measuring.specs.declared.Reading.{Reading}
 use Rattle.measuring.specs.declared.Measured.{Measured}
 use Rattle.measuring.specs.declared.Admitted.{Admitted}
@@ -31,11 +34,28 @@ pub record Outcome : Type 0 where
 abbrev pub outcome : Fused → Table → Outcome
 outcome a t = record { answer = a; left = t }
 
--- the averaging rule: the weight grows by the confidence up to the maximum; where the old weight is above 0 the
--- distance is the mean by weights, over the new weight, and otherwise the reading's
-unfoldable pub fusedVoxel : Float → Voxel → Measured → Voxel
-fusedVoxel most old m =
-    let w = smallerOf (add binary32 (old .weight) (m .confidence)) most in
+-- what a reading does, and the table that it leaves
+pub record Effect : Type 0 where
+  pub step : Step
+  pub left : Table
+
+abbrev pub effect : Step → Table → Effect
+effect step t = record { step = step; left = t }
+
+-- how readings are averaged: a row weighs at most the maximum weight
+abbrev pub averagingOf : Settings → Averaging
+averagingOf s = record { most = s .«max_weight» }
+
+-- the weight grows by the confidence up to the maximum
+unfoldable pub newWeight : Averaging → Float → Float → Float
+newWeight how weight confidence = smallerOf (add binary32 weight confidence) (how .most)
+
+-- the averaging rule: where the old weight is above 0 the distance is the mean by weights, over the new weight, and
+-- otherwise the reading's
+unfoldable pub fusedVoxel : Averaging → Voxel → Measured → Voxel
+unfolding newWeight
+fusedVoxel how old m =
+    let w = newWeight how (old .weight) (m .confidence) in
     let sum = add binary32 (mul binary32 (old .distance) (old .weight)) (mul binary32 (m .distance) (m .confidence)) in
     record { distance = cond (lt zero32 (old .weight)) (div binary32 sum w) (m .distance); weight = w }
 
@@ -49,38 +69,58 @@ unfoldable pub hasPlace : Found → Table → Bool
 hasPlace (At i) t = true
 hasPlace Absent t = ltb (t .count) (length (t .keys))
 
--- the voxel v is k's: refusals 6 and 7, or the table with k's row
-unfoldable pub stored : Table → ℕ → Bool → Voxel → Outcome
-stored t k false v = outcome (Fused.Refused NoPlace) t
-stored t k true v =
+-- a stored key's row is changed at its place; a new one is added at the place that its key takes
+unfoldable pub stepAt : Found → Table → ℕ → Step
+stepAt (At i) t k = Step.Changed i
+stepAt Absent t k = Step.Added (placeOf k (take (t .count) (t .keys)))
+
+-- the voxel v is k's: refusals 6 and 7, or the step done and the table with k's row
+unfoldable pub stored : Table → ℕ → Bool → Step → Voxel → Effect
+stored t k false done v = effect (Step.Refused NoPlace) t
+stored t k true done v =
     cond (within million (v .distance))
-    (outcome Fused.Stored (relaid t (put (row k (v .distance) (v .weight)) (rows t))))
-    (outcome (Fused.Refused TooLarge) t)
+    (effect done (relaid t (put (row k (v .distance) (v .weight)) (rows t))))
+    (effect (Step.Refused TooLarge) t)
 
 -- a reading that is not far, fused into k's voxel
-unfoldable pub fusedNear : Float → Table → ℕ → Measured → Outcome
+unfoldable pub fusedNear : Averaging → Table → ℕ → Measured → Effect
 unfolding stored
-fusedNear most t k m =
+fusedNear how t k m =
     let f = find k (take (t .count) (t .keys)) in
-    stored t k (hasPlace f t) (fusedVoxel most (voxelAt f t) m)
+    stored t k (hasPlace f t) (stepAt f t k) (fusedVoxel how (voxelAt f t) m)
 
 -- what the tests of the reading refuse stays refused, and Far is Far
-unfoldable pub fusedIf : Float → Table → ℕ → Admitted → Outcome
+unfoldable pub fusedIf : Averaging → Table → ℕ → Admitted → Effect
 unfolding fusedNear
-fusedIf most t k (Admitted.No why) = outcome (Fused.Refused why) t
-fusedIf most t k Admitted.Far = outcome Fused.Far t
-fusedIf most t k (Admitted.Near m) = fusedNear most t k m
+fusedIf how t k (Admitted.No why) = effect (Step.Refused why) t
+fusedIf how t k Admitted.Far = effect Step.Far t
+fusedIf how t k (Admitted.Near m) = fusedNear how t k m
 
 -- what the tests of the table refuse stays refused
-unfoldable pub fuseIf : Checked → Settings → Table → ℕ → Reading → Outcome
+unfoldable pub fuseIf : Checked → Settings → Table → ℕ → Reading → Effect
 unfolding fusedIf admitted
-fuseIf (Checked.Refused why) s t k r = outcome (Fused.Refused why) t
-fuseIf Checked.Passed s t k r = fusedIf (s .«max_weight») t k (admitted s k r)
+fuseIf (Checked.Refused why) s t k r = effect (Step.Refused why) t
+fuseIf Checked.Passed s t k r = fusedIf (averagingOf s) t k (admitted s k r)
 
 -- one reading: refusals 1, 2 and 3, then 4 and 5, Far, 6 and 7; only a reading that is stored changes the table
-unfoldable pub fuse : Settings → Table → ℕ → Reading → Outcome
+unfoldable pub effectOf : Settings → Table → ℕ → Reading → Effect
 unfolding fuseIf
-fuse s t k r = fuseIf (tableCheck s t) s t k r
+effectOf s t k r = fuseIf (tableCheck s t) s t k r
+
+-- a row that was added or changed is answered as stored
+abbrev pub fusedOf : Step → Fused
+fusedOf (Step.Added i) = Fused.Stored
+fusedOf (Step.Changed i) = Fused.Stored
+fusedOf Step.Far = Fused.Far
+fusedOf (Step.Refused why) = Fused.Refused why
+
+abbrev pub answered : Effect → Outcome
+answered e = outcome (fusedOf (e .step)) (e .left)
+
+-- what is answered to one reading, and the table that it leaves
+unfoldable pub fuse : Settings → Table → ℕ → Reading → Outcome
+unfolding effectOf
+fuse s t k r = answered (effectOf s t k r)
 
 -- the number of an answer: 0 for stored, 100 for Far, and document 01's for a refusal
 abbrev pub fusedNumber : Fused → ℕ

@@ -20,7 +20,7 @@ ghost use mathlib.Core.Bool.{true};
 ghost use lib.ListN.{length, take};
 ghost use Rattle.search.specs.Keys.{find, ascending};
 ghost use Rattle.table.specs.Table.{table, lengthsOk, tableCheck};
-ghost use Rattle.fusing.specs.Fusing.{outcome, fusedVoxel, fusedNear, fuse};
+ghost use Rattle.fusing.specs.Fusing.{outcome, effect, averagingOf, newWeight, fusedVoxel, fusedNear, effectOf, fusedOf, fuse};
 
 // What a fuse answers.
 pub enum Fused {
@@ -29,17 +29,46 @@ pub enum Fused {
     Refused(Refusal),
 }
 
+// What a reading does to a table: nothing where it is far; a row is added or changed, at its place; or why it is refused.
+pub enum Step {
+    Far,
+    Added(usize),
+    Changed(usize),
+    Refused(Refusal),
+}
+
+// How readings are averaged: the most that a row weighs.
+pub struct Averaging {
+    pub most: f32,
+}
+
 // A row's distance and weight.
 pub struct Voxel {
     pub distance: f32,
     pub weight: f32,
 }
 
-// A voxel after a reading.
-pub fn fused_voxel(most: f32, old: Voxel, m: Measured) -> Voxel
-    ensures { λ r. ⌜ r ≡ fusedVoxel most old m ⌝ }
+// How readings are averaged under settings.
+pub fn averaging_of(settings: Settings) -> Averaging
+    ensures { λ r. ⌜ r ≡ averagingOf settings ⌝ }
 {
-    let weight = smaller(old.weight + m.confidence, most);
+    Averaging {
+        most: settings.max_weight,
+    }
+}
+
+// A weight after a reading of a confidence.
+fn new_weight(how: Averaging, weight: f32, confidence: f32) -> f32
+    ensures { λ r. ⌜ r ≡ newWeight how weight confidence ⌝ }
+{
+    smaller(weight + confidence, how.most)
+}
+
+// A voxel after a reading.
+pub fn fused_voxel(how: Averaging, old: Voxel, m: Measured) -> Voxel
+    ensures { λ r. ⌜ r ≡ fusedVoxel how old m ⌝ }
+{
+    let weight = new_weight(how, old.weight, m.confidence);
     if 0.0 < old.weight {
         Voxel {
             distance: (old.distance * old.weight + m.distance * m.confidence) / weight,
@@ -55,26 +84,26 @@ pub fn fused_voxel(most: f32, old: Voxel, m: Measured) -> Voxel
 
 // A new row for `key`, which no row has.
 fn add_row(
-    most: f32,
+    how: Averaging,
     keys: &mut [u64],
     distances: &mut [f32],
     weights: &mut [f32],
     count: &mut usize,
     key: u64,
     m: Measured,
-) -> Fused
+) -> Step
     requires { ⌜ lengthsOk (length (now keys)) (length (now distances)) (length (now weights)) (now count) ≡ true ⌝ }
     requires { ⌜ ascending (take (now count) (now keys)) ≡ true ⌝ }
     requires { ⌜ find key (take (now count) (now keys)) ≡ Found.Absent ⌝ }
-    ensures { λ r. ⌜ outcome r (table (now (keys .exit)) (now (distances .exit)) (now (weights .exit)) (now (count .exit)))
-        ≡ fusedNear most (table (now (keys .entry)) (now (distances .entry)) (now (weights .entry)) (now (count .entry))) key m ⌝ }
+    ensures { λ r. ⌜ effect r (table (now (keys .exit)) (now (distances .exit)) (now (weights .exit)) (now (count .exit)))
+        ≡ fusedNear how (table (now (keys .entry)) (now (distances .entry)) (now (weights .entry)) (now (count .entry))) key m ⌝ }
 {
     let n = *count;
     if keys.len() <= n {
-        return Fused::Refused(Refusal::NoPlace);
+        return Step::Refused(Refusal::NoPlace);
     }
     let v = fused_voxel(
-        most,
+        how,
         Voxel {
             distance: 0.0,
             weight: 0.0,
@@ -82,46 +111,46 @@ fn add_row(
         m,
     );
     if !within(1000000.0, v.distance) {
-        return Fused::Refused(Refusal::TooLarge);
+        return Step::Refused(Refusal::TooLarge);
     }
     let place = place_of(keys, n, key);
     insert_u64(keys, n, place, key);
     insert_f32(distances, n, place, v.distance);
     insert_f32(weights, n, place, v.weight);
     *count = n + 1;
-    Fused::Stored
+    Step::Added(place)
 }
 
 // A reading that is not far, fused into the row of `key`.
 fn fuse_near(
-    most: f32,
+    how: Averaging,
     keys: &mut [u64],
     distances: &mut [f32],
     weights: &mut [f32],
     count: &mut usize,
     key: u64,
     m: Measured,
-) -> Fused
+) -> Step
     requires { ⌜ lengthsOk (length (now keys)) (length (now distances)) (length (now weights)) (now count) ≡ true ⌝ }
     requires { ⌜ ascending (take (now count) (now keys)) ≡ true ⌝ }
-    ensures { λ r. ⌜ outcome r (table (now (keys .exit)) (now (distances .exit)) (now (weights .exit)) (now (count .exit)))
-        ≡ fusedNear most (table (now (keys .entry)) (now (distances .entry)) (now (weights .entry)) (now (count .entry))) key m ⌝ }
+    ensures { λ r. ⌜ effect r (table (now (keys .exit)) (now (distances .exit)) (now (weights .exit)) (now (count .exit)))
+        ≡ fusedNear how (table (now (keys .entry)) (now (distances .entry)) (now (weights .entry)) (now (count .entry))) key m ⌝ }
 {
     let n = *count;
     let Found::At(i) = find_row(keys, n, key) else {
-        return add_row(most, keys, distances, weights, count, key, m);
+        return add_row(how, keys, distances, weights, count, key, m);
     };
     let old = Voxel {
         distance: distances[i],
         weight: weights[i],
     };
-    let v = fused_voxel(most, old, m);
+    let v = fused_voxel(how, old, m);
     if !within(1000000.0, v.distance) {
-        return Fused::Refused(Refusal::TooLarge);
+        return Step::Refused(Refusal::TooLarge);
     }
     distances[i] = v.distance;
     weights[i] = v.weight;
-    Fused::Stored
+    Step::Changed(i)
 }
 
 // One reading, into a table that passed the check.
@@ -133,16 +162,16 @@ pub fn fuse_sound(
     count: &mut usize,
     key: u64,
     reading: Reading,
-) -> Fused
+) -> Step
     requires { ⌜ tableCheck settings (table (now keys) (now distances) (now weights) (now count)) ≡ Checked.Passed ⌝ }
-    ensures { λ r. ⌜ outcome r (table (now (keys .exit)) (now (distances .exit)) (now (weights .exit)) (now (count .exit)))
-        ≡ fuse settings (table (now (keys .entry)) (now (distances .entry)) (now (weights .entry)) (now (count .entry))) key reading ⌝ }
+    ensures { λ r. ⌜ effect r (table (now (keys .exit)) (now (distances .exit)) (now (weights .exit)) (now (count .exit)))
+        ≡ effectOf settings (table (now (keys .entry)) (now (distances .entry)) (now (weights .entry)) (now (count .entry))) key reading ⌝ }
 {
     match admit(settings, key, reading) {
-        Admitted::No(why) => Fused::Refused(why),
-        Admitted::Far => Fused::Far,
+        Admitted::No(why) => Step::Refused(why),
+        Admitted::Far => Step::Far,
         Admitted::Near(near) => fuse_near(
-            settings.max_weight,
+            averaging_of(settings),
             keys,
             distances,
             weights,
@@ -150,6 +179,18 @@ pub fn fuse_sound(
             key,
             near,
         ),
+    }
+}
+
+// What is answered to what a reading did.
+pub fn fused_of(step: Step) -> Fused
+    ensures { λ r. ⌜ r ≡ fusedOf step ⌝ }
+{
+    match step {
+        Step::Added(_) => Fused::Stored,
+        Step::Changed(_) => Fused::Stored,
+        Step::Far => Fused::Far,
+        Step::Refused(why) => Fused::Refused(why),
     }
 }
 
@@ -168,7 +209,10 @@ pub fn fuse(
 {
     match check_table(settings, keys, distances, weights, *count) {
         Checked::Refused(why) => Fused::Refused(why),
-        Checked::Passed => fuse_sound(settings, keys, distances, weights, count, key, reading),
+        Checked::Passed => {
+            let step = fuse_sound(settings, keys, distances, weights, count, key, reading);
+            fused_of(step)
+        }
     }
 }
 

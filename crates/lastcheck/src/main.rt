@@ -1,8 +1,8 @@
 // lastcheck: reads lines of settings, readings and meshes, and prints counts and vertices (document 01, `lastcheck`).
-use floats::Metres;
 use libc::STDIN_FILENO;
 use libc::STDOUT_FILENO;
 use table::Settings;
+use table::settings_of;
 ghost use mathlib.Core.Path.{_≡_};
 ghost use mathlib.Core.Bool.{true, false};
 ghost use Prim.Native.Nat.{_<_, _≤_};
@@ -31,12 +31,7 @@ fn begun() -> Run
         kept: 0,
         number: 1,
         started: false,
-        settings: Settings {
-            truncation: Metres(0.0),
-            max_weight: 0.0,
-            voxel_size: Metres(0.0),
-            max_distance: Metres(0.0),
-        },
+        settings: settings_of(0.0, 0.0, 0.0, 0.0),
         going: true,
         printed: 0,
     }

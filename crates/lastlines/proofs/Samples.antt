@@ -13,7 +13,7 @@ use Rattle.lists.specs.Padding.{padded}
 use Rattle.lists.specs.Lists.{joined, kept, insert, place}
 use Rattle.search.specs.Keys.{risesFrom, ascending, next, find}
 use Rattle.table.specs.Table.{beside, rowsOk, need, tableCheck, put, relaid}
-use Rattle.fusing.specs.Fusing.{fusedVoxel, voxelAt, hasPlace, stored, fusedNear, fusedIf, fuseIf, fuse}
+use Rattle.fusing.specs.Fusing.{newWeight, fusedVoxel, voxelAt, hasPlace, stepAt, stored, fusedNear, fusedIf, fuseIf, effectOf, fuse}
 use Rattle.measuring.specs.Readings.{admitIf, admitted}
 use Rattle.edges.specs.Edges.{edgesTo, edges}
 use Rattle.table.specs.Rows.{stored as stored-edges}
@@ -73,8 +73,8 @@ pub samples :
 unfolding trailingZeros span climb size odd units round neg sum add sub mul div lt eq le ne ofInt ofFields ofBits toBits
     nanBits digitValue hexValue hexFrom wordAt digitsFrom numberAt settingsLine readingLine lineOf hexDigits hexField
     decimalFrom countsLine vertexLine badLine refusedLine sameParity respaced morton padded joined kept insert place
-    risesFrom ascending next find beside rowsOk need tableCheck put relaid fusedVoxel voxelAt hasPlace stored fusedNear
-    fusedIf fuseIf fuse admitIf admitted edgesTo edges stored-edges crossing offsets inBox reachedFrom shown neighboursBy
+    risesFrom ascending next find beside rowsOk need tableCheck put relaid newWeight fusedVoxel voxelAt hasPlace stepAt
+    stored fusedNear fusedIf fuseIf effectOf fuse admitIf admitted edgesTo edges stored-edges crossing offsets inBox reachedFrom shown neighboursBy
     distanceAt distanceOf-vertices orZero partOf-vertices vertexOf vertexAt paired cellSpan cellEdges numbersFrom gathered
     withThird withTwo threes twosOf threesOf meshCheck meshedOn meshAnswerOn heldIn placedOf givenOf testedAs settingsFrom
     setupOf cellOf takenOf fusedAs readingOf vertexLines printedFor meshText afterSetup afterReading afterMesh afterLine

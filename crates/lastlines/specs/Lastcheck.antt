@@ -20,7 +20,7 @@ use Rattle.mesh.specs.declared.Rooms.{Rooms}
 use Rattle.mesh.specs.Mesh.{rooms, meshAnswer, heldIn, verticesOf}
 use Rattle.refusals.specs.declared.Refusal.the-variants.{Setting, OffLattice, BadReading}
 use Rattle.table.specs.declared.Settings.{Settings}
-use Rattle.table.specs.Table.{Table, table, settingsOk}
+use Rattle.table.specs.Table.{Table, table, settingsOf, settingsOk}
 use Rattle.texts.specs.Texts.{countsLine, vertexLine, badLine, refusedLine}
 use Rattle.fusing.specs.declared.Fused.{Fused}
 use Rattle.fusing.specs.declared.Fused.the-variants as fused
@@ -53,7 +53,7 @@ testedAs false settings = Refused Setting
 
 -- the maximum distance is +0
 abbrev pub settingsWith : Float → Float → Float → Settings
-settingsWith t w s = record { truncation = record { 0 = t }; «max_weight» = w; «voxel_size» = record { 0 = s }; «max_distance» = record { 0 = zero32 } }
+settingsWith t w s = settingsOf t w s zero32
 
 -- three numbers as settings
 unfoldable pub settingsFrom : Float → Float → Float → Setup

@@ -7,6 +7,7 @@ use lines::Line;
 use mesh::Meshed;
 use refusals::Refusal;
 use table::Settings;
+use table::settings_of;
 ghost use mathlib.Core.Path.{_≡_};
 ghost use mathlib.Core.Bool.{false};
 ghost use Prim.Native.Nat.{_≤_};
@@ -84,12 +85,7 @@ fn number_of(bits: u32) -> Given
 fn tested(truncation: f32, weight: f32, size: f32) -> Setup
     ensures { λ r. ⌜ r ≡ settingsFrom truncation weight size ⌝ }
 {
-    let settings = Settings {
-        truncation: Metres(truncation),
-        max_weight: weight,
-        voxel_size: Metres(size),
-        max_distance: Metres(0.0),
-    };
+    let settings = settings_of(truncation, weight, size, 0.0);
     if table::settings_ok(settings) {
         Setup::Ready(settings)
     } else {

@@ -16,16 +16,17 @@ use Rattle.neighbors.specs.Neighbors.{neighbours}
 use Rattle.neighbors.proofs.Adjacency.{adjacent-sym, neighbour-adjacent, adjacent-neighbour}
 use Rattle.refusals.specs.declared.Refusal.the-variants.{Setting, Lengths, BadRow}
 use Rattle.search.specs.Keys.{ascending}
-use Rattle.table.specs.Table.{Row, Table, rows, rowOk, rowsOk, settingsOk, lengthsOk, farthestOk, tableOk, tableCheck}
+use Rattle.table.specs.Table.{Row, Table, rows, rowOk, rowsOk, settingsOk, lengthsOk, tableOk, tableCheck}
 use Rattle.table.specs.declared.Settings.{Settings}
 use Rattle.table.specs.declared.Checked.the-variants as checked
 use Rattle.table.specs.Rows.{keysOf as tableKeys}
 use Rattle.table.proofs.Laying.{columns}
 use Rattle.table.proofs.RowLaws.{lengths-known}
+use Rattle.table.proofs.SettingsLaws.{settings-known, farthest-known}
 use Rattle.marching.specs.March.{MarchedRow, State, Rooms, on, diagonal, seeds, settled}
 use Rattle.marching.specs.Lattice.{axial, lengthAt, lattice, marchFrom}
 use Rattle.marching.specs.Promises.{From, Marches}
-use Rattle.table.proofs.Checking.{need-passed}
+use Rattle.table.proofs.Checking.{sound}
 use Rattle.marching.proofs.Sound.{after-on, Ended, takings-few}
 use Rattle.marching.proofs.Bounded.{settled-within, march-within}
 use Rattle.marching.proofs.Lattice.{seeds-all, lattice-ends, lattice-keeps}
@@ -56,25 +57,15 @@ record Accepted (s : Settings) (t : Table) : Type 0 where
   ascends : ascending (tableKeys (rows t)) ≡ true
 
 accepted : (s : Settings) (t : Table) → tableCheck s t ≡ checked.Passed → Accepted s t
-unfolding tableCheck
 accepted s t e =
-    let a = need-passed (settingsOk s) Setting _ e in
-    let b = need-passed (lengthsOk (length (t .keys)) (length (t .distances)) (length (t .weights)) (t .count)) Lengths _ (a .1) in
-    let c = need-passed (tableOk (s .«max_weight») t) BadRow _ (b .1) .0 in
-    let l = lengths-known _ _ _ _ (b .0) in
-    let w =
-    and-second (positiveTo million (s .«max_weight»))
-    (positiveTo thousand (s .«voxel_size» .0) && farthestOk (s .«max_distance» .0))
-    (and-second (positiveTo thousand (s .truncation .0)) _ (a .0)) in
-    let z =
-    and-first (between zero32 million (s .«max_distance» .0))
-    (not (eqb (toBits binary32 (s .«max_distance» .0)) 0x8000_0000))
-    (and-second (positiveTo thousand (s .«voxel_size» .0)) (farthestOk (s .«max_distance» .0)) w) in
+    let k = sound s t e in
+    let l = lengths-known _ _ _ _ (k .lengths) in
+    let ranges = settings-known s (k .settings) in
     record {
-      size = and-first (positiveTo thousand (s .«voxel_size» .0)) _ w;
-      most = (and-first (le zero32 (s .«max_distance» .0)) _ z, and-second (le zero32 (s .«max_distance» .0)) _ z);
-      fit = rows-fit (s .«max_weight») (rows t) (and-first (rowsOk (s .«max_weight») (rows t)) _ c);
-      ascends = rw (columns (t .keys) (t .distances) (t .weights) (t .count) (l .1) (l .2) .0) (and-second (rowsOk (s .«max_weight») (rows t)) _ c);
+      size = ranges .size;
+      most = farthest-known (s .«max_distance» .0) (ranges .farthest);
+      fit = rows-fit (s .«max_weight») (rows t) (k .ranges);
+      ascends = rw (columns (t .keys) (t .distances) (t .weights) (t .count) (l .1) (l .2) .0) (k .order);
     }
 
 -- ---- the lattice

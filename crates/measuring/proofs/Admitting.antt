@@ -5,25 +5,18 @@ use mathlib.Core.Bool.{Bool, true, false, cond}
 use Prim.Native.Nat.{ℕ}
 use native.Mathlib.Omega.{arith}
 use lib.Ieee.{Float}
-use Rattle.floats.specs.Floats.{zero32, one32, thousand, million, between, isFinite, beyond, positiveTo}
+use Rattle.floats.specs.Floats.{zero32, one32, between, isFinite, beyond}
 use Rattle.ids.specs.Key.{onLattice}
-use Rattle.lists.proofs.Bools.{and-first, and-second, cases}
+use Rattle.lists.proofs.Bools.{and-second, cases}
 use Rattle.refusals.specs.declared.Refusal.{Refusal}
 use Rattle.refusals.specs.declared.Refusal.the-variants.{OffLattice, BadReading}
 use Rattle.table.specs.declared.Settings.{Settings}
-use Rattle.table.specs.Table.{settingsOk}
 use Rattle.measuring.specs.declared.Reading.{Reading}
 use Rattle.measuring.specs.declared.Reading.the-variants.{Direct, Ray}
 use Rattle.measuring.specs.declared.Measured.{Measured}
 use Rattle.measuring.specs.declared.Admitted.{Admitted}
 use Rattle.measuring.specs.declared.Admitted.the-variants.{Near, Far}
 use Rattle.measuring.specs.Readings.{readingOk, measured, nearOrFar, admitIf, admitted}
-
--- settings in range have a voxel size above 0 to 1,000
-pub size-known : (s : Settings) → settingsOk s ≡ true → positiveTo thousand (s .«voxel_size» .0) ≡ true
-size-known s h =
-    and-first (positiveTo thousand (s .«voxel_size» .0)) _
-    (and-second (positiveTo million (s .«max_weight»)) _ (and-second (positiveTo thousand (s .truncation .0)) _ h))
 
 admits : (b : Bool) (why : Refusal) (rest : Admitted) (m : Measured) → admitIf b why rest ≡ Near m → (b ≡ true) × (rest ≡ Near m)
 unfolding admitIf

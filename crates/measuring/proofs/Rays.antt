@@ -33,7 +33,7 @@ use Rattle.table.specs.Table.{settingsOk}
 use Rattle.measuring.specs.declared.Reading.the-variants.{Ray}
 use Rattle.measuring.specs.declared.Admitted.the-variants.{Far}
 use Rattle.measuring.specs.Readings.{readingOk, apart, square, squares, rayDistance, admitIf, admitted}
-use Rattle.measuring.proofs.Admitting.{size-known}
+use Rattle.table.proofs.SettingsLaws.{settings-known}
 
 -- ---- what is rounded is a number
 
@@ -228,6 +228,6 @@ overflow-far s key x y z depth c good on ok f =
     rw (
       on,
       ok,
-      ray-overflow (s .«voxel_size» .0) key x y z depth c (size-known s good) ok f,
+      ray-overflow (s .«voxel_size» .0) key x y z depth c (settings-known s good .size) ok f,
       beyond-infinity most (positive-finite thousand most (unfold ofBits in refl) near),
     )

@@ -1,17 +1,12 @@
 // Meshes the samples of document 01 that are run: (10, 10, 10) with its 14 neighbours of the other sign, in rooms that hold it and in rooms one place
 // too small for the triangles and for the groups, and the empty table.
-use floats::Metres;
 use mesh::Meshed;
 use table::Settings;
+use table::settings_of;
 
 // The sample's settings: truncation 1, maximum weight 100, size 1.
 fn settings() -> Settings {
-    Settings {
-        truncation: Metres(1.0),
-        max_weight: 100.0,
-        voxel_size: Metres(1.0),
-        max_distance: Metres(0.0),
-    }
+    settings_of(1.0, 100.0, 1.0, 0.0)
 }
 
 // The mesh of the first `count` of 15 rows: (10, 10, 10), whose key is 3640, and its neighbours.

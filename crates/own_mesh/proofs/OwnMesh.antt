@@ -23,6 +23,7 @@ use Rattle.table.specs.Rows.{keysOf}
 use Rattle.table.specs.declared.Settings.{Settings}
 use Rattle.table.specs.declared.Checked.the-variants.{Passed}
 use Rattle.table.proofs.Checking.{sound}
+use Rattle.table.proofs.SettingsLaws.{settings-known}
 use Rattle.edges.specs.Edges.{Edge}
 use Rattle.edges.specs.Listing.{firsts, seconds, outputsOk}
 use Rattle.edges.specs.declared.Surface.{Surface}
@@ -163,8 +164,7 @@ module _ (o : Surface) (s : Settings) (ks : List ℕ) (ds ws : List Float) (cnt 
 
     -- the voxel size is in range, and what is stored is finite
     size-ok : positiveTo thousand (s .«voxel_size» .0) ≡ true
-    size-ok =
-        and-first _ _ (and-second (positiveTo million (s .«max_weight»)) _ (and-second (positiveTo thousand (s .truncation .0)) _ (told .0)))
+    size-ok = settings-known s (told .0) .size
 
     finite : (key : ℕ) → isFinite (orZero (distanceIn (rows t) key)) ≡ true
     finite = stored-finite (s .«max_weight») (rows t) (sound s t (told .2) .ranges)

@@ -12,24 +12,25 @@ use Rattle.refusals.specs.declared.Refusal.{Refusal}
 use Rattle.table.specs.declared.Settings.{Settings}
 use Rattle.table.specs.Table.{Row, Table}
 use Rattle.measuring.specs.declared.Admitted.the-variants.{Far, No}
-use Rattle.owning.specs.declared.Step.the-variants as Step
+use Rattle.owning.specs.declared.Owned.{Owned}
+use Rattle.owning.specs.declared.Owned.the-variants as Owned
 use Rattle.owning.specs.declared.Run.{Run}
 use Rattle.owning.specs.declared.Run.the-variants as Run
 use Rattle.batching.specs.declared.Batched.the-variants as Batched
 use Rattle.measuring.specs.Readings.{admitted}
-use Rattle.fusing.specs.Fusing.{fusedIf, fuseIf, fuse}
+use Rattle.fusing.specs.Fusing.{fusedIf, fuseIf, effectOf, fuse}
 use Rattle.batching.specs.Batches.{batchOutcome, directOf, stopOr, batchFrom}
-use Rattle.owning.specs.Runs.{over, Ready, StepLeft, Stepped, RunLeft, RanTo, RunTo}
+use Rattle.owning.specs.Runs.{over, Ready, GoesOn, StepLeft, Stepped, RunLeft, RanTo, RunTo}
 
 -- ---- readings that are not near
 
 module _ (s : Settings) (t : Table) (ks : List ℕ) (ds ws : List Float) (own added : ℕ) (ready : Ready s t ks ds ws own added) (r : Row) where
-  pub no-left : (why : Refusal) → admitted s (r .key) (directOf r) ≡ No why → StepLeft s t ks ds ws own added r (Step.Refused why) ds ws
-  unfolding StepLeft batchFrom stopOr fuse fuseIf fusedIf
+  pub no-left : (why : Refusal) → admitted s (r .key) (directOf r) ≡ No why → StepLeft s t ks ds ws own added r (Owned.Refused why) ds ws
+  unfolding StepLeft batchFrom stopOr fuse effectOf fuseIf fusedIf
   no-left why e = ((λ i rs. rw (ready .again, e)), refl, refl)
 
-  pub far-left : admitted s (r .key) (directOf r) ≡ Far → StepLeft s t ks ds ws own added r Step.Kept ds ws
-  unfolding StepLeft batchFrom stopOr fuse fuseIf fusedIf
+  pub far-left : admitted s (r .key) (directOf r) ≡ Far → StepLeft s t ks ds ws own added r Owned.Far ds ws
+  unfolding StepLeft batchFrom stopOr fuse effectOf fuseIf fusedIf
   far-left e = ((λ i rs. rw (ready .again, e)), ready)
 
 -- ---- the loop
@@ -43,11 +44,13 @@ Running s ks ds₀ ws₀ own room rs from i added ds ws =
 module _ (s : Settings) (ks : List ℕ) (ds₀ ws₀ : List Float) (own room : ℕ) (rs : List Row) (from i added : ℕ)
     (ds ws : List Float) (run : Running s ks ds₀ ws₀ own room rs from i added ds ws) where
   module _ (r : Row) (e : drop i rs ≡ r ∷ drop (suc i) rs) (spare : Bool) (left : spare ≡ true → added < room) (ds' ws' : List Float) where
-    pub keeps : Stepped s ks ds ws own spare r Step.Kept ds' ws' → Running s ks ds₀ ws₀ own room rs from (i + 1) added ds' ws'
-    unfolding StepLeft
-    keeps step t h l =
+    -- the batch goes on after a step that lets it
+    after-step : (more : ℕ)
+        → ((t : Table) → Ready s t ks ds ws own added → (spare ≡ true → t .count + added < length (t .keys)) → GoesOn s t ks ds ws own r ds' ws' more)
+        → Running s ks ds₀ ws₀ own room rs from (i + 1) more ds' ws'
+    after-step more step t h l =
         let g = run t h l in
-        let q = step t added (g .1) (λ b. omega (arith, left b)) in (
+        let q = step t (g .1) (λ b. omega (arith, left b)) in (
           g .0
               ∙ ap (batchFrom s i (over s t ks ds ws own)) e
               ∙ q .0 i (drop (suc i) rs)
@@ -55,21 +58,21 @@ module _ (s : Settings) (ks : List ℕ) (ds₀ ws₀ : List Float) (own room : �
           q .1,
         )
 
-    pub adds : Stepped s ks ds ws own spare r Step.Added ds' ws' → Running s ks ds₀ ws₀ own room rs from (i + 1) (added + 1) ds' ws'
+    pub passes-over : Stepped s ks ds ws own spare r Owned.Far ds' ws' → Running s ks ds₀ ws₀ own room rs from (i + 1) added ds' ws'
     unfolding StepLeft
-    adds step t h l =
-        let g = run t h l in
-        let q = step t added (g .1) (λ b. omega (arith, left b)) in (
-          g .0
-              ∙ ap (batchFrom s i (over s t ks ds ws own)) e
-              ∙ q .0 i (drop (suc i) rs)
-              ∙ ap (λ (j : ℕ). batchFrom s j (over s t ks ds' ws' own) (drop j rs)) (sym (add-one i)),
-          rw add-one (q .1),
-        )
+    passes-over step = after-step added (λ t h l. step t added h l)
+
+    pub changes : Stepped s ks ds ws own spare r Owned.Changed ds' ws' → Running s ks ds₀ ws₀ own room rs from (i + 1) added ds' ws'
+    unfolding StepLeft
+    changes step = after-step added (λ t h l. step t added h l)
+
+    pub adds : Stepped s ks ds ws own spare r Owned.Added ds' ws' → Running s ks ds₀ ws₀ own room rs from (i + 1) (added + 1) ds' ws'
+    unfolding StepLeft
+    adds step = after-step (added + 1) (λ t h l. rw add-one (step t added h l))
 
     pub refuses :
         (why : Refusal)
-        → Stepped s ks ds ws own spare r (Step.Refused why) ds' ws'
+        → Stepped s ks ds ws own spare r (Owned.Refused why) ds' ws'
         → RanTo s ks ds₀ ws₀ own room rs from (record { added = added; run = Run.Refused why i }) ds' ws'
     unfolding StepLeft RunLeft
     refuses why step t h l =
@@ -80,7 +83,7 @@ module _ (s : Settings) (ks : List ℕ) (ds₀ ws₀ : List Float) (own room : �
     pub stays :
         from ≤ i
         → i ≤ length rs
-        → Stepped s ks ds ws own spare r Step.Unknown ds' ws'
+        → Stepped s ks ds ws own spare r Owned.Unknown ds' ws'
         → RanTo s ks ds₀ ws₀ own room rs from (record { added = added; run = Run.Reached i }) ds' ws'
     unfolding StepLeft RunLeft
     stays a b step t h l =

@@ -12,11 +12,11 @@ use lib.Dec.{eqb}
 use lib.ListN.{length, getD, take, drop, set, length-map, length-set, length-append, length-drop, List·getD-append}
 use lib.Seq.{set-getD, getD-take, take-set-lt, length-take-le, drop-append-add, drop-drop, getD-set-same, getD-set-other}
 use lib.Ieee.{Float, nan, lt}
-use Rattle.floats.specs.Floats.{zero32, one32, million, thousand, within, between, positiveTo}
+use Rattle.floats.specs.Floats.{zero32, one32, million, within, between}
 use Rattle.gathering.specs.Gathering.{standing, puts}
 use Rattle.gathering.proofs.PutLaws.{HasRow, has-put, longer, no-shorter, puts-set, puts-absent}
 use Rattle.gathering.proofs.Columns.{beside-set}
-use Rattle.lists.proofs.Bools.{and-first, and-second, cases}
+use Rattle.lists.proofs.Bools.{cases}
 use Rattle.refusals.specs.declared.Refusal.the-variants.{TooLarge}
 use Rattle.table.specs.declared.Settings.{Settings}
 use Rattle.search.specs.declared.Found.{Found}
@@ -31,18 +31,20 @@ use Rattle.table.proofs.Laying.{distancesOf, weightsOf, columns, put-set}
 use Rattle.table.proofs.Checking.{sound}
 use Rattle.table.proofs.Putting.{same-table, rows-length}
 use Rattle.table.proofs.Keeping.{relaid-rows, relaid-keys}
+use Rattle.fusing.specs.declared.Averaging.{Averaging}
 use Rattle.fusing.specs.declared.Voxel.{Voxel}
 use Rattle.measuring.specs.declared.Measured.{Measured}
 use Rattle.fusing.specs.declared.Fused.the-variants as Fused
 use Rattle.batching.specs.declared.Batched.the-variants as Batched
 use Rattle.measuring.specs.declared.Admitted.the-variants.{Near}
-use Rattle.owning.specs.declared.Step.{Step}
-use Rattle.owning.specs.declared.Step.the-variants as Step
+use Rattle.owning.specs.declared.Owned.{Owned}
+use Rattle.owning.specs.declared.Owned.the-variants as Owned
 use Rattle.measuring.specs.Readings.{admitted}
-use Rattle.fusing.specs.Fusing.{Outcome, outcome, fusedVoxel, voxelAt, hasPlace, stored, fusedNear, fusedIf, fuseIf, fuse}
+use Rattle.fusing.specs.Fusing.{Outcome, outcome, averagingOf, fusedVoxel, voxelAt, hasPlace, stepAt, stored, fusedNear, fusedIf, fuseIf, effectOf, answered, fuse}
 use Rattle.batching.specs.Batches.{batchOutcome, directOf, stopOr, batchFrom}
 use Rattle.owning.specs.Runs.{over, Ready, OwnPlace, oldVoxel, voxelAfter, Placed, StepLeft}
-use Rattle.fusing.proofs.Keeping.{weight-kept, zero-in, fuse-keeps}
+use Rattle.fusing.proofs.Keeping.{weight-above, voxel-kept, zero-in, fuse-keeps}
+use Rattle.fusing.proofs.FuseLaws.{stored-answers}
 
 -- ---- lists
 
@@ -77,12 +79,12 @@ keys-once (k ∷ ks) (suc p) (suc q) a h g e =
 -- ---- what the code tells
 
 pub after :
-    (most d w : Float) (m : Measured) (b : Bool) (o v : Voxel)
-    → b ≡ standing most w
+    (how : Averaging) (d w : Float) (m : Measured) (b : Bool) (o v : Voxel)
+    → b ≡ standing (how .most) w
     → o ≡ oldVoxel b d w
-    → v ≡ fusedVoxel most o m
-    → v ≡ fusedVoxel most (oldVoxel (standing most w) d w) m
-after most d w m b o v p q r = r ∙ ap (λ (x : Voxel). fusedVoxel most x m) (q ∙ ap (λ (c : Bool). oldVoxel c d w) p)
+    → v ≡ fusedVoxel how o m
+    → v ≡ fusedVoxel how (oldVoxel (standing (how .most) w) d w) m
+after how d w m b o v p q r = r ∙ ap (λ (x : Voxel). fusedVoxel how x m) (q ∙ ap (λ (c : Bool). oldVoxel c d w) p)
 
 pub either : (a b t : Bool) → a ≡ t → not (a || b) ≡ false → (t ≡ true) ⊎ (b ≡ true)
 either true b t e h = inl (sym e)
@@ -104,6 +106,9 @@ module _ (s : Settings) (t : Table) (ks : List ℕ) (ds ws : List Float) (own ad
     (ready : Ready s t ks ds ws own added) (p k : ℕ) (inside : p < own) (at : getD ks p 0 ≡ k) where
   abbrev most : Float
   most = s .«max_weight»
+
+  abbrev how : Averaging
+  how = averagingOf s
 
   abbrev mine : List Row
   mine = rowsOf ks ds ws own
@@ -156,18 +161,20 @@ module _ (s : Settings) (t : Table) (ks : List ℕ) (ds ws : List Float) (own ad
       → find k (keysOf both) ≡ f
       → hasPlace f now-table ≡ true
       → voxelAt f now-table ≡ old
-      → standing most (fusedVoxel most old m .weight) ≡ true
-      → fusedNear most now-table k m ≡ cond (within million (fusedVoxel most old m .distance))
+      → standing most (fusedVoxel how old m .weight) ≡ true
+      → answered (fusedNear how now-table k m) ≡ cond (within million (fusedVoxel how old m .distance))
       (outcome Fused.Stored
-      (over s t ks (set ds p (fusedVoxel most old m .distance)) (set ws p (fusedVoxel most old m .weight)) own))
+      (over s t ks (set ds p (fusedVoxel how old m .distance)) (set ws p (fusedVoxel how old m .weight)) own))
       (outcome (Fused.Refused TooLarge) now-table)
-  unfolding fusedNear stored
+  unfolding fusedNear
   near-own f old m e h q w =
-      let v = fusedVoxel most old m in
+      let v = fusedVoxel how old m in
       let y = row k (v .distance) (v .weight) in
-      ap (λ (g : Found). stored now-table k (hasPlace g now-table) (fusedVoxel most (voxelAt g now-table) m)) (ap (find k) (relaid-keys t both) ∙ e)
-      ∙ ap (λ (o : Voxel). stored now-table k (hasPlace f now-table) (fusedVoxel most o m)) q
-      ∙ ap (λ (b : Bool). stored now-table k b v) h
+      ap (λ (g : Found). answered (stored now-table k (hasPlace g now-table) (stepAt g now-table k) (fusedVoxel how (voxelAt g now-table) m)))
+      (ap (find k) (relaid-keys t both) ∙ e)
+      ∙ ap (λ (o : Voxel). answered (stored now-table k (hasPlace f now-table) (stepAt f now-table k) (fusedVoxel how o m))) q
+      ∙ ap (λ (b : Bool). answered (stored now-table k b (stepAt f now-table k) v)) h
+      ∙ stored-answers now-table k f v
       ∙ ap (λ (u : Table). cond (within million (v .distance)) (outcome Fused.Stored u) (outcome (Fused.Refused TooLarge) now-table))
       (ap (λ (l : List Row). relaid now-table (put y l)) (relaid-rows t both)
       ∙ relaid-twice t both (put y both) (no-shorter y both)
@@ -218,13 +225,10 @@ module _ (s : Settings) (t : Table) (ks : List ℕ) (ds ws : List Float) (own ad
 
   module _ (m : Measured) (on : between zero32 one32 (m .confidence) ≡ true) where
     above : lt zero32 most ≡ true
-    above =
-        and-first (lt zero32 most) _
-        (and-first (positiveTo million most) _
-        (and-second (positiveTo thousand (s .truncation .0)) _ (sound s t (ready .passed) .settings)))
+    above = weight-above s (sound s t (ready .passed) .settings)
 
     abbrev v : Voxel
-    v = voxelAfter most ds ws p m
+    v = voxelAfter how ds ws p m
 
     old-in : (b : Bool) → standing most (getD ws p nan) ≡ b → between zero32 most (oldVoxel b (getD ds p nan) (getD ws p nan) .weight) ≡ true
     unfolding oldVoxel
@@ -232,15 +236,14 @@ module _ (s : Settings) (t : Table) (ks : List ℕ) (ds ws : List Float) (own ad
     old-in false e = zero-in most above
 
     weighs : standing most (v .weight) ≡ true
-    unfolding fusedVoxel
     weighs =
-        weight-kept most (oldVoxel (standing most (getD ws p nan)) (getD ds p nan) (getD ws p nan) .weight)
-        (m .confidence) above (old-in (standing most (getD ws p nan)) refl) on
+        voxel-kept how (oldVoxel (standing most (getD ws p nan)) (getD ds p nan) (getD ws p nan)) m above
+        (old-in (standing most (getD ws p nan)) refl) on
 
     -- fusing, said of the own rows
     abbrev Said : Type 0
     Said =
-        fusedNear most now-table k m ≡ cond (within million (v .distance))
+        answered (fusedNear how now-table k m) ≡ cond (within million (v .distance))
         (outcome Fused.Stored (over s t ks (set ds p (v .distance)) (set ws p (v .weight)) own))
         (outcome (Fused.Refused TooLarge) now-table)
 
@@ -287,8 +290,8 @@ module _ (s : Settings) (t : Table) (ks : List ℕ) (ds ws : List Float) (own ad
         }
 
     module _ (r : Row) (keyed : r .key ≡ k) (near : admitted s k (directOf r) ≡ Near m) where
-      fused : fuse s now-table (r .key) (directOf r) ≡ fusedNear most now-table k m
-      unfolding fuse fuseIf fusedIf
+      fused : fuse s now-table (r .key) (directOf r) ≡ answered (fusedNear how now-table k m)
+      unfolding fuse effectOf fuseIf fusedIf
       fused = rw (keyed, ready .again, near)
 
       stores :
@@ -324,11 +327,12 @@ module _ (s : Settings) (t : Table) (ks : List ℕ) (ds ws : List Float) (own ad
       pub near-left :
           (spare : Bool)
           → (spare ≡ true → t .count + added < length (t .keys))
-          → (step : Step) (ds' ws' : List Float)
-          → Placed most ds ws p spare m step ds' ws'
+          → (step : Owned) (ds' ws' : List Float)
+          → Placed how ds ws p spare m step ds' ws'
           → StepLeft s t ks ds ws own added r step ds' ws'
       unfolding Placed StepLeft
-      near-left spare room Step.Kept ds' ws' h =
+      near-left spare room Owned.Far ds' ws' h = absurd h
+      near-left spare room Owned.Changed ds' ws' h =
           let said = said-stands (h .0) in
           let c = h .1 in
           rw (c .1, c .2) (
@@ -336,7 +340,7 @@ module _ (s : Settings) (t : Table) (ks : List ℕ) (ds ws : List Float) (own ad
             ready-again added (passes said (c .0)) (stands-many (h .0) (v .distance) (v .weight) ∙ ready .many)
                 (ready .fits),
           )
-      near-left spare room Step.Added ds' ws' h =
+      near-left spare room Owned.Added ds' ws' h =
           let said = said-waits (h .0) (room (h .1)) in
           let c = h .2 in
           rw (c .1, c .2) (
@@ -346,8 +350,8 @@ module _ (s : Settings) (t : Table) (ks : List ℕ) (ds ws : List Float) (own ad
                 ∙ ap suc (ready .many)
                 ∙ sym (add-suc (t .count) added)) (omega (arith, room (h .1))),
           )
-      near-left spare room Step.Unknown ds' ws' h = h
-      near-left spare room (Step.Refused why) ds' ws' h = (rw (h .2) (λ i rs. ends-there (told (h .4)) (h .3) i rs), h .0, h .1)
+      near-left spare room Owned.Unknown ds' ws' h = h
+      near-left spare room (Owned.Refused why) ds' ws' h = (rw (h .2) (λ i rs. ends-there (told (h .4)) (h .3) i rs), h .0, h .1)
         where
           told : (standing most (getD ws p nan) ≡ true) ⊎ (spare ≡ true) → Said
           told (inl e) = said-stands e

@@ -15,10 +15,11 @@ use Rattle.search.specs.declared.Found.the-variants.{At, Absent}
 use Rattle.table.specs.declared.Checked.the-variants.{Passed}
 use Rattle.search.specs.Keys.{find, ascending}
 use Rattle.table.specs.Table.{Row, Table, rowsOf, rows, lengthsOk, tableCheck, relaid}
+use Rattle.fusing.specs.declared.Averaging.{Averaging}
 use Rattle.fusing.specs.declared.Voxel.{Voxel}
 use Rattle.measuring.specs.declared.Measured.{Measured}
-use Rattle.owning.specs.declared.Step.{Step}
-use Rattle.owning.specs.declared.Step.the-variants as Step
+use Rattle.owning.specs.declared.Owned.{Owned}
+use Rattle.owning.specs.declared.Owned.the-variants as Owned
 use Rattle.owning.specs.declared.Run.{Run}
 use Rattle.owning.specs.declared.Run.the-variants as Run
 use Rattle.owning.specs.declared.Ran.{Ran}
@@ -51,42 +52,46 @@ oldVoxel true d w = record { distance = d; weight = w }
 oldVoxel false d w = record { distance = zero32; weight = zero32 }
 
 -- the own row at p after a reading
-abbrev pub voxelAfter : Float → List Float → List Float → ℕ → Measured → Voxel
-voxelAfter most ds ws p m =
-    fusedVoxel most (oldVoxel (standing most (getD ws p nan)) (getD ds p nan) (getD ws p nan)) m
+abbrev pub voxelAfter : Averaging → List Float → List Float → ℕ → Measured → Voxel
+voxelAfter how ds ws p m =
+    fusedVoxel how (oldVoxel (standing (how .most) (getD ws p nan)) (getD ds p nan) (getD ws p nan)) m
 
 -- the own rows with it
-abbrev pub Changed : Float → List Float → List Float → ℕ → Measured → List Float → List Float → Type 0
-Changed most ds ws p m ds' ws' =
-    (within million (voxelAfter most ds ws p m .distance) ≡ true)
-    × (ds' ≡ set ds p (voxelAfter most ds ws p m .distance))
-    × (ws' ≡ set ws p (voxelAfter most ds ws p m .weight))
+abbrev pub Rewritten : Averaging → List Float → List Float → ℕ → Measured → List Float → List Float → Type 0
+Rewritten how ds ws p m ds' ws' =
+    (within million (voxelAfter how ds ws p m .distance) ≡ true)
+    × (ds' ≡ set ds p (voxelAfter how ds ws p m .distance))
+    × (ws' ≡ set ws p (voxelAfter how ds ws p m .weight))
 
--- what a reading of the row at p leaves
-unfoldable pub Placed : Float → List Float → List Float → ℕ → Bool → Measured → Step → List Float → List Float → Type 0
-Placed most ds ws p spare m Step.Kept ds' ws' = (standing most (getD ws p nan) ≡ true) × Changed most ds ws p m ds' ws'
-Placed most ds ws p spare m Step.Added ds' ws' =
-    (standing most (getD ws p nan) ≡ false) × (spare ≡ true) × Changed most ds ws p m ds' ws'
-Placed most ds ws p spare m Step.Unknown ds' ws' = (ds' ≡ ds) × (ws' ≡ ws)
-Placed most ds ws p spare m (Step.Refused why) ds' ws' =
-    (ds' ≡ ds) × (ws' ≡ ws) × (why ≡ TooLarge) × (within million (voxelAfter most ds ws p m .distance) ≡ false)
-    × ((standing most (getD ws p nan) ≡ true) ⊎ (spare ≡ true))
+-- what a near reading of the row at p leaves
+unfoldable pub Placed : Averaging → List Float → List Float → ℕ → Bool → Measured → Owned → List Float → List Float → Type 0
+Placed how ds ws p spare m Owned.Far ds' ws' = ⊥
+Placed how ds ws p spare m Owned.Changed ds' ws' = (standing (how .most) (getD ws p nan) ≡ true) × Rewritten how ds ws p m ds' ws'
+Placed how ds ws p spare m Owned.Added ds' ws' =
+    (standing (how .most) (getD ws p nan) ≡ false) × (spare ≡ true) × Rewritten how ds ws p m ds' ws'
+Placed how ds ws p spare m Owned.Unknown ds' ws' = (ds' ≡ ds) × (ws' ≡ ws)
+Placed how ds ws p spare m (Owned.Refused why) ds' ws' =
+    (ds' ≡ ds) × (ws' ≡ ws) × (why ≡ TooLarge) × (within million (voxelAfter how ds ws p m .distance) ≡ false)
+    × ((standing (how .most) (getD ws p nan) ≡ true) ⊎ (spare ≡ true))
 
--- a batch goes on with the own rows that a reading left, ends there, or the reading is left to others
-unfoldable pub StepLeft : Settings → Table → List ℕ → List Float → List Float → ℕ → ℕ → Row → Step → List Float → List Float → Type 0
-StepLeft s t ks ds ws own added r Step.Kept ds' ws' =
+-- a batch goes on with the own rows that a reading left and so many rows added
+abbrev pub GoesOn : Settings → Table → List ℕ → List Float → List Float → ℕ → Row → List Float → List Float → ℕ → Type 0
+GoesOn s t ks ds ws own r ds' ws' added =
     ((i : ℕ) (rs : List Row) → batchFrom s i (over s t ks ds ws own) (r ∷ rs) ≡ batchFrom s (suc i) (over s t ks ds' ws' own) rs)
     × Ready s t ks ds' ws' own added
-StepLeft s t ks ds ws own added r Step.Added ds' ws' =
-    ((i : ℕ) (rs : List Row) → batchFrom s i (over s t ks ds ws own) (r ∷ rs) ≡ batchFrom s (suc i) (over s t ks ds' ws' own) rs)
-    × Ready s t ks ds' ws' own (suc added)
-StepLeft s t ks ds ws own added r Step.Unknown ds' ws' = (ds' ≡ ds) × (ws' ≡ ws)
-StepLeft s t ks ds ws own added r (Step.Refused why) ds' ws' =
+
+-- a batch goes on, ends there, or the reading is left to others
+unfoldable pub StepLeft : Settings → Table → List ℕ → List Float → List Float → ℕ → ℕ → Row → Owned → List Float → List Float → Type 0
+StepLeft s t ks ds ws own added r Owned.Far ds' ws' = GoesOn s t ks ds ws own r ds' ws' added
+StepLeft s t ks ds ws own added r Owned.Changed ds' ws' = GoesOn s t ks ds ws own r ds' ws' added
+StepLeft s t ks ds ws own added r Owned.Added ds' ws' = GoesOn s t ks ds ws own r ds' ws' (suc added)
+StepLeft s t ks ds ws own added r Owned.Unknown ds' ws' = (ds' ≡ ds) × (ws' ≡ ws)
+StepLeft s t ks ds ws own added r (Owned.Refused why) ds' ws' =
     ((i : ℕ) (rs : List Row) → batchFrom s i (over s t ks ds ws own) (r ∷ rs) ≡ batchOutcome (Batched.Refused why i) (over s t ks ds ws own))
     × (ds' ≡ ds) × (ws' ≡ ws)
 
 -- the same beside every table
-abbrev pub Stepped : Settings → List ℕ → List Float → List Float → ℕ → Bool → Row → Step → List Float → List Float → Type 0
+abbrev pub Stepped : Settings → List ℕ → List Float → List Float → ℕ → Bool → Row → Owned → List Float → List Float → Type 0
 Stepped s ks ds ws own spare r step ds' ws' =
     (t :
     Table) (added : ℕ) → Ready s t ks ds ws own added → (spare ≡ true

@@ -2,7 +2,9 @@
 use floats::Metres;
 use floats::between;
 use floats::within;
+use fusing::Averaging;
 use fusing::Voxel;
+use fusing::averaging_of;
 use fusing::fused_voxel;
 use gathering::load;
 use gathering::settle;
@@ -24,10 +26,12 @@ ghost use Rattle.search.specs.Keys.{ascending};
 ghost use Rattle.table.specs.Table.{row, table, beside, lengthsOk, settingsOk, tableCheck};
 ghost use Rattle.owning.specs.Runs.{OwnPlace, oldVoxel, Placed, Stepped, RanTo, RunTo};
 
-// What a reading does to the own rows of a batch.
-enum Step {
-    Kept,
+// What a reading does to the own rows of a batch: nothing where it is far; a row is added or changed; it is left to
+// others where it has no own row, or that row no place in the table; or why it is refused.
+enum Owned {
+    Far,
     Added,
+    Changed,
     Unknown,
     Refused(Refusal),
 }
@@ -79,33 +83,33 @@ fn old_voxel(stands: bool, distance: f32, weight: f32) -> Voxel
 
 // A near reading, fused into the own row at `place`; a row that waits is taken only where the table has a place for it.
 fn fuse_place(
-    most: f32,
+    how: Averaging,
     own_distances: &mut [f32],
     own_weights: &mut [f32],
     place: usize,
     spare: bool,
     m: Measured,
-) -> Step
+) -> Owned
     requires { ⌜ (place < length (now «own_distances»)) × (length (now «own_weights») ≡ length (now «own_distances»)) ⌝ }
-    ensures { λ r. ⌜ Placed most (now («own_distances» .entry)) (now («own_weights» .entry)) place spare m r
+    ensures { λ r. ⌜ Placed how (now («own_distances» .entry)) (now («own_weights» .entry)) place spare m r
         (now («own_distances» .exit)) (now («own_weights» .exit)) ⌝ }
 {
     let distance = own_distances[place];
     let weight = own_weights[place];
-    let stands = between(0.0, most, weight);
+    let stands = between(0.0, how.most, weight);
     if !(stands | spare) {
-        return Step::Unknown;
+        return Owned::Unknown;
     }
-    let v = fused_voxel(most, old_voxel(stands, distance, weight), m);
+    let v = fused_voxel(how, old_voxel(stands, distance, weight), m);
     if !within(1000000.0, v.distance) {
-        return Step::Refused(Refusal::TooLarge);
+        return Owned::Refused(Refusal::TooLarge);
     }
     own_distances[place] = v.distance;
     own_weights[place] = v.weight;
     if stands {
-        return Step::Kept;
+        return Owned::Changed;
     }
-    Step::Added
+    Owned::Added
 }
 
 // One reading of a batch, into the own rows.
@@ -120,7 +124,7 @@ fn fuse_own(
     key: u64,
     distance: f32,
     confidence: f32,
-) -> Step
+) -> Owned
     requires { ⌜ settingsOk settings ≡ true ⌝ }
     requires { ⌜ lengthsOk (length (now «own_keys»)) (length (now «own_distances»)) (length (now «own_weights»)) own ≡ true ⌝ }
     ensures { λ r. ⌜ Stepped settings (now («own_keys» .entry)) (now («own_distances» .entry))
@@ -132,12 +136,12 @@ fn fuse_own(
         confidence,
     };
     match admit(settings, key, reading) {
-        Admitted::No(why) => Step::Refused(why),
-        Admitted::Far => Step::Kept,
+        Admitted::No(why) => Owned::Refused(why),
+        Admitted::Far => Owned::Far,
         Admitted::Near(near) => match own_place(own_keys, own, slot, key) {
-            Found::Absent => Step::Unknown,
+            Found::Absent => Owned::Unknown,
             Found::At(place) => fuse_place(
-                settings.max_weight,
+                averaging_of(settings),
                 own_distances,
                 own_weights,
                 place,
@@ -189,20 +193,23 @@ fn fuse_run(
             batch_confidences[i],
         );
         match step {
-            Step::Kept => {
+            Owned::Far => {
                 i += 1;
             }
-            Step::Added => {
+            Owned::Changed => {
+                i += 1;
+            }
+            Owned::Added => {
                 added += 1;
                 i += 1;
             }
-            Step::Unknown => {
+            Owned::Unknown => {
                 return Ran {
                     added,
                     run: Run::Reached(i),
                 };
             }
-            Step::Refused(why) => {
+            Owned::Refused(why) => {
                 return Ran {
                     added,
                     run: Run::Refused(why, i),

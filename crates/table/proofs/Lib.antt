@@ -5,3 +5,4 @@ pub mod Putting
 pub mod Keeping
 pub mod Determined
 pub mod StoredLaws
+pub mod SettingsLaws

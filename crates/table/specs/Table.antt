@@ -15,15 +15,19 @@ use Rattle.table.specs.declared.Checked.{Checked}
 use Rattle.table.specs.declared.Checked.the-variants.{Passed, Refused}
 use Rattle.search.specs.Keys.{ascending}
 
+-- the four settings in their one order
+abbrev pub settingsOf : Float → Float → Float → Float → Settings
+settingsOf truncation weight size farthest =
+    record {
+      truncation = record { 0 = truncation };
+      «max_weight» = weight;
+      «voxel_size» = record { 0 = size };
+      «max_distance» = record { 0 = farthest };
+    }
+
 -- the default maximum weight is 100 and the default voxel size 0.02
 abbrev pub defaults : Metres → Metres → Settings
-defaults truncation farthest =
-    record {
-      truncation = truncation;
-      «max_weight» = f32 0x42C8_0000;
-      «voxel_size» = record { 0 = f32 0x3CA3_D70A };
-      «max_distance» = farthest;
-    }
+defaults truncation farthest = settingsOf (truncation .0) (f32 0x42C8_0000) (f32 0x3CA3_D70A) (farthest .0)
 
 -- a row: a cell's key, its signed distance and its weight
 pub record Row : Type 0 where

@@ -8,7 +8,7 @@ use search::keys_ascend;
 ghost use mathlib.Core.Path.{_≡_};
 ghost use Prim.Native.Nat.{_≤_};
 ghost use lib.ListN.{length};
-ghost use Rattle.table.specs.Table.{defaults, table, rowsOf, farthestOk, settingsOk, lengthsOk, rowOk, rowsOk, tableCheck};
+ghost use Rattle.table.specs.Table.{settingsOf, defaults, table, rowsOf, farthestOk, settingsOk, lengthsOk, rowOk, rowsOk, tableCheck};
 
 // The most places that a table has.
 pub const LONGEST_TABLE: usize = 65536;
@@ -21,17 +21,24 @@ pub struct Settings {
     pub max_distance: Metres,
 }
 
+// The settings of four numbers, in their one order.
+pub fn settings_of(truncation: f32, max_weight: f32, voxel_size: f32, max_distance: f32) -> Settings
+    ensures { λ r. ⌜ r ≡ settingsOf truncation «max_weight» «voxel_size» «max_distance» ⌝ }
+{
+    Settings {
+        truncation: Metres(truncation),
+        max_weight,
+        voxel_size: Metres(voxel_size),
+        max_distance: Metres(max_distance),
+    }
+}
+
 impl Settings {
     // The default maximum weight, 100, and voxel size, 0.02, with a truncation and a maximum distance.
     pub fn new(truncation: Metres, max_distance: Metres) -> Settings
         ensures { λ r. ⌜ r ≡ defaults truncation «max_distance» ⌝ }
     {
-        Settings {
-            truncation,
-            max_weight: 100.0,
-            voxel_size: Metres(0.02),
-            max_distance,
-        }
+        settings_of(truncation.0, 100.0, 0.02, max_distance.0)
     }
 }
 

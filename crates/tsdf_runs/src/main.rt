@@ -3,6 +3,7 @@ use batching::Batched;
 use floats::Metres;
 use fusing::Fused;
 use table::Settings;
+use table::settings_of;
 
 fn line(word: &[u8]) {
     io::write_all(1, word);
@@ -34,12 +35,7 @@ fn say_batch(batched: Batched) {
 }
 
 fn settings(truncation: f32, max_weight: f32) -> Settings {
-    Settings {
-        truncation: Metres(truncation),
-        max_weight,
-        voxel_size: Metres(1.0),
-        max_distance: Metres(0.0),
-    }
+    settings_of(truncation, max_weight, 1.0, 0.0)
 }
 
 // Maximum weight 1e-38, truncation 10: the reading 10 is stored, and the second time refused with 7.

@@ -7,13 +7,12 @@ use mathlib.Core.List.{List, [], _∷_}
 use lib.Count.{trailingZeros}
 use lib.Ieee.{binary32, span, climb, size, odd, units, round, neg, sum, add, div, lt, eq, le, ofFields, ofBits, toBits, ofInt}
 use Rattle.floats.specs.Floats.{f32}
-use Rattle.floats.specs.declared.Metres.{Metres}
 use Rattle.ids.specs.Key.{sameParity}
 use Rattle.ids.specs.Morton.{respaced}
 use Rattle.lists.specs.Lists.{kept}
 use Rattle.table.specs.declared.Settings.{Settings}
 use Rattle.search.specs.Keys.{risesFrom, ascending, next, find}
-use Rattle.table.specs.Table.{Table, table, rows, beside, rowsOk, need, tableCheck}
+use Rattle.table.specs.Table.{Table, table, settingsOf, rows, beside, rowsOk, need, tableCheck}
 use Rattle.tsdf_questions.specs.declared.Distance.{Distance}
 use Rattle.tsdf_questions.specs.declared.Distance.the-variants as distance
 use Rattle.tsdf_questions.specs.declared.Surface.{Surface}
@@ -24,13 +23,9 @@ use Rattle.tsdf_surveys.specs.Surface.{surfaceKeys}
 use Rattle.tsdf_surveys.specs.Statistics.{tallied, talliedAll, statsOf, statisticsIf, statisticsOf}
 use Rattle.tsdf_surveys.specs.declared.Statistics.the-variants as statistics
 
-abbrev pub metres : ℕ → Metres
-metres b = record { 0 = f32 b }
-
 -- truncation 1, maximum weight 100, size 1
 abbrev pub settings : Settings
-settings =
-    record { truncation = metres 0x3F80_0000; «max_weight» = f32 0x42C8_0000; «voxel_size» = metres 0x3F80_0000; «max_distance» = metres 0 }
+settings = settingsOf (f32 0x3F80_0000) (f32 0x42C8_0000) (f32 0x3F80_0000) (f32 0)
 
 -- 0.25 at weight 1, -0.5 at weight 2, 0.125 at weight 0, and a free place
 abbrev pub three : Table

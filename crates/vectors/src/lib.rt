@@ -1,7 +1,7 @@
 // Stored answers of the Rust, as lines of text: a letter, then words in hexadecimal, a space before each (compare/VECTORS.md).
 // What the programs that replay them share: a line out of the bytes, a field out of lines, and the score.
-use floats::Metres;
 use table::Settings;
+use table::settings_of;
 ghost use mathlib.Core.Path.{_≡_};
 ghost use mathlib.Core.Bool.{false};
 ghost use Prim.Native.Nat.{_≤_, _<_, _%_, _/_};
@@ -166,12 +166,12 @@ pub fn same(a: f32, b: f32) -> bool {
 
 // A field without rows, under the settings of a line.
 pub fn empty(words: [u64; 16]) -> Field {
-    let settings = Settings {
-        truncation: Metres(float(words[0])),
-        max_weight: float(words[1]),
-        voxel_size: Metres(float(words[2])),
-        max_distance: Metres(float(words[3])),
-    };
+    let settings = settings_of(
+        float(words[0]),
+        float(words[1]),
+        float(words[2]),
+        float(words[3]),
+    );
     Field {
         settings: settings,
         keys: [0; 32],

@@ -6,7 +6,7 @@ use lib.ListN.{length}
 use Rattle.table.proofs.RowLaws.{beside-length}
 use Rattle.table.specs.Table.{table}
 use Rattle.owning.specs.Runs.{RunLeft}
-use Rattle.batching.proofs.Batching.{stops, goes-on, goes-on-far, passes-again}
+use Rattle.batching.proofs.Batching.{stops, goes-on-far, goes-on-added, goes-on-changed, passes-again}
 use borrow.Author.Needs.{needs}
 use Rattle.batches.proofs.batch_one.Statement.{statement}
 use Rattle.batches.proofs.batch_one.Tie as tie
@@ -32,8 +32,8 @@ shared-slice-read-confidence c = search needs
 fuse-sound-requires : tie.Need-fuse-sound-requires
 fuse-sound-requires c κs = search needs
 
-enum-known-answer : tie.Need-enum-known-answer
-enum-known-answer c = search needs
+enum-known-step : tie.Need-enum-known-step
+enum-known-step c = search needs
 
 enum-told : tie.Need-enum-told
 enum-told c = search needs
@@ -46,6 +46,12 @@ enum-told-2 c = search needs
 
 add-t32 : tie.Need-add-t32
 add-t32 c = search needs
+
+enum-told-3 : tie.Need-enum-told-3
+enum-told-3 c = search needs
+
+add-t33 : tie.Need-add-t33
+add-t33 c = search needs
 
 same-length : tie.Need-same-length
 same-length c = search needs
@@ -66,7 +72,7 @@ returns c =
     let h : a .from < length (a .batch-keys .now) = p .1 .0 in (
       stops (a .settings) (table (a .keys .now) (a .distances .now) (a .weights .now) (a .count .now))
           (a .batch-keys .now) (a .batch-distances .now) (a .batch-confidences .now) (a .from) (p .1 .1 .0) (p .1 .1 .1) h
-          _ _ (at-fuse-sound .fuse-sound .ensures) _ (c .before .answer .given .1),
+          _ _ (at-fuse-sound .fuse-sound .ensures) _ (c .before .step .given .1),
       passes-again (a .settings) (table (a .keys .now) (a .distances .now) (a .weights .now) (a .count .now))
           (a .batch-keys .now) (a .batch-distances .now) (a .batch-confidences .now) (a .from) (p .1 .1 .0) (p .1 .1 .1) h
           _ _ (at-fuse-sound .fuse-sound .ensures) (p .0),
@@ -120,9 +126,39 @@ returns-3 c =
     let p = at-start .pre in
     let h : a .from < length (a .batch-keys .now) = p .1 .0 in (
       (
-        goes-on (a .settings) (table (a .keys .now) (a .distances .now) (a .weights .now) (a .count .now))
+        goes-on-added (a .settings) (table (a .keys .now) (a .distances .now) (a .weights .now) (a .count .now))
             (a .batch-keys .now) (a .batch-distances .now) (a .batch-confidences .now) (a .from) (p .1 .1 .0) (p .1 .1 .1)
-            h _ _ (at-fuse-sound .fuse-sound .ensures) (c .enum-told2 .given .1),
+            h _ _ (at-fuse-sound .fuse-sound .ensures) _ (c .enum-told2 .given .1),
+        omega arith,
+        rw (beside-length (a .batch-keys .now) (a .batch-distances .now) (a .batch-confidences .now) (p .1 .1 .0)
+            (p .1 .1 .1)) (omega arith),
+      ),
+      passes-again (a .settings) (table (a .keys .now) (a .distances .now) (a .weights .now) (a .count .now))
+          (a .batch-keys .now) (a .batch-distances .now) (a .batch-confidences .now) (a .from) (p .1 .1 .0) (p .1 .1 .1) h
+          _ _ (at-fuse-sound .fuse-sound .ensures) (p .0),
+    )
+
+same-length-10 : tie.Need-same-length-10
+same-length-10 c = search needs
+
+same-length-11 : tie.Need-same-length-11
+same-length-11 c = search needs
+
+same-length-12 : tie.Need-same-length-12
+same-length-12 c = search needs
+
+returns-4 : tie.Need-returns-4
+unfolding RunLeft
+returns-4 c =
+    let at-fuse-sound = c .before .before .before .before .before .before .before .before in
+    let at-start = at-fuse-sound .before .before .before .before .before .before .before .before .before .before .before .before .before .before in
+    let a = at-start .args in
+    let p = at-start .pre in
+    let h : a .from < length (a .batch-keys .now) = p .1 .0 in (
+      (
+        goes-on-changed (a .settings) (table (a .keys .now) (a .distances .now) (a .weights .now) (a .count .now))
+            (a .batch-keys .now) (a .batch-distances .now) (a .batch-confidences .now) (a .from) (p .1 .1 .0) (p .1 .1 .1)
+            h _ _ (at-fuse-sound .fuse-sound .ensures) _ (c .enum-told3 .given .1),
         omega arith,
         rw (beside-length (a .batch-keys .now) (a .batch-distances .now) (a .batch-confidences .now) (p .1 .1 .0)
             (p .1 .1 .1)) (omega arith),
@@ -143,11 +179,13 @@ batch-one-spec =
     mul-confidence
     shared-slice-read-confidence
     fuse-sound-requires
-    enum-known-answer
+    enum-known-step
     enum-told
     add-t31
     enum-told-2
     add-t32
+    enum-told-3
+    add-t33
     same-length
     same-length-2
     same-length-3
@@ -159,4 +197,8 @@ batch-one-spec =
     same-length-7
     same-length-8
     same-length-9
-    returns-3)
+    returns-3
+    same-length-10
+    same-length-11
+    same-length-12
+    returns-4)

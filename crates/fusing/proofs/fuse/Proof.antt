@@ -1,7 +1,7 @@
 -- `fusing::fuse` meets its contract: the check of the table, then `fuse_sound`.
 -- Assumes nothing.
-use mathlib.Core.Path.{_∙_, sym}
-use Rattle.fusing.specs.Fusing.{fuse, fuseIf}
+use mathlib.Core.Path.{_∙_, ap, sym}
+use Rattle.fusing.specs.Fusing.{fuse, fuseIf, effectOf, answered}
 use borrow.Author.Needs.{needs}
 use Rattle.fusing.proofs.fuse.Statement.{statement}
 use Rattle.fusing.proofs.fuse.Tie as tie
@@ -20,6 +20,9 @@ fuse-sound-requires c κs =
     let at-check-table = c .before .before .before .before .before .before in
     sym (at-check-table .check-table .ensures) ∙ c .before .before .before .before .enum-told .given .1
 
+fused-of-requires : tie.Need-fused-of-requires
+fused-of-requires c κs = search needs
+
 same-length : tie.Need-same-length
 same-length c = search needs
 
@@ -30,7 +33,7 @@ same-length-3 : tie.Need-same-length-3
 same-length-3 c = search needs
 
 returns : tie.Need-returns
-unfolding fuse fuseIf
+unfolding fuse effectOf fuseIf
 returns c = rw (← c .before .before .before .check-table .ensures, c .before .why .given .1)
 
 same-length-4 : tie.Need-same-length-4
@@ -43,7 +46,10 @@ same-length-6 : tie.Need-same-length-6
 same-length-6 c = search needs
 
 returns-2 : tie.Need-returns-2
-returns-2 c = search needs
+unfolding fuse
+returns-2 c =
+    let at-fuse-sound = c .before .before .before .before .before .before .before in
+    rw (c .fused-of .ensures) (ap answered (at-fuse-sound .fuse-sound .ensures))
 
 pub fuse-spec : {M : Type 1} → statement M
 fuse-spec =
@@ -53,6 +59,7 @@ fuse-spec =
     enum-known-why
     enum-told
     fuse-sound-requires
+    fused-of-requires
     same-length
     same-length-2
     same-length-3

@@ -1,6 +1,6 @@
 -- `fusing::fuse_sound` meets its contract: the tests of `admit`, then `fuse_near`.
 -- Assumes nothing.
-use Rattle.fusing.specs.Fusing.{fuse, fuseIf, fusedIf}
+use Rattle.fusing.specs.Fusing.{effectOf, fuseIf, fusedIf}
 use Rattle.table.proofs.Checking.{sound}
 use borrow.Author.Needs.{needs}
 use Rattle.fusing.proofs.fuse_sound.Statement.{statement}
@@ -18,19 +18,22 @@ enum-told c = search needs
 enum-known-near : tie.Need-enum-known-near
 enum-known-near c = search needs
 
+averaging-of-requires : tie.Need-averaging-of-requires
+averaging-of-requires c κs = search needs
+
 fuse-near-requires : tie.Need-fuse-near-requires
 fuse-near-requires c κs =
-    let at-start = c .before .before .before .before .before .before .before .before .before .before .before in
+    let at-start = c .before .before .before .before .before .before .before .before .before .before .before .before in
     let k = sound _ _ (at-start .pre) in (k .lengths, k .order)
 
 returns : tie.Need-returns
-unfolding fuse fuseIf fusedIf
+unfolding effectOf fuseIf fusedIf
 returns c =
     let at-start = c .before .before .before .before .before .before .before in
     rw (at-start .pre, ← c .before .before .before .admit .ensures, c .before .why .given .1)
 
 returns-2 : tie.Need-returns-2
-unfolding fuse fuseIf fusedIf
+unfolding effectOf fuseIf fusedIf
 returns-2 c =
     let at-start = c .before .before .before .before .before .before in
     rw (at-start .pre, ← c .before .before .admit .ensures, c .enum-told .given .1)
@@ -45,13 +48,15 @@ same-length-3 : tie.Need-same-length-3
 same-length-3 c = search needs
 
 returns-3 : tie.Need-returns-3
-unfolding fuse fuseIf fusedIf
+unfolding effectOf fuseIf fusedIf
 returns-3 c =
     let at-fuse-near = c .before .before .before .before .before .before in
-    let at-near = at-fuse-near .before .before .before .before .before .before in
+    let at-how = at-fuse-near .before .before .before .before .before in
+    let at-near = at-how .before .before in
     let at-admit = at-near .before .before in
     let at-start = at-admit .before .before .before .before in
-    rw (at-start .pre, ← at-admit .admit .ensures, at-near .near .given .1) (at-fuse-near .fuse-near .ensures)
+    rw (at-start .pre, ← at-admit .admit .ensures, at-near .near .given .1, ← at-how .averaging-of .ensures)
+    (at-fuse-near .fuse-near .ensures)
 
 pub fuse-sound-spec : {M : Type 1} → statement M
 fuse-sound-spec =
@@ -61,6 +66,7 @@ fuse-sound-spec =
     enum-known-why
     enum-told
     enum-known-near
+    averaging-of-requires
     fuse-near-requires
     returns
     returns-2

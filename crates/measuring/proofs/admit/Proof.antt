@@ -4,7 +4,7 @@ use mathlib.Core.Path.{_∙_, sym}
 use Rattle.measuring.specs.Readings.{admitted, admitIf}
 use Rattle.lists.proofs.Bools.{yes, no}
 use borrow.Author.Needs.{needs}
-use Rattle.measuring.proofs.Admitting.{size-known}
+use Rattle.table.proofs.SettingsLaws.{settings-known}
 use Rattle.measuring.proofs.admit.Statement.{statement}
 use Rattle.measuring.proofs.admit.Tie as tie
 
@@ -25,7 +25,7 @@ returns-2 c =
     rw (yes (e .before .is-on-lattice .ensures) (e .if1 .left), no (c .before .reading-ok .ensures) (c .if2 .taken))
 
 measure-requires : tie.Need-measure-requires
-measure-requires c κs = (size-known _ (c .before .before .before .before .pre), yes (c .before .reading-ok .ensures) (c .if2 .left))
+measure-requires c κs = (settings-known _ (c .before .before .before .before .pre) .size, yes (c .before .reading-ok .ensures) (c .if2 .left))
 
 beyond-requires : tie.Need-beyond-requires
 beyond-requires c κs = search needs

@@ -36,10 +36,13 @@ enum-told-2 c = search needs
 enum-known-place : tie.Need-enum-known-place
 enum-known-place c = search needs
 
+averaging-of-requires : tie.Need-averaging-of-requires
+averaging-of-requires c κs = search needs
+
 fuse-place-requires : tie.Need-fuse-place-requires
 fuse-place-requires c κs =
-    let s = c .before .before .before .before .before .before .before .before .before .before .before .before .before in
-    let o = own-told _ _ _ _ _ (c .before .before .before .before .before .own-place .ensures) (c .before .before .before .place .given .1) in
+    let s = c .before .before .before .before .before .before .before .before .before .before .before .before .before .before in
+    let o = own-told _ _ _ _ _ (c .before .before .before .before .before .before .own-place .ensures) (c .before .before .before .before .place .given .1) in
     let f =
     (lengths-known (length (s .args .own-keys .now)) (length (s .args .own-distances .now))
     (length (s .args .own-weights .now)) (s .args .own) (s .pre .1)) in
@@ -66,18 +69,18 @@ same-length-2 c = search needs
 
 returns-4 : tie.Need-returns-4
 returns-4 c =
-    let at-place = c .before .before .before .before .before .before .before .before in
+    let at-place = c .before .before .before .before .before .before .before .before .before in
     let at-own-place = at-place .before .before in
     let at-near = at-own-place .before .before in
     let at-admit = at-near .before .before in
-    let s = c .before .before .before .before .before .before .before .before .before .before .before .before .before .before .before .before .before .before in
+    let s = c .before .before .before .before .before .before .before .before .before .before .before .before .before .before .before .before .before .before .before in
     let o = own-told _ _ _ _ _ (at-own-place .own-place .ensures) (at-place .place .given .1) in
     let n = sym (at-admit .admit .ensures) ∙ at-near .near .given .1 in
     λ t added ready room.
     near-left (s .args .settings) t (s .args .own-keys .now) (s .args .own-distances .now) (s .args .own-weights .now)
     (s .args .own) added ready _ (s .args .key) (o .0) (o .1) _ (near-known _ _ _ _ n .1)
     (row (s .args .key) (s .args .distance) (s .args .confidence)) refl n (s .args .spare) room _ _ _
-    (c .before .before .before .before .fuse-place .ensures)
+    (rw (c .before .before .before .before .before .before .before .averaging-of .ensures) at (c .before .before .before .before .fuse-place .ensures))
 
 pub fuse-own-spec : {M : Type 1} → statement M
 fuse-own-spec =
@@ -90,6 +93,7 @@ fuse-own-spec =
     own-place-requires
     enum-told-2
     enum-known-place
+    averaging-of-requires
     fuse-place-requires
     returns
     returns-2

@@ -10,7 +10,7 @@ use lib.Ieee.{nan}
 use Rattle.table.proofs.RowLaws.{beside-length}
 use Rattle.table.specs.Table.{row, beside}
 use Rattle.batching.proofs.Batching.{beside-at}
-use Rattle.owning.proofs.Running.{Running, keeps, adds, refuses, stays, ends}
+use Rattle.owning.proofs.Running.{Running, passes-over, changes, adds, refuses, stays, ends}
 use borrow.Author.Needs.{needs}
 use Rattle.owning.proofs.fuse_run.Statement.{statement}
 use Rattle.owning.proofs.fuse_run.Tie as tie
@@ -101,7 +101,7 @@ loop-again c =
       omega arith,
       at-fuse-own .fuse-own .kept .1 .1 .0 ∙ l .inv .3,
       at-fuse-own .fuse-own .kept .1 .1 .1 .0 ∙ l .inv .4,
-      keeps (s .args .settings) (s .args .own-keys .now) (s .args .own-distances .now) (s .args .own-weights .now)
+      passes-over (s .args .settings) (s .args .own-keys .now) (s .args .own-distances .now) (s .args .own-weights .now)
           (s .args .own) (s .args .room)
           (beside (s .args .batch-keys .now) (s .args .batch-distances .now) (s .args .batch-confidences .now))
           (s .args .from) (l .i) (l .added) (l .own-distances) (l .own-weights) (l .inv .5)
@@ -115,10 +115,6 @@ loop-again c =
 
 enum-told-2 : tie.Need-enum-told-2 Inv-loop μ-loop
 enum-told-2 c = search needs
-
-add-added : tie.Need-add-added Inv-loop μ-loop
-add-added c =
-    omega arith
 
 add-i-2 : tie.Need-add-i-2 Inv-loop μ-loop
 add-i-2 c =
@@ -142,7 +138,7 @@ loop-again-2 c =
       omega arith,
       at-fuse-own .fuse-own .kept .1 .1 .0 ∙ l .inv .3,
       at-fuse-own .fuse-own .kept .1 .1 .1 .0 ∙ l .inv .4,
-      adds (s .args .settings) (s .args .own-keys .now) (s .args .own-distances .now) (s .args .own-weights .now)
+      changes (s .args .settings) (s .args .own-keys .now) (s .args .own-distances .now) (s .args .own-weights .now)
           (s .args .own) (s .args .room)
           (beside (s .args .batch-keys .now) (s .args .batch-distances .now) (s .args .batch-confidences .now))
           (s .args .from) (l .i) (l .added) (l .own-distances) (l .own-weights) (l .inv .5)
@@ -156,6 +152,47 @@ loop-again-2 c =
 
 enum-told-3 : tie.Need-enum-told-3 Inv-loop μ-loop
 enum-told-3 c = search needs
+
+add-added : tie.Need-add-added Inv-loop μ-loop
+add-added c =
+    omega arith
+
+add-i-3 : tie.Need-add-i-3 Inv-loop μ-loop
+add-i-3 c =
+    omega arith
+
+loop-less-3 : tie.Need-loop-less-3 Inv-loop μ-loop
+loop-less-3 c =
+    omega arith
+
+loop-again-3 : tie.Need-loop-again-3 Inv-loop μ-loop
+loop-again-3 c =
+    let at-fuse-own = c .before .before .before .before .before .before in
+    let at-loop-test = at-fuse-own .before .before .before .before .before .before .before in
+    let at-loop = at-loop-test .before in
+    let s = c .before .before .before .before .before .before .before .before .before .before .before .before .before
+    .before .before .before .before .before .before .before .before in
+    let l = at-loop .loop in
+    let h : l .i < length (s .args .batch-keys .now) = omega (arith, at-loop-test .loop-test .taken) in (
+      omega arith,
+      omega (arith, at-loop-test .loop-test .taken),
+      omega arith,
+      at-fuse-own .fuse-own .kept .1 .1 .0 ∙ l .inv .3,
+      at-fuse-own .fuse-own .kept .1 .1 .1 .0 ∙ l .inv .4,
+      adds (s .args .settings) (s .args .own-keys .now) (s .args .own-distances .now) (s .args .own-weights .now)
+          (s .args .own) (s .args .room)
+          (beside (s .args .batch-keys .now) (s .args .batch-distances .now) (s .args .batch-confidences .now))
+          (s .args .from) (l .i) (l .added) (l .own-distances) (l .own-weights) (l .inv .5)
+          (row (getD (s .args .batch-keys .now) (l .i) 0) (getD (s .args .batch-distances .now) (l .i) nan)
+          (getD (s .args .batch-confidences .now) (l .i) nan))
+          (beside-at (s .args .batch-keys .now) (s .args .batch-distances .now) (s .args .batch-confidences .now) (l .i)
+          (s .pre .1 .1 .1 .0) (s .pre .1 .1 .1 .1) h) (ltb (l .added) (s .args .room))
+          (λ b. ltb-true (l .added) (s .args .room) b) _ _
+          (rw (c .enum-told3 .given .1) at (at-fuse-own .fuse-own .ensures)),
+    )
+
+enum-told-4 : tie.Need-enum-told-4 Inv-loop μ-loop
+enum-told-4 c = search needs
 
 same-length : tie.Need-same-length Inv-loop μ-loop
 same-length c =
@@ -191,7 +228,7 @@ returns c =
     (λ b. ltb-true (l .added) (s .args .room) b) _ _ (omega arith)
     (rw (beside-length (s .args .batch-keys .now) (s .args .batch-distances .now) (s .args .batch-confidences .now)
     (s .pre .1 .1 .1 .0) (s .pre .1 .1 .1 .1)) (omega arith))
-    (rw (c .enum-told3 .given .1) at (at-fuse-own .fuse-own .ensures))
+    (rw (c .enum-told4 .given .1) at (at-fuse-own .fuse-own .ensures))
 
 enum-known-step : tie.Need-enum-known-step Inv-loop μ-loop
 enum-known-step c = search needs
@@ -271,11 +308,15 @@ fuse-run-spec =
     loop-less
     loop-again
     enum-told-2
-    add-added
     add-i-2
     loop-less-2
     loop-again-2
     enum-told-3
+    add-added
+    add-i-3
+    loop-less-3
+    loop-again-3
+    enum-told-4
     same-length
     same-length-2
     returns
