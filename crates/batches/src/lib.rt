@@ -6,17 +6,15 @@ use fusing::fuse_sound;
 use measuring::Reading;
 use owning::Run;
 use owning::batch_run;
-use refusals::Refusal;
 use table::Checked;
 use table::Settings;
-use table::check_table;
+use table::check_with;
 use table::lengths_ok;
-use table::settings_ok;
 ghost use mathlib.Core.Path.{_≡_};
 ghost use Prim.Native.Nat.{_+_, _<_};
 ghost use lib.ListN.{length};
-ghost use Rattle.table.specs.Table.{table, beside, tableCheck};
-ghost use Rattle.batching.specs.Batches.{batchOutcome, batchFrom, batch};
+ghost use Rattle.table.specs.Table.{table, tableCheck};
+ghost use Rattle.batching.specs.Batches.{batchOutcome, entries, batchFrom, batch};
 ghost use Rattle.owning.specs.Runs.{RunTo};
 
 // One reading of a batch, into the table itself.
@@ -36,7 +34,7 @@ fn batch_one(
     requires { ⌜ (length (now «batch_distances») ≡ length (now «batch_keys»)) × (length (now «batch_confidences») ≡ length (now «batch_keys»)) ⌝ }
     ensures { λ r. ⌜ RunTo settings
         (table (now (keys .entry)) (now (distances .entry)) (now (weights .entry)) (now (count .entry)))
-        (beside (now («batch_keys» .entry)) (now («batch_distances» .entry)) (now («batch_confidences» .entry))) from
+        (entries (now («batch_keys» .entry)) (now («batch_distances» .entry)) (now («batch_confidences» .entry))) from
         (from + 1) r (table (now (keys .exit)) (now (distances .exit)) (now (weights .exit)) (now (count .exit))) ⌝ }
 {
     let key = batch_keys[from];
@@ -72,7 +70,7 @@ fn batch_step(
     requires { ⌜ (length (now «batch_distances») ≡ length (now «batch_keys»)) × (length (now «batch_confidences») ≡ length (now «batch_keys»)) ⌝ }
     ensures { λ r. ⌜ RunTo settings
         (table (now (keys .entry)) (now (distances .entry)) (now (weights .entry)) (now (count .entry)))
-        (beside (now («batch_keys» .entry)) (now («batch_distances» .entry)) (now («batch_confidences» .entry))) from
+        (entries (now («batch_keys» .entry)) (now («batch_distances» .entry)) (now («batch_confidences» .entry))) from
         (from + 1) r (table (now (keys .exit)) (now (distances .exit)) (now (weights .exit)) (now (count .exit))) ⌝ }
 {
     if batch_keys.len() - from < 16 {
@@ -138,7 +136,7 @@ fn batch_sound(
     ensures { λ r. ⌜ batchOutcome r (table (now (keys .exit)) (now (distances .exit)) (now (weights .exit)) (now (count .exit)))
         ≡ batchFrom settings 0
         (table (now (keys .entry)) (now (distances .entry)) (now (weights .entry)) (now (count .entry)))
-        (beside (now («batch_keys» .entry)) (now («batch_distances» .entry)) (now («batch_confidences» .entry))) ⌝ }
+        (entries (now («batch_keys» .entry)) (now («batch_distances» .entry)) (now («batch_confidences» .entry))) ⌝ }
 {
     let mut i = 0;
     while i < batch_keys.len() {
@@ -181,18 +179,13 @@ pub fn batch_update(
         (table (now (keys .entry)) (now (distances .entry)) (now (weights .entry)) (now (count .entry)))
         (now («batch_keys» .entry)) (now («batch_distances» .entry)) (now («batch_confidences» .entry)) ⌝ }
 {
-    if !settings_ok(settings) {
-        return Batched::Refused(Refusal::Setting, 0);
-    }
-    if !lengths_ok(
+    let fits = lengths_ok(
         batch_keys.len(),
         batch_distances.len(),
         batch_confidences.len(),
         0,
-    ) {
-        return Batched::Refused(Refusal::Lengths, 0);
-    }
-    match check_table(settings, keys, distances, weights, *count) {
+    );
+    match check_with(fits, settings, keys, distances, weights, *count) {
         Checked::Refused(why) => Batched::Refused(why, 0),
         Checked::Passed => batch_sound(
             settings,

@@ -2,42 +2,36 @@
 -- readings in turn, and what a part leaves passes the tests again.
 -- Assumes nothing.
 use mathlib.Core.Path.{_≡_, refl, sym, ap, _∙_}
-use mathlib.Core.Bool.{Bool, true, false}
+use mathlib.Core.Bool.{true}
 use mathlib.Core.List.{List, [], _∷_, _++_}
 use Prim.Native.Nat.{ℕ, suc, _+_, _≤_, _<_, zero-le, suc-le-suc}
-use native.Mathlib.Nat.{add-zero, add-suc, suc-add, suc-inj, suc-ne-zero, zero-add}
+use native.Mathlib.Nat.{add-zero, add-suc, suc-add, zero-add}
 use native.Mathlib.Omega.{arith}
 use borrow.Author.Tests.{le-leb, eq-eqb}
 use lib.ListN.{length, take, length-append}
 use lib.Ieee.{Float}
+use Rattle.lists.specs.Beside.{besideBy}
+use Rattle.lists.proofs.BesideLaws.{by-length, by-append}
 use Rattle.refusals.specs.declared.Refusal.{Refusal}
-use Rattle.refusals.specs.declared.Refusal.the-variants.{Setting}
 use Rattle.table.specs.declared.Settings.{Settings}
 use Rattle.table.specs.declared.Checked.{Checked}
 use Rattle.table.specs.declared.Checked.the-variants as Checked
-use Rattle.table.specs.Table.{Row, row, Table, beside, settingsOk, lengthsOk, need, tableCheck}
-use Rattle.table.proofs.RowLaws.{beside-length}
+use Rattle.table.specs.Table.{Table, lengthsOk, tableCheck}
+use Rattle.table.proofs.Checking.{with-fit}
 use Rattle.fusing.specs.declared.Fused.{Fused}
 use Rattle.fusing.specs.declared.Fused.the-variants as Fused
 use Rattle.batching.specs.declared.Batched.{Batched}
 use Rattle.batching.specs.declared.Batched.the-variants as Batched
 use Rattle.fusing.specs.Fusing.{Outcome, fuseIf, effectOf, fuse}
-use Rattle.batching.specs.Batches.{BatchOutcome, batchOutcome, directOf, stopOr, batchFrom, batchIf, batchCheck, batch}
+use Rattle.batching.specs.Batches.{BatchOutcome, batchOutcome, Entry, entry, entries, directOf, stopOr, batchFrom, batchIf, batchCheck, batch}
 use Rattle.fusing.proofs.Keeping.{fuse-keeps}
 use Rattle.fusing.proofs.FuseLaws.{refused-unchanged}
 
 -- ---- the tests
 
--- the settings are tested once
-twice : (b : Bool) (why : Refusal) (rest : Checked) → need b why (need b why rest) ≡ need b why rest
-unfolding need
-twice true why rest = refl
-twice false why rest = refl
-
 -- lists of readings that fit leave the table's tests
 check-once : (s : Settings) (t : Table) (a b c : ℕ) → lengthsOk a b c 0 ≡ true → batchCheck s t a b c ≡ tableCheck s t
-unfolding need tableCheck
-check-once s t a b c h = rw h (twice (settingsOk s) Setting _)
+check-once s t a b c h = with-fit (lengthsOk a b c 0) s t h
 
 fits : (a b c : ℕ) → b ≡ a → c ≡ a → a ≤ 65536 → lengthsOk a b c 0 ≡ true
 fits a b c p q h = rw (eq-eqb a b (sym p), eq-eqb a c (sym q), le-leb a 65536 h, le-leb 0 a (omega arith))
@@ -48,12 +42,12 @@ fits a b c p q h = rw (eq-eqb a b (sym p), eq-eqb a c (sym q), le-leb a 65536 h,
 abbrev pub asBatch : Outcome → BatchOutcome
 asBatch o = stopOr (o .answer) 0 (o .left) (batchOutcome Batched.Done (o .left))
 
-pub batch-of-one : (s : Settings) (t : Table) (k : ℕ) (d c : Float) → batch s t (k ∷ []) (d ∷ []) (c ∷ []) ≡ asBatch (fuse s t k (directOf (row k d c)))
-unfolding batch batchIf batchFrom beside fuse effectOf fuseIf stopOr
+pub batch-of-one : (s : Settings) (t : Table) (k : ℕ) (d c : Float) → batch s t (k ∷ []) (d ∷ []) (c ∷ []) ≡ asBatch (fuse s t k (directOf (entry k d c)))
+unfolding batch batchIf batchFrom besideBy fuse effectOf fuseIf stopOr
 batch-of-one s t k d c =
-    ap (λ (q : Checked). batchIf q s t (row k d c ∷ [])) (check-once s t 1 1 1 refl) ∙ go (tableCheck s t) refl
+    ap (λ (q : Checked). batchIf q s t (entry k d c ∷ [])) (check-once s t 1 1 1 refl) ∙ go (tableCheck s t) refl
   where
-    go : (q : Checked) → tableCheck s t ≡ q → batchIf q s t (row k d c ∷ []) ≡ asBatch (fuse s t k (directOf (row k d c)))
+    go : (q : Checked) → tableCheck s t ≡ q → batchIf q s t (entry k d c ∷ []) ≡ asBatch (fuse s t k (directOf (entry k d c)))
     go (Checked.Refused why) e = rw e
     go Checked.Passed e = refl
 
@@ -72,7 +66,7 @@ counted n (Batched.Refused why i) = Batched.Refused why (n + i)
 abbrev pub countedFrom : ℕ → BatchOutcome → BatchOutcome
 countedFrom n o = batchOutcome (counted n (o .answer)) (o .left)
 
-from-counted : (s : Settings) (n i : ℕ) (t : Table) (rs : List Row) → batchFrom s (n + i) t rs ≡ countedFrom n (batchFrom s i t rs)
+from-counted : (s : Settings) (n i : ℕ) (t : Table) (rs : List Entry) → batchFrom s (n + i) t rs ≡ countedFrom n (batchFrom s i t rs)
 unfolding batchFrom stopOr counted
 from-counted s n i t [] = refl
 from-counted s n i t (r ∷ rs) =
@@ -88,7 +82,7 @@ from-counted s n i t (r ∷ rs) =
     go Fused.Stored u h = h u
 
 from-splits :
-    (s : Settings) (i : ℕ) (t : Table) (rs qs : List Row)
+    (s : Settings) (i : ℕ) (t : Table) (rs qs : List Entry)
     → batchFrom s i t (rs ++ qs) ≡ followedBy (batchFrom s i t rs .answer) (batchFrom s i t rs .left) (λ u. batchFrom s (i + length rs) u qs)
 unfolding batchFrom stopOr followedBy
 from-splits s i t [] qs = rw add-zero
@@ -107,7 +101,7 @@ from-splits s i t (r ∷ rs) qs = go (fuse s t (r .key) (directOf r) .answer) (f
     go Fused.Stored u h = rw (add-suc i (length rs), ← suc-add i (length rs)) (h u)
 
 -- a batch keeps an accepted table accepted
-from-keeps : (s : Settings) (i : ℕ) (t : Table) (rs : List Row) → tableCheck s t ≡ Checked.Passed → tableCheck s (batchFrom s i t rs .left) ≡ Checked.Passed
+from-keeps : (s : Settings) (i : ℕ) (t : Table) (rs : List Entry) → tableCheck s t ≡ Checked.Passed → tableCheck s (batchFrom s i t rs .left) ≡ Checked.Passed
 unfolding batchFrom stopOr
 from-keeps s i t [] e = e
 from-keeps s i t (r ∷ rs) e =
@@ -130,22 +124,9 @@ pub batch-keeps :
 unfolding batch batchIf
 batch-keeps s t ks ds cs e = go (batchCheck s t (length ks) (length ds) (length cs))
   where
-    go : (q : Checked) → tableCheck s (batchIf q s t (beside ks ds cs) .left) ≡ Checked.Passed
+    go : (q : Checked) → tableCheck s (batchIf q s t (entries ks ds cs) .left) ≡ Checked.Passed
     go (Checked.Refused why) = e
-    go Checked.Passed = from-keeps s 0 t (beside ks ds cs) e
-
-beside-append :
-    (ks ks' : List ℕ) (ds ds' cs cs' : List Float)
-    → length ds ≡ length ks
-    → length cs ≡ length ks
-    → beside (ks ++ ks') (ds ++ ds') (cs ++ cs') ≡ beside ks ds cs ++ beside ks' ds' cs'
-unfolding beside
-beside-append [] ks' [] ds' [] cs' p q = refl
-beside-append [] ks' (d ∷ ds) ds' cs cs' p q = absurd (suc-ne-zero _ p)
-beside-append [] ks' [] ds' (c ∷ cs) cs' p q = absurd (suc-ne-zero _ q)
-beside-append (k ∷ ks) ks' [] ds' cs cs' p q = absurd (suc-ne-zero _ (sym p))
-beside-append (k ∷ ks) ks' (d ∷ ds) ds' [] cs' p q = absurd (suc-ne-zero _ (sym q))
-beside-append (k ∷ ks) ks' (d ∷ ds) ds' (c ∷ cs) cs' p q = ap {B = List Row} (λ rs. row k d c ∷ rs) (beside-append ks ks' ds ds' cs cs' (suc-inj p) (suc-inj q))
+    go Checked.Passed = from-keeps s 0 t (entries ks ds cs) e
 
 followed-same : (a : Batched) (u : Table) (f g : Table → BatchOutcome) → f u ≡ g u → followedBy a u f ≡ followedBy a u g
 unfolding followedBy
@@ -173,20 +154,20 @@ batch-splits s t ks ks' ds ds' cs cs' p q p' q' h =
     rw (
       check-once s t (length (ks ++ ks')) (length (ds ++ ds')) (length (cs ++ cs')) whole,
       check-once s t (length ks) (length ds) (length cs) first,
-      beside-append ks ks' ds ds' cs cs' p q,
+      by-append entry ks ks' ds ds' cs cs' p q,
     )
     (go (tableCheck s t) refl)
   where
     second :
         (u : Table)
         → tableCheck s u ≡ Checked.Passed
-        → batchFrom s (0 + length (beside ks ds cs)) u (beside ks' ds' cs')
+        → batchFrom s (0 + length (entries ks ds cs)) u (entries ks' ds' cs')
         ≡ countedFrom (length ks)
-        (batchIf (batchCheck s u (length ks') (length ds') (length cs')) s u (beside ks' ds' cs'))
+        (batchIf (batchCheck s u (length ks') (length ds') (length cs')) s u (entries ks' ds' cs'))
     second u e =
-        ap (λ (j : ℕ). batchFrom s j u (beside ks' ds' cs')) (zero-add (length (beside ks ds cs)) ∙ beside-length ks ds cs p q ∙ sym (add-zero (length ks)))
-        ∙ from-counted s (length ks) 0 u (beside ks' ds' cs')
-        ∙ ap (λ (r : Checked). countedFrom (length ks) (batchIf r s u (beside ks' ds' cs')))
+        ap (λ (j : ℕ). batchFrom s j u (entries ks' ds' cs')) (zero-add (length (entries ks ds cs)) ∙ by-length entry ks ds cs p q ∙ sym (add-zero (length ks)))
+        ∙ from-counted s (length ks) 0 u (entries ks' ds' cs')
+        ∙ ap (λ (r : Checked). countedFrom (length ks) (batchIf r s u (entries ks' ds' cs')))
         (sym (check-once s u (length ks') (length ds') (length cs')
         (fits (length ks') (length ds') (length cs') p' q' (omega arith))
         ∙ e))
@@ -194,31 +175,31 @@ batch-splits s t ks ks' ds ds' cs cs' p q p' q' h =
     go :
         (r : Checked)
         → tableCheck s t ≡ r
-        → batchIf r s t (beside ks ds cs ++ beside ks' ds' cs')
-        ≡ followedBy (batchIf r s t (beside ks ds cs) .answer) (batchIf r s t (beside ks ds cs) .left)
+        → batchIf r s t (entries ks ds cs ++ entries ks' ds' cs')
+        ≡ followedBy (batchIf r s t (entries ks ds cs) .answer) (batchIf r s t (entries ks ds cs) .left)
         (λ u.
         countedFrom (length ks)
-        (batchIf (batchCheck s u (length ks') (length ds') (length cs')) s u (beside ks' ds' cs')))
+        (batchIf (batchCheck s u (length ks') (length ds') (length cs')) s u (entries ks' ds' cs')))
     go (Checked.Refused why) e = refl
     go Checked.Passed e =
-        let o = batchFrom s 0 t (beside ks ds cs) in
-        from-splits s 0 t (beside ks ds cs) (beside ks' ds' cs')
-        ∙ followed-same (o .answer) (o .left) (λ u. batchFrom s (0 + length (beside ks ds cs)) u (beside ks' ds' cs'))
+        let o = batchFrom s 0 t (entries ks ds cs) in
+        from-splits s 0 t (entries ks ds cs) (entries ks' ds' cs')
+        ∙ followed-same (o .answer) (o .left) (λ u. batchFrom s (0 + length (entries ks ds cs)) u (entries ks' ds' cs'))
         (λ u.
         countedFrom (length ks)
-        (batchIf (batchCheck s u (length ks') (length ds') (length cs')) s u (beside ks' ds' cs')))
-        (second (o .left) (from-keeps s 0 t (beside ks ds cs) e))
+        (batchIf (batchCheck s u (length ks') (length ds') (length cs')) s u (entries ks' ds' cs')))
+        (second (o .left) (from-keeps s 0 t (entries ks ds cs) e))
 
 -- ---- a refused batch
 
 -- a batch whose first reading is the j-th and that names reading i: those before it went through, and leave what the batch leaves
-pub record Stands (s : Settings) (j : ℕ) (t : Table) (rs : List Row) (i : ℕ) : Type 0 where
+pub record Stands (s : Settings) (j : ℕ) (t : Table) (rs : List Entry) (i : ℕ) : Type 0 where
   pub earlier : ℕ
   pub named : i ≡ j + earlier
   pub inside : earlier < length rs
   pub same : batchFrom s j t (take earlier rs) ≡ batchOutcome Batched.Done (batchFrom s j t rs .left)
 
-stands : (s : Settings) (j : ℕ) (t : Table) (rs : List Row) (why : Refusal) (i : ℕ) → batchFrom s j t rs .answer ≡ Batched.Refused why i → Stands s j t rs i
+stands : (s : Settings) (j : ℕ) (t : Table) (rs : List Entry) (why : Refusal) (i : ℕ) → batchFrom s j t rs .answer ≡ Batched.Refused why i → Stands s j t rs i
 unfolding batchFrom stopOr
 stands s j t [] why i e = let z : _≡_ {A = ℕ} 0 1 = cc in absurd (omega arith)
 stands s j t (r ∷ rs) why i e = go (fuse s t (r .key) (directOf r) .answer) refl e (λ q. stands s (suc j) (fuse s t (r .key) (directOf r) .left) rs why i q)
@@ -250,6 +231,6 @@ pub earlier-stand :
     (s : Settings) (t : Table) (ks : List ℕ) (ds cs : List Float) (why : Refusal) (i : ℕ)
     → batchCheck s t (length ks) (length ds) (length cs) ≡ Checked.Passed
     → batch s t ks ds cs .answer ≡ Batched.Refused why i
-    → Stands s 0 t (beside ks ds cs) i
+    → Stands s 0 t (entries ks ds cs) i
 unfolding batch batchIf
-earlier-stand s t ks ds cs why i p e = stands s 0 t (beside ks ds cs) why i (rw p at e)
+earlier-stand s t ks ds cs why i p e = stands s 0 t (entries ks ds cs) why i (rw p at e)

@@ -5,56 +5,47 @@ use mathlib.Core.List.{List, [], _∷_}
 use Prim.Native.Nat.{ℕ, suc, _+_, _<_, _≤_}
 use native.Mathlib.Nat.{le-of-eq}
 use native.Mathlib.Numerals.{add-one}
-use native.Mathlib.Omega.{arith}
-use lib.ListN.{length, getD, drop, length-take, drop-of-length-le}
+use lib.ListN.{length, getD, drop}
 use lib.Ieee.{Float, nan}
+use Rattle.lists.proofs.BesideLaws.{by-at, by-past, by-whole}
 use Rattle.refusals.specs.declared.Refusal.{Refusal}
 use Rattle.table.specs.declared.Settings.{Settings}
 use Rattle.table.specs.declared.Checked.the-variants.{Passed}
-use Rattle.table.specs.Table.{row, Table, beside, rowsOf, tableCheck}
-use Rattle.table.proofs.RowLaws.{row-at}
+use Rattle.table.specs.Table.{Table, tableCheck}
 use Rattle.fusing.specs.declared.Step.{Step}
 use Rattle.fusing.specs.declared.Step.the-variants.{Far, Added, Changed, Refused}
 use Rattle.batching.specs.declared.Batched.the-variants as Batched
 use Rattle.fusing.specs.Fusing.{Effect, effect, effectOf, fusedOf, fuse}
-use Rattle.batching.specs.Batches.{BatchOutcome, batchOutcome, directOf, stopOr, batchFrom}
+use Rattle.batching.specs.Batches.{BatchOutcome, batchOutcome, entry, entries, directOf, stopOr, batchFrom}
 use Rattle.fusing.proofs.Keeping.{fuse-keeps}
 
--- the rows of all places are the lists side by side
-beside-whole : (ks : List ℕ) (ds ws : List Float) → rowsOf ks ds ws (length ks) ≡ beside ks ds ws
-unfolding beside
-beside-whole [] ds ws = refl
-beside-whole (k ∷ ks) [] ws = refl
-beside-whole (k ∷ ks) (d ∷ ds) [] = refl
-beside-whole (k ∷ ks) (d ∷ ds) (w ∷ ws) = ap (λ rs. row k d w ∷ rs) (beside-whole ks ds ws)
-
-pub beside-at :
-    (ks : List ℕ) (ds ws : List Float) (i : ℕ)
+-- the reading at place i, and those after it
+pub entry-at :
+    (ks : List ℕ) (ds cs : List Float) (i : ℕ)
     → length ds ≡ length ks
-    → length ws ≡ length ks
+    → length cs ≡ length ks
     → i < length ks
-    → drop i (beside ks ds ws) ≡ row (getD ks i 0) (getD ds i nan) (getD ws i nan) ∷ drop (suc i) (beside ks ds ws)
-beside-at ks ds ws i p q h = rw (beside-whole ks ds ws) at (row-at ks ds ws (length ks) i p q h (le-of-eq refl))
+    → drop i (entries ks ds cs) ≡ entry (getD ks i 0) (getD ds i nan) (getD cs i nan) ∷ drop (suc i) (entries ks ds cs)
+entry-at ks ds cs i p q h = rw (by-whole entry ks ds cs) at (by-at entry ks ds cs 0 nan nan (length ks) i p q h (le-of-eq refl))
 
-beside-past : (ks : List ℕ) (ds ws : List Float) (i : ℕ) → length ks ≤ i → drop i (beside ks ds ws) ≡ []
-beside-past ks ds ws i h =
-    rw (← beside-whole ks ds ws) (drop-of-length-le (rowsOf ks ds ws (length ks)) {i = i} (rw length-take (omega arith)))
+entries-past : (ks : List ℕ) (ds cs : List Float) (i : ℕ) → length ks ≤ i → drop i (entries ks ds cs) ≡ []
+entries-past ks ds cs i h = rw (by-whole entry ks ds cs) at (by-past entry ks ds cs (length ks) i h)
 
 module _ (s : Settings) (t : Table) (ks : List ℕ) (ds cs : List Float) (i : ℕ) where
   abbrev from : ℕ → Table → BatchOutcome
-  from j u = batchFrom s j u (drop j (beside ks ds cs))
+  from j u = batchFrom s j u (drop j (entries ks ds cs))
 
   -- no reading is left
   pub ended : length ks ≤ i → from i t ≡ batchOutcome Batched.Done t
   unfolding batchFrom
-  ended h = rw (beside-past ks ds cs i h)
+  ended h = rw (entries-past ks ds cs i h)
 
   -- the i-th reading does so and leaves u
   module _ (p : length ds ≡ length ks) (q : length cs ≡ length ks) (h : i < length ks) (step : Step) (u : Table)
-      (e : effect step u ≡ effectOf s t (getD ks i 0) (directOf (row (getD ks i 0) (getD ds i nan) (getD cs i nan)))) where
+      (e : effect step u ≡ effectOf s t (getD ks i 0) (directOf (entry (getD ks i 0) (getD ds i nan) (getD cs i nan)))) where
     one : from i t ≡ stopOr (fusedOf step) i u (from (i + 1) u)
     unfolding batchFrom fuse
-    one = rw (beside-at ks ds cs i p q h, ← e, add-one)
+    one = rw (entry-at ks ds cs i p q h, ← e, add-one)
 
     pub stops : (why : Refusal) → step ≡ Refused why → from i t ≡ batchOutcome (Batched.Refused why i) u
     unfolding stopOr
@@ -77,4 +68,4 @@ module _ (s : Settings) (t : Table) (ks : List ℕ) (ds cs : List Float) (i : �
     unfolding fuse
     passes-again c =
         ap (λ (o : Effect). tableCheck s (o .left)) e
-        ∙ fuse-keeps s t (getD ks i 0) (directOf (row (getD ks i 0) (getD ds i nan) (getD cs i nan))) c
+        ∙ fuse-keeps s t (getD ks i 0) (directOf (entry (getD ks i 0) (getD ds i nan) (getD cs i nan))) c

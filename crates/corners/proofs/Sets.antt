@@ -11,8 +11,10 @@ use borrow.Author.Tests.{leb-true, eqb-true}
 use lib.Dec.{leb, eqb}
 use lib.ListN.{length, getD, take, drop, length-take, drop-of-length-le}
 use lib.Seq.{getD-drop}
+use Rattle.lists.specs.Beside.{besideBy}
+use Rattle.lists.proofs.BesideLaws.{by-at, by-past}
 use Rattle.lists.proofs.Bools.{and-first, and-second}
-use Rattle.corners.specs.Corners.{setOk, beside, every}
+use Rattle.corners.specs.Corners.{setOk, every}
 use Rattle.corners.specs.Steps.{Lent}
 
 -- lengths that pass
@@ -34,61 +36,45 @@ both-lent xs ys zs n is js ks m e =
     (lent xs ys zs n (and-first _ _ e), lent is js ks m (and-second (setOk (length xs) (length ys) (length zs) n) _ e))
 
 module _ {A B : Type 0} (make : A → A → A → B) (d : A) where
-  entry-at :
-      (xs ys zs : List A) (n i : ℕ)
-      → length ys ≡ length xs
-      → length zs ≡ length xs
-      → i < n
-      → n ≤ length xs
-      → drop i (take n (beside make xs ys zs)) ≡ make (getD xs i d) (getD ys i d) (getD zs i d) ∷ drop (suc i) (take n (beside make xs ys zs))
-  unfolding beside
-  entry-at xs ys zs zero i p q h g = absurd (not-suc-le-zero h)
-  entry-at [] ys zs (suc n) i p q h g = absurd (not-suc-le-zero g)
-  entry-at (x ∷ xs) [] zs (suc n) i p q h g = absurd (suc-ne-zero _ (sym p))
-  entry-at (x ∷ xs) (y ∷ ys) [] (suc n) i p q h g = absurd (suc-ne-zero _ (sym q))
-  entry-at (x ∷ xs) (y ∷ ys) (z ∷ zs) (suc n) zero p q h g = refl
-  entry-at (x ∷ xs) (y ∷ ys) (z ∷ zs) (suc n) (suc i) p q h g =
-      entry-at xs ys zs n i (suc-inj p) (suc-inj q) (le-of-suc-le-suc h) (le-of-suc-le-suc g)
-
   module _ (xs ys zs : List A) (n : ℕ) (l : Lent xs ys zs n) (i : ℕ) where
     -- the entry at place i, and those after it
-    pub next : i < n → drop i (take n (beside make xs ys zs)) ≡ make (getD xs i d) (getD ys i d) (getD zs i d) ∷ drop (i + 1) (take n (beside make xs ys zs))
-    next h = entry-at xs ys zs n i (l .second) (l .third) h (l .fits) ∙ rw (add-one i)
+    pub next : i < n → drop i (take n (besideBy make xs ys zs)) ≡ make (getD xs i d) (getD ys i d) (getD zs i d) ∷ drop (i + 1) (take n (besideBy make xs ys zs))
+    next h = by-at make xs ys zs d d d n i (l .second) (l .third) h (l .fits) ∙ rw (add-one i)
 
-    pub none-left : n ≤ i → drop i (take n (beside make xs ys zs)) ≡ []
-    none-left h = drop-of-length-le (take n (beside make xs ys zs)) {i = i} (rw length-take (omega arith))
+    pub none-left : n ≤ i → drop i (take n (besideBy make xs ys zs)) ≡ []
+    none-left h = by-past make xs ys zs n i h
 
-    pub entry-is : (o : B) → i < n → getD (take n (beside make xs ys zs)) i o ≡ make (getD xs i d) (getD ys i d) (getD zs i d)
+    pub entry-is : (o : B) → i < n → getD (take n (besideBy make xs ys zs)) i o ≡ make (getD xs i d) (getD ys i d) (getD zs i d)
     entry-is o h =
-        ap (λ (k : ℕ). getD (take n (beside make xs ys zs)) k o) (sym (add-zero i)) ∙ sym (getD-drop i (take n (beside make xs ys zs)) 0 o) ∙ rw (next h)
+        ap (λ (k : ℕ). getD (take n (besideBy make xs ys zs)) k o) (sym (add-zero i)) ∙ sym (getD-drop i (take n (besideBy make xs ys zs)) 0 o) ∙ rw (next h)
 
     -- an entry that passes a test, one that fails, and no entry left
     module _ (test : B → Bool) where
       pub passes :
           i < n
           → test (make (getD xs i d) (getD ys i d) (getD zs i d)) ≡ true
-          → every test (drop i (take n (beside make xs ys zs))) ≡ every test (drop (i + 1) (take n (beside make xs ys zs)))
+          → every test (drop i (take n (besideBy make xs ys zs))) ≡ every test (drop (i + 1) (take n (besideBy make xs ys zs)))
       unfolding every
       passes h e = rw (next h, e)
 
-      pub fails : i < n → test (make (getD xs i d) (getD ys i d) (getD zs i d)) ≡ false → every test (drop i (take n (beside make xs ys zs))) ≡ false
+      pub fails : i < n → test (make (getD xs i d) (getD ys i d) (getD zs i d)) ≡ false → every test (drop i (take n (besideBy make xs ys zs))) ≡ false
       unfolding every
       fails h e = rw (next h, e)
 
-      pub done : n ≤ i → every test (drop i (take n (beside make xs ys zs))) ≡ true
+      pub done : n ≤ i → every test (drop i (take n (besideBy make xs ys zs))) ≡ true
       unfolding every
       done h = rw (none-left h)
 
       -- where all that are left pass, the first does, and the others
       all-pass :
           i < n
-          → every test (drop i (take n (beside make xs ys zs))) ≡ true
-          → test (make (getD xs i d) (getD ys i d) (getD zs i d)) && every test (drop (i + 1) (take n (beside make xs ys zs))) ≡ true
+          → every test (drop i (take n (besideBy make xs ys zs))) ≡ true
+          → test (make (getD xs i d) (getD ys i d) (getD zs i d)) && every test (drop (i + 1) (take n (besideBy make xs ys zs))) ≡ true
       unfolding every
       all-pass h e = rw (next h) at e
 
-      pub first-passes : i < n → every test (drop i (take n (beside make xs ys zs))) ≡ true → test (make (getD xs i d) (getD ys i d) (getD zs i d)) ≡ true
+      pub first-passes : i < n → every test (drop i (take n (besideBy make xs ys zs))) ≡ true → test (make (getD xs i d) (getD ys i d) (getD zs i d)) ≡ true
       first-passes h e = and-first _ _ (all-pass h e)
 
-      pub others-pass : i < n → every test (drop i (take n (beside make xs ys zs))) ≡ true → every test (drop (i + 1) (take n (beside make xs ys zs))) ≡ true
+      pub others-pass : i < n → every test (drop i (take n (besideBy make xs ys zs))) ≡ true → every test (drop (i + 1) (take n (besideBy make xs ys zs))) ≡ true
       others-pass h e = and-second (test (make (getD xs i d) (getD ys i d) (getD zs i d))) _ (all-pass h e)

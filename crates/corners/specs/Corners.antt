@@ -5,19 +5,13 @@ use mathlib.Core.List.{List, [], _∷_}
 use lib.Dec.{eqb, leb, ltb}
 use lib.ListN.{take}
 use lib.Ieee.{Float}
+use Rattle.lists.specs.Beside.{besideBy}
 use Rattle.floats.specs.Floats.{f32, within}
 use Rattle.slopes.specs.declared.Vertex.{Vertex}
 
 -- equal lengths of at most 1,048,576, and no more entries than places
 abbrev pub setOk : ℕ → ℕ → ℕ → ℕ → Bool
 setOk a b c n = eqb a b && (eqb a c && (leb a 1048576 && leb n a))
-
--- three lists side by side, as far as all three go
-unfoldable pub beside : {A B : Type 0} → (A → A → A → B) → List A → List A → List A → List B
-beside make [] bs cs = []
-beside make (a ∷ as') [] cs = []
-beside make (a ∷ as') (b ∷ bs) [] = []
-beside make (a ∷ as') (b ∷ bs) (c ∷ cs) = make a b c ∷ beside make as' bs cs
 
 -- every element passes a test
 unfoldable pub every : {A : Type 0} → (A → Bool) → List A → Bool
@@ -30,7 +24,7 @@ vertex x y z = record { x = record { 0 = x }; y = record { 0 = y }; z = record {
 
 -- the vertices of the first n places
 abbrev pub verticesIn : List Float → List Float → List Float → ℕ → List Vertex
-verticesIn xs ys zs n = take n (beside vertex xs ys zs)
+verticesIn xs ys zs n = take n (besideBy vertex xs ys zs)
 
 -- 100,000,000
 abbrev pub farthest : Float
@@ -51,7 +45,7 @@ triangle i j k = record { first = i; second = j; third = k }
 
 -- the triangles of the first m places
 abbrev pub trianglesIn : List ℕ → List ℕ → List ℕ → ℕ → List Triangle
-trianglesIn is js ks m = take m (beside triangle is js ks)
+trianglesIn is js ks m = take m (besideBy triangle is js ks)
 
 -- it names three of n vertices
 abbrev pub triangleOk : ℕ → Triangle → Bool

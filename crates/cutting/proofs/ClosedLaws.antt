@@ -21,9 +21,8 @@ use Rattle.lists.proofs.Bools.{and-first, and-second, and-eq}
 use Rattle.lists.proofs.Held.{written-held, refused-held}
 use Rattle.lists.proofs.PaddingLaws.{padded-length}
 use Rattle.refusals.specs.declared.Refusal.{Refusal}
-use Rattle.refusals.specs.declared.Refusal.the-variants.{Setting, Lengths}
-use Rattle.table.specs.Table.{Row, Table, table, rows, settingsOk, tableCheck}
-use Rattle.table.proofs.Checking.{need-passed}
+use Rattle.table.specs.Table.{Row, Table, table, rows}
+use Rattle.table.proofs.Checking.{with-passed}
 use Rattle.table.specs.declared.Settings.{Settings}
 use Rattle.table.specs.declared.Checked.{Checked}
 use Rattle.table.specs.declared.Checked.the-variants.{Passed, Refused}
@@ -84,14 +83,14 @@ module _ (s : Settings) (ks : List ℕ) (ds ws : List Float) (cnt a b : ℕ) whe
       → f' ≡ firstsOn surface.Closed s t a b
       → s' ≡ secondsOn surface.Closed s t a b
       → OwnIf e ks ds ws cnt f' s'
-  unfolding crossingsAnswer checkedFor padded
+  unfolding crossingsAnswer padded
   own-listed e f' s' q p r n h =
       let es = edgesOn surface.Closed (rows t) in
       let c = answered-on s t a b surface.Closed n (sym q ∙ h) in
       let pass = c .0 in
       let acc = accepted s ks ds ws cnt a b pass in
       let fits = counted-only (checkedFor s t a b) es a n (sym q ∙ h) .2 in
-      let outputs = need-passed (outputsOk a b) Lengths (tableCheck s t) (need-passed (settingsOk s) Setting _ pass .1) .0 in
+      let outputs = with-passed (outputsOk a b) s t pass .0 in
       let fd : f' ≡ padded 0 a (firsts es) = p ∙ c .2 in
       let sd : s' ≡ padded 0 b (seconds es) = r ∙ c .3 in
       let fl : length f' ≡ a = ap length fd ∙ padded-length 0 a (firsts es) (omega (arith, length-map es (λ (x : Edge). x .first))) in

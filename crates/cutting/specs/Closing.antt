@@ -20,7 +20,7 @@ use Rattle.cutting.specs.declared.ClosedListed.{ClosedListed}
 
 -- the answer to the edges: 1, 2, 3, then 6 exactly when they would outgrow their lists
 unfoldable pub closedAnswer : Settings → Table → ℕ → ℕ → Listed
-unfolding checkedFor answerIf edges crossesIn
+unfolding answerIf edges crossesIn
 closedAnswer s t a b = answerIf (checkedFor s t a b) (closedEdges (rows t)) a
 
 -- three lists of equal length, at most 1,048,576

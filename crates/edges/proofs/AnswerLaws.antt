@@ -12,14 +12,14 @@ use borrow.Author.Tests.{eqb-true}
 use Rattle.lists.specs.Places.{clearedFrom}
 use Rattle.lists.specs.Listing.{roomFor, countOf, heldFor}
 use Rattle.lists.specs.declared.Listed.{Listed}
-use Rattle.lists.proofs.Bools.{and-first, and-second}
+use Rattle.lists.proofs.Bools.{and-first}
 use Rattle.lists.proofs.Held.{written-held}
-use Rattle.table.specs.Table.{Table, table, rows, rowsOf, rowsOk, settingsOk, lengthsOk, tableOk, tableCheck}
+use Rattle.table.specs.Table.{Table, table, rows, rowsOf}
 use Rattle.table.specs.declared.Settings.{Settings}
 use Rattle.table.specs.declared.Checked.{Checked}
 use Rattle.table.specs.declared.Checked.the-variants.{Passed}
 use Rattle.table.proofs.RowLaws.{lengths-known}
-use Rattle.table.proofs.Checking.{need-passed}
+use Rattle.table.proofs.Checking.{sound, with-passed}
 use Rattle.edges.specs.Edges.{Edge}
 use Rattle.edges.specs.Surfaces.{edgesOn}
 use Rattle.edges.specs.declared.Surface.{Surface}
@@ -30,20 +30,12 @@ use Rattle.edges.specs.Steps.{Accepted, Wrote}
 
 module _ (s : Settings) (ks : List ℕ) (ds ws : List Float) (n a b : ℕ) where
   pub accepted : checkedFor s (table ks ds ws n) a b ≡ Passed → Accepted ks ds ws n × (b ≡ a)
-  unfolding checkedFor tableCheck
   accepted e =
-      let out = need-passed (outputsOk a b) _ _ (need-passed (settingsOk s) _ _ e .1) in
-      let lengths = need-passed (lengthsOk (length ks) (length ds) (length ws) n) _ _ (need-passed (settingsOk s) _ _ (out .1) .1) in
-      let l = lengths-known (length ks) (length ds) (length ws) n (lengths .0) in
-      let ok = need-passed (tableOk (s .«max_weight») (table ks ds ws n)) _ _ (lengths .1) .0 in (
-        record {
-          fits = l .0;
-          distances = l .1;
-          weights = l .2;
-          few = l .3;
-          rising = and-second (rowsOk (s .«max_weight») (rowsOf ks ds ws n)) _ ok;
-        },
-        sym (eqb-true a b (and-first (eqb a b) _ (out .0))),
+      let p = with-passed (outputsOk a b) s (table ks ds ws n) e in
+      let k = sound s (table ks ds ws n) (p .1) in
+      let l = lengths-known (length ks) (length ds) (length ws) n (k .lengths) in (
+        record { fits = l .0; distances = l .1; weights = l .2; few = l .3; rising = k .order },
+        sym (eqb-true a b (and-first (eqb a b) _ (p .0))),
       )
 
 -- ---- what the lists hold

@@ -16,11 +16,11 @@ use Rattle.lists.proofs.Bools.{cases}
 use Rattle.neighbors.specs.Neighbors.{neighbours, adjacent}
 use Rattle.refusals.specs.declared.Refusal.{Refusal}
 use Rattle.refusals.specs.declared.Refusal.the-variants.{NoPlace}
-use Rattle.table.specs.Table.{Table, rows, settingsOk}
+use Rattle.table.specs.Table.{Table, rows}
 use Rattle.table.specs.declared.Settings.{Settings}
 use Rattle.table.specs.declared.Checked.{Checked}
 use Rattle.table.specs.declared.Checked.the-variants.{Passed, Refused}
-use Rattle.table.proofs.Checking.{not-passed, setting-spares, lengths-spare, table-spares}
+use Rattle.table.proofs.Checking.{not-passed, with-spares}
 use Rattle.edges.specs.Edges.{Edge}
 use Rattle.edges.specs.EdgeList.{IsEdgeList}
 use Rattle.edges.specs.ZeroCrossing.{crossesZero, zeroCrossingEdges}
@@ -70,8 +70,7 @@ counted-only (Refused why) es room c e = let z : _≡_ {A = ℕ} 0 1 = cc in let
 module _ (s : Settings) (t : Table) (a b : ℕ) where
   -- no test answers 6
   tests-spare-room : checkedFor s t a b ≡ Refused NoPlace → ⊥
-  unfolding checkedFor
-  tests-spare-room = setting-spares (settingsOk s) _ (lengths-spare (outputsOk a b) _ (table-spares s t))
+  tests-spare-room = with-spares (outputsOk a b) s t
 
   -- ---- the call for a surface's edges
 

@@ -7,8 +7,7 @@ use lib.ListN.{length}
 use Rattle.lists.specs.Listing.{roomFor, heldFor}
 use Rattle.lists.specs.declared.Listed.{Listed}
 use Rattle.lists.specs.declared.Listed.the-variants as listed
-use Rattle.refusals.specs.declared.Refusal.the-variants.{Setting, Lengths}
-use Rattle.table.specs.Table.{Table, rows, settingsOk, need, tableCheck}
+use Rattle.table.specs.Table.{Table, rows, checkWith}
 use Rattle.table.specs.declared.Settings.{Settings}
 use Rattle.table.specs.declared.Checked.{Checked}
 use Rattle.table.specs.declared.Checked.the-variants as checked
@@ -29,9 +28,8 @@ abbrev pub outputsOk : ℕ → ℕ → Bool
 outputsOk a b = eqb a b && leb a 1048576
 
 -- refusals 1, 2 and 3, for a table and two lists of lengths a and b
-unfoldable pub checkedFor : Settings → Table → ℕ → ℕ → Checked
-unfolding need
-checkedFor s t a b = need (settingsOk s) Setting (need (outputsOk a b) Lengths (tableCheck s t))
+abbrev pub checkedFor : Settings → Table → ℕ → ℕ → Checked
+checkedFor s t a b = checkWith (outputsOk a b) s t
 
 -- what the tests refuse stays refused; otherwise the list is answered by its room
 unfoldable pub answerIf : Checked → List Edge → ℕ → Listed
@@ -40,7 +38,7 @@ answerIf (checked.Refused why) es room = listed.Refused why
 
 -- the answer to a call for a surface's edges, and what the two lists hold
 unfoldable pub crossingsAnswer : Surface → Settings → Table → ℕ → ℕ → Listed
-unfolding checkedFor answerIf edges
+unfolding answerIf edges
 crossingsAnswer o s t a b = answerIf (checkedFor s t a b) (edgesOn o (rows t)) a
 
 abbrev pub firstsOn : Surface → Settings → Table → ℕ → ℕ → List ℕ

@@ -1,7 +1,6 @@
 // The edges of the surface (src/layers/tsdf.rs, get_zero_crossing_edges).
 use lists::LONGEST_LIST;
 use lists::Listed;
-use refusals::Refusal;
 use search::Found;
 use table::Checked;
 use table::Settings;
@@ -216,13 +215,14 @@ fn check(
 ) -> Checked
     ensures { λ r. ⌜ r ≡ checkedFor settings (table (now (keys .entry)) (now (distances .entry)) (now (weights .entry)) count) first second ⌝ }
 {
-    if !table::settings_ok(settings) {
-        return Checked::Refused(Refusal::Setting);
-    }
-    if !outputs_ok(first, second) {
-        return Checked::Refused(Refusal::Lengths);
-    }
-    table::check_table(settings, keys, distances, weights, count)
+    table::check_with(
+        outputs_ok(first, second),
+        settings,
+        keys,
+        distances,
+        weights,
+        count,
+    )
 }
 
 // Two lists of equal length within the limit.

@@ -7,7 +7,7 @@ use native.Mathlib.Nat.{suc-ne-zero}
 use native.Mathlib.Omega.{arith}
 use borrow.Author.Tests.{eqb-true}
 use lib.Dec.{eqb, leb}
-use lib.ListN.{length, replicate, length-replicate, length-map}
+use lib.ListN.{length, take, replicate, length-replicate, length-map}
 use lib.Ieee.{Float}
 use Rattle.floats.specs.Floats.{zero32, isFinite}
 use Rattle.lists.specs.Padding.{padded}
@@ -15,81 +15,21 @@ use Rattle.lists.specs.Places.{filled}
 use Rattle.lists.proofs.Bools.{and-first, and-second}
 use Rattle.lists.proofs.PaddingLaws.{padded-length}
 use Rattle.refusals.specs.declared.Refusal.{Refusal}
-use Rattle.refusals.specs.declared.Refusal.the-variants.{Setting, Lengths, BadRow, BadReading}
+use Rattle.refusals.specs.declared.Refusal.the-variants.{BadReading}
 use Rattle.search.specs.Keys.{ascending}
-use Rattle.table.specs.Table.{Table, table, rowsOf, settingsOk, lengthsOk, rowsOk, tableOk, need, tableCheck}
+use Rattle.table.specs.Table.{Table, table, rowsOf, rows, settingsOk, lengthsOk, rowsOk, need, checkWith}
 use Rattle.table.specs.declared.Settings.{Settings}
 use Rattle.table.specs.declared.Checked.{Checked}
 use Rattle.table.specs.declared.Checked.the-variants as checked
 use Rattle.table.proofs.RowLaws.{lengths-known}
 use Rattle.marching.specs.March.{Cell, Rooms, rooms, Going, keysOf, distancesOf, cellsOf, nothing}
 use Rattle.marching.specs.Lattice.{marchFrom}
-use Rattle.marching.proofs.Verdicts.{follow, need-follow}
-use Rattle.table.proofs.Checking.{need-passed}
+use Rattle.table.proofs.Checking.{need-passed, sound, with-passed, went-on}
 use Rattle.esdf.proofs.Marching.{same-rooms}
 use Rattle.esdf.specs.declared.Marched.{Marched}
 use Rattle.esdf.specs.declared.Marched.the-variants as marched
 use Rattle.esdf.specs.Steps.{estimatesOf, Held, roomsOf, Lent, Finished, MayMarch, tidied}
 use Rattle.esdf.specs.Compute.{Places, places, setOk, marchCheck, tested, marching, outcome, answerOf, keysLeft, distancesLeft, left, computed}
-
--- ---- the tests
-
-module _ (s : Settings) (t : Table) (threshold : Float) (fit : Bool) where
-  abbrev equal : Bool
-  equal = lengthsOk (length (t .keys)) (length (t .distances)) (length (t .weights)) (t .count)
-
-  pub check-setting : settingsOk s ≡ false → marchCheck s t threshold fit ≡ checked.Refused Setting
-  unfolding marchCheck need
-  check-setting a = rw a
-
-  module _ (a : settingsOk s ≡ true) where
-    pub check-lengths : equal ≡ false → marchCheck s t threshold fit ≡ checked.Refused Lengths
-    unfolding marchCheck need
-    check-lengths b = rw (a, b)
-
-    module _ (b : equal ≡ true) where
-      pub check-places : fit ≡ false → marchCheck s t threshold fit ≡ checked.Refused Lengths
-      unfolding marchCheck need
-      check-places d = rw (a, b, d)
-
-      module _ (d : fit ≡ true) where
-        rest : marchCheck s t threshold fit ≡ follow (tableCheck s t) (need (isFinite threshold) BadReading checked.Passed)
-        unfolding marchCheck tableCheck
-        rest =
-            rw (a, b, d)
-            (need-is (settingsOk s) a (lengthsOk (length (t .keys)) (length (t .distances)) (length (t .weights)) (t .count)) b)
-          where
-            need-is :
-                (x : Bool)
-                → x ≡ true
-                → (y : Bool)
-                → y ≡ true
-                → need true Setting
-                (need true Lengths
-                (need true Lengths
-                (need (tableOk (s .«max_weight») t) BadRow
-                (need (isFinite threshold) BadReading checked.Passed))))
-                ≡ follow (need true Setting
-                (need true Lengths (need (tableOk (s .«max_weight») t) BadRow checked.Passed)))
-                (need (isFinite threshold) BadReading checked.Passed)
-            need-is x p y q = need-follow (tableOk (s .«max_weight») t) BadRow (need (isFinite threshold) BadReading checked.Passed)
-
-        pub check-row : (v : Checked) (why : Refusal) → v ≡ tableCheck s t → v ≡ checked.Refused why → marchCheck s t threshold fit ≡ checked.Refused why
-        unfolding follow
-        check-row v why e f = rest ∙ ap (λ (x : Checked). follow x (need (isFinite threshold) BadReading checked.Passed)) (sym e ∙ f)
-
-        module _ (v : Checked) (e : v ≡ tableCheck s t) (f : v ≡ checked.Passed) where
-          passed : marchCheck s t threshold fit ≡ need (isFinite threshold) BadReading checked.Passed
-          unfolding follow
-          passed = rest ∙ ap (λ (x : Checked). follow x (need (isFinite threshold) BadReading checked.Passed)) (sym e ∙ f)
-
-          pub check-reading : isFinite threshold ≡ false → marchCheck s t threshold fit ≡ checked.Refused BadReading
-          unfolding need
-          check-reading g = passed ∙ rw g
-
-          pub check-passed : isFinite threshold ≡ true → marchCheck s t threshold fit ≡ checked.Passed
-          unfolding need
-          check-passed g = passed ∙ rw g
 
 -- ---- what passed
 
@@ -98,18 +38,24 @@ pub record Tested (s : Settings) (t : Table) (threshold : Float) (fit : Bool) : 
   pub settings : settingsOk s ≡ true
   pub lengths : lengthsOk (length (t .keys)) (length (t .distances)) (length (t .weights)) (t .count) ≡ true
   pub places : fit ≡ true
-  pub rows : tableOk (s .«max_weight») t ≡ true
+  pub rows : rowsOk (s .«max_weight») (rows t) ≡ true
+  pub order : ascending (take (t .count) (t .keys)) ≡ true
   pub reading : isFinite threshold ≡ true
 
 pub tests : (s : Settings) (t : Table) (threshold : Float) (fit : Bool) → marchCheck s t threshold fit ≡ checked.Passed → Tested s t threshold fit
 unfolding marchCheck
 tests s t threshold fit e =
-    let a = need-passed (settingsOk s) Setting _ e in
-    let b = need-passed (lengthsOk (length (t .keys)) (length (t .distances)) (length (t .weights)) (t .count)) Lengths _ (a .1) in
-    let c = need-passed fit Lengths _ (b .1) in
-    let d = need-passed (tableOk (s .«max_weight») t) BadRow _ (c .1) in
-    let f = need-passed (isFinite threshold) BadReading _ (d .1) in
-    record { settings = a .0; lengths = b .0; places = c .0; rows = d .0; reading = f .0 }
+    let a = went-on (checkWith fit s t) (need (isFinite threshold) BadReading checked.Passed) e in
+    let b = with-passed fit s t (a .0) in
+    let k = sound s t (b .1) in
+    record {
+      settings = k .settings;
+      lengths = k .lengths;
+      places = b .0;
+      rows = k .ranges;
+      order = k .order;
+      reading = need-passed (isFinite threshold) BadReading checked.Passed (a .1) .0;
+    }
 
 -- the table's keys ascend
 pub tested-lent :
@@ -119,7 +65,7 @@ pub tested-lent :
 tested-lent s ks ds ws n threshold fit e =
     let h = tests s (table ks ds ws n) threshold fit e in
     let l = lengths-known (length ks) (length ds) (length ws) n (h .lengths) in
-    record { fits = l .0; distances = l .1; weights = l .2; ascends = and-second (rowsOk (s .«max_weight») (rowsOf ks ds ws n)) _ (h .rows) }
+    record { fits = l .0; distances = l .1; weights = l .2; ascends = h .order }
 
 -- the lists of a set are equally long
 sets-equal : (a b c d : ℕ) → setOk a b && setOk c d ≡ true → (b ≡ a) × (c ≡ d)

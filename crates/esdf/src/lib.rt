@@ -20,9 +20,8 @@ use search::find_row;
 use search::place_of;
 use table::Checked;
 use table::Settings;
-use table::check_table;
-use table::lengths_ok;
-use table::settings_ok;
+use table::and_then;
+use table::check_with;
 ghost use mathlib.Core.Path.{_≡_};
 ghost use mathlib.Core.Bool.{false};
 ghost use mathlib.Core.List.{List};
@@ -555,25 +554,8 @@ fn check(
 ) -> Checked
     ensures { λ r. ⌜ r ≡ marchCheck settings (table (now (keys .entry)) (now (distances .entry)) (now (weights .entry)) count) threshold fit ⌝ }
 {
-    if !settings_ok(settings) {
-        return Checked::Refused(Refusal::Setting);
-    }
-    if !lengths_ok(keys.len(), distances.len(), weights.len(), count) {
-        return Checked::Refused(Refusal::Lengths);
-    }
-    if !fit {
-        return Checked::Refused(Refusal::Lengths);
-    }
-    match check_table(settings, keys, distances, weights, count) {
-        Checked::Refused(why) => Checked::Refused(why),
-        Checked::Passed => {
-            if floats::is_finite(threshold) {
-                Checked::Passed
-            } else {
-                Checked::Refused(Refusal::BadReading)
-            }
-        }
-    }
+    let verdict = check_with(fit, settings, keys, distances, weights, count);
+    and_then(verdict, floats::is_finite(threshold), Refusal::BadReading)
 }
 
 // The fast march; where it gave up, the lists are cleared and the plain march runs.

@@ -9,6 +9,7 @@ use lib.Count.{trailingZeros}
 use lib.Dec.{eqb}
 use lib.Ieee.{span, climb, size, odd, units, round, neg, sum, add, sub, mul, div, lt, eq, le, ofFields, ofBits, toBits, ofInt, binary32}
 use lib.ListN.{replicate}
+use Rattle.lists.specs.Beside.{besideBy}
 use Rattle.floats.specs.Floats.{f32, zero32}
 use Rattle.floats.specs.declared.Metres.{Metres}
 use Rattle.ids.specs.Key.{sameParity}
@@ -16,7 +17,7 @@ use Rattle.ids.specs.Morton.{respaced}
 use Rattle.root.specs.Root.{rootBelow, isqrt, rounded, rootOf}
 use Rattle.table.specs.declared.Settings.{Settings}
 use Rattle.search.specs.Keys.{risesFrom, ascending, next, find}
-use Rattle.table.specs.Table.{Row, Table, table, settingsOf, beside, rows, rowsOk, need, tableCheck, put, relaid}
+use Rattle.table.specs.Table.{Row, Table, table, settingsOf, beside, rows, rowsOk, need, checkWith, tableCheck, put, relaid}
 use Rattle.measuring.specs.declared.Reading.{Reading}
 use Rattle.measuring.specs.declared.Reading.the-variants.{Direct, Ray}
 use Rattle.measuring.specs.Readings.{squares, rayDistance, admitIf, admitted}
@@ -142,7 +143,7 @@ samples =
 
 pub samples-hold : allHold samples ≡ true
 unfolding trailingZeros span climb size odd units round neg sum add sub mul div lt eq le ofFields ofBits toBits ofInt
-    beside rowsOk risesFrom ascending need tableCheck next find put relaid admitIf admitted squares rayDistance rootBelow
+    besideBy rowsOk risesFrom ascending need checkWith next find put relaid admitIf admitted squares rayDistance rootBelow
     isqrt rounded rootOf respaced sameParity newWeight fusedVoxel voxelAt hasPlace stepAt stored fusedNear fusedIf fuseIf effectOf fuse sameRows
     runs allHold samples
 samples-hold = refl

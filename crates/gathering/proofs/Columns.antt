@@ -7,6 +7,8 @@ use native.Mathlib.Nat.{not-suc-le-zero, le-of-suc-le-suc, suc-ne-zero, suc-inj}
 use lib.ListN.{length, getD, take, drop, set, length-map}
 use lib.Seq.{take-take}
 use lib.Ieee.{Float, nan}
+use Rattle.lists.specs.Beside.{besideBy}
+use Rattle.lists.proofs.BesideLaws.{by-set}
 use Rattle.table.specs.Table.{Row, row, table, beside, rowsOf, laid, relaid}
 use Rattle.table.specs.Rows.{keysOf}
 use Rattle.table.proofs.Laying.{distancesOf, weightsOf}
@@ -17,12 +19,7 @@ pub beside-set :
     → length ds ≡ length ks
     → length ws ≡ length ks
     → beside (set ks i k) (set ds i d) (set ws i w) ≡ set (beside ks ds ws) i (row k d w)
-unfolding beside
-beside-set [] ds ws i k d w p q = refl
-beside-set (x ∷ ks) [] ws i k d w p q = absurd (suc-ne-zero _ (sym p))
-beside-set (x ∷ ks) (y ∷ ds) [] i k d w p q = absurd (suc-ne-zero _ (sym q))
-beside-set (x ∷ ks) (y ∷ ds) (z ∷ ws) zero k d w p q = refl
-beside-set (x ∷ ks) (y ∷ ds) (z ∷ ws) (suc i) k d w p q = ap {B = List Row} (λ t. row x y z ∷ t) (beside-set ks ds ws i k d w (suc-inj p) (suc-inj q))
+beside-set = by-set row
 
 -- the first i rows and the one at i
 pub take-row :
@@ -31,7 +28,7 @@ pub take-row :
     → length ws ≡ length ks
     → i < length ks
     → take (suc i) (beside ks ds ws) ≡ take i (beside ks ds ws) ++ row (getD ks i 0) (getD ds i nan) (getD ws i nan) ∷ []
-unfolding beside
+unfolding besideBy
 take-row [] ds ws i p q h = absurd (not-suc-le-zero h)
 take-row (x ∷ ks) [] ws i p q h = absurd (suc-ne-zero _ (sym p))
 take-row (x ∷ ks) (y ∷ ds) [] i p q h = absurd (suc-ne-zero _ (sym q))
@@ -55,7 +52,7 @@ pub columns-of :
     → length ds ≡ length ks
     → length ws ≡ length ks
     → (keysOf (beside ks ds ws) ≡ ks) × (distancesOf (beside ks ds ws) ≡ ds) × (weightsOf (beside ks ds ws) ≡ ws)
-unfolding beside
+unfolding besideBy
 columns-of [] [] [] p q = (refl, refl, refl)
 columns-of [] (d ∷ ds) ws p q = absurd (suc-ne-zero _ p)
 columns-of [] [] (w ∷ ws) p q = absurd (suc-ne-zero _ q)

@@ -8,6 +8,7 @@ use native.Mathlib.Omega.{arith}
 use lib.Dec.{eqb}
 use lib.ListN.{length, getD, take, set}
 use borrow.Author.Tests.{eqb-true, eqb-false}
+use Rattle.lists.specs.Beside.{besideBy}
 use Rattle.lists.proofs.Bools.{cases}
 use lib.Seq.{set-getD, getD-take, length-take-le, getD-set-same, getD-set-other}
 use lib.Ieee.{Float, nan, le, lt, eq, odd, ofBits, ofFields}
@@ -62,7 +63,7 @@ module _ (most : Float) (ks : List ℕ) (ds ws : List Float) (n : ℕ)
 
   -- the table is as it was
   pub puts-loaded : (ks' : List ℕ) (ds' ws' : List Float) (m : ℕ) → Loaded t ks' ds' ws' m → puts most (rowsOf ks' ds' ws' m) (rows t) ≡ rows t
-  unfolding puts beside
+  unfolding puts besideBy
   puts-loaded ks' ds' ws' zero h = refl
   puts-loaded [] ds' ws' (suc m) h = refl
   puts-loaded (k ∷ ks') [] ws' (suc m) h = refl

@@ -5,6 +5,7 @@ use mathlib.Core.Path.{_≡_, refl}
 use mathlib.Core.List.{List, [], _∷_, _++_, map}
 use lib.Count.{trailingZeros}
 use lib.Ieee.{span, climb, size, odd, units, round, neg, sum, add, sub, mul, div, lt, eq, le, ne, ofInt, ofFields, ofBits, toBits, nanBits}
+use Rattle.lists.specs.Beside.{besideBy}
 use Rattle.lines.specs.Lines.{digitValue, hexValue, hexFrom, wordAt, digitsFrom, numberAt, settingsLine, readingLine, lineOf}
 use Rattle.texts.specs.Texts.{hexDigits, hexField, decimalFrom, countsLine, vertexLine, badLine, refusedLine}
 use Rattle.ids.specs.Key.{sameParity}
@@ -12,7 +13,7 @@ use Rattle.ids.specs.Morton.{respaced, morton}
 use Rattle.lists.specs.Padding.{padded}
 use Rattle.lists.specs.Lists.{joined, kept, insert, place}
 use Rattle.search.specs.Keys.{risesFrom, ascending, next, find}
-use Rattle.table.specs.Table.{beside, rowsOk, need, tableCheck, put, relaid}
+use Rattle.table.specs.Table.{beside, rowsOk, need, checkWith, tableCheck, put, relaid}
 use Rattle.fusing.specs.Fusing.{newWeight, fusedVoxel, voxelAt, hasPlace, stepAt, stored, fusedNear, fusedIf, fuseIf, effectOf, fuse}
 use Rattle.measuring.specs.Readings.{admitIf, admitted}
 use Rattle.edges.specs.Edges.{edgesTo, edges}
@@ -73,7 +74,7 @@ pub samples :
 unfolding trailingZeros span climb size odd units round neg sum add sub mul div lt eq le ne ofInt ofFields ofBits toBits
     nanBits digitValue hexValue hexFrom wordAt digitsFrom numberAt settingsLine readingLine lineOf hexDigits hexField
     decimalFrom countsLine vertexLine badLine refusedLine sameParity respaced morton padded joined kept insert place
-    risesFrom ascending next find beside rowsOk need tableCheck put relaid newWeight fusedVoxel voxelAt hasPlace stepAt
+    risesFrom ascending next find besideBy rowsOk need checkWith put relaid newWeight fusedVoxel voxelAt hasPlace stepAt
     stored fusedNear fusedIf fuseIf effectOf fuse admitIf admitted edgesTo edges stored-edges crossing offsets inBox reachedFrom shown neighboursBy
     distanceAt distanceOf-vertices orZero partOf-vertices vertexOf vertexAt paired cellSpan cellEdges numbersFrom gathered
     withThird withTwo threes twosOf threesOf meshCheck meshedOn meshAnswerOn heldIn placedOf givenOf testedAs settingsFrom

@@ -11,3 +11,4 @@ pub mod ThreeLaws
 pub mod Parts
 pub mod Putting
 pub mod Determined
+pub mod BesideLaws

@@ -3,3 +3,4 @@ pub mod Padding
 pub mod Lists
 pub mod Listing
 pub mod Threes
+pub mod Beside

@@ -15,7 +15,7 @@ use Rattle.lists.proofs.Bools.{and-first, and-second}
 use Rattle.refusals.specs.declared.Refusal.{Refusal}
 use Rattle.refusals.specs.declared.Refusal.the-variants.{Lengths, BadRow, OffLattice}
 use Rattle.search.specs.Keys.{find, findBy, ascending}
-use Rattle.table.specs.Table.{need}
+use Rattle.table.specs.Table.{need, andThen}
 use Rattle.table.specs.declared.Checked.{Checked}
 use Rattle.table.specs.declared.Checked.the-variants as checked
 use Rattle.search.specs.declared.Found.{Found}
@@ -23,7 +23,6 @@ use Rattle.search.specs.declared.Found.the-variants.{At, Absent}
 use Rattle.search.proofs.KeyLaws.{findBy-find, found}
 use Rattle.marching.specs.March.{MarchedRow, marchedRow, keysOf, distancesOf, distanceOf}
 use Rattle.marching.proofs.Looking.{at, distance-find}
-use Rattle.marching.proofs.Verdicts.{follow}
 use Rattle.table.proofs.Checking.{need-passed}
 use Rattle.marched.specs.declared.Stored.the-variants as stored
 use Rattle.marched.specs.Marched.{MarchedTable, marchedTable, pairs, marchedRowsOf, pairOk, marchedLengthsOk, marchedRowOk, marchedRowsOk, marchedOk, marchedThen, marchedCheck, keyCheck, listCheck}
@@ -100,11 +99,11 @@ module _ (t : MarchedTable) where
   lengths = marchedLengthsOk (length (t .keys)) (length (t .distances)) (t .count)
 
   -- what is tested after 2 and 3
-  pub marched-follow : (rest : Checked) → marchedThen t rest ≡ follow (marchedCheck t) rest
-  unfolding marchedThen need follow
+  pub marched-follow : (rest : Checked) → marchedThen t rest ≡ andThen (marchedCheck t) rest
+  unfolding marchedThen need andThen
   marched-follow rest = two lengths (marchedOk t)
     where
-      two : (a b : Bool) → need a Lengths (need b BadRow rest) ≡ follow (need a Lengths (need b BadRow checked.Passed)) rest
+      two : (a b : Bool) → need a Lengths (need b BadRow rest) ≡ andThen (need a Lengths (need b BadRow checked.Passed)) rest
       two true true = refl
       two true false = refl
       two false true = refl
@@ -112,12 +111,12 @@ module _ (t : MarchedTable) where
 
   -- a refusal stands; what passed is tested on
   pub refuses-on : (v : Checked) (rest : Checked) {why : Refusal} → v ≡ marchedCheck t → v ≡ checked.Refused why → checked.Refused why ≡ marchedThen t rest
-  unfolding follow
-  refuses-on v rest e f = sym (marched-follow rest ∙ ap (λ (x : Checked). follow x rest) (sym e ∙ f))
+  unfolding andThen
+  refuses-on v rest e f = sym (marched-follow rest ∙ ap (λ (x : Checked). andThen x rest) (sym e ∙ f))
 
   pub passes-on : (v : Checked) (rest : Checked) → v ≡ marchedCheck t → v ≡ checked.Passed → rest ≡ marchedThen t rest
-  unfolding follow
-  passes-on v rest e f = sym (marched-follow rest ∙ ap (λ (x : Checked). follow x rest) (sym e ∙ f))
+  unfolding andThen
+  passes-on v rest e f = sym (marched-follow rest ∙ ap (λ (x : Checked). andThen x rest) (sym e ∙ f))
 
   -- the same after 4
   pub refuses-after :

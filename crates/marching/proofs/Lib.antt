@@ -4,7 +4,6 @@ pub mod Sound
 pub mod Wider
 pub mod Rows
 pub mod Looking
-pub mod Verdicts
 pub mod Bounded
 pub mod Lattice
 pub mod Least

@@ -18,11 +18,11 @@ use Rattle.lists.proofs.PaddingLaws.{padded-length}
 use Rattle.neighbors.specs.Neighbors.{neighbours, adjacent}
 use Rattle.refusals.specs.declared.Refusal.{Refusal}
 use Rattle.refusals.specs.declared.Refusal.the-variants.{NoPlace}
-use Rattle.table.specs.Table.{Table, table, rows, settingsOk}
+use Rattle.table.specs.Table.{Table, table, rows}
 use Rattle.table.specs.declared.Settings.{Settings}
 use Rattle.table.specs.declared.Checked.{Checked}
 use Rattle.table.specs.declared.Checked.the-variants.{Passed, Refused as Rejected}
-use Rattle.table.proofs.Checking.{not-passed, setting-spares, lengths-spare, table-spares}
+use Rattle.table.proofs.Checking.{not-passed, with-spares}
 use Rattle.edges.specs.Edges.{Edge}
 use Rattle.edges.specs.EdgeList.{IsEdgeList}
 use Rattle.edges.specs.ZeroCrossing.{crossesZero}
@@ -131,7 +131,7 @@ module _ (o : Surface) (s : Settings) (t : Table) (r : Rooms) where
 
   tests-spare-room : meshCheck s t r ≡ Rejected NoPlace → ⊥
   unfolding meshCheck
-  tests-spare-room = setting-spares (settingsOk s) _ (lengths-spare (roomsOk r) _ (table-spares s t))
+  tests-spare-room = with-spares (roomsOk r) s t
 
   -- Refused with 6 exactly when no earlier test refuses and edges, vertices, groups or triangles would outgrow their own list.
   pub refused-for-room-on : (meshAnswerOn o s t r ≡ Refused NoPlace) ↔

@@ -22,12 +22,12 @@ use Rattle.lists.proofs.Bools.{cases, and-first, and-second}
 use Rattle.lists.proofs.PaddingLaws.{padded-front}
 use Rattle.lists.proofs.Writing.{sets-front, cleared-whole}
 use Rattle.refusals.specs.declared.Refusal.{Refusal}
-use Rattle.refusals.specs.declared.Refusal.the-variants.{Setting, Lengths, NoPlace}
-use Rattle.table.specs.Table.{Table, table, rows, settingsOk, need, tableCheck}
+use Rattle.refusals.specs.declared.Refusal.the-variants.{NoPlace}
+use Rattle.table.specs.Table.{Table, table, rows, settingsOk, tableCheck}
 use Rattle.table.specs.declared.Settings.{Settings}
 use Rattle.table.specs.declared.Checked.{Checked}
 use Rattle.table.specs.declared.Checked.the-variants.{Passed, Refused as Rejected}
-use Rattle.table.proofs.Checking.{need-passed}
+use Rattle.table.proofs.Checking.{sound, with-passed, with-fit}
 use Rattle.edges.specs.Edges.{Edge}
 use Rattle.edges.specs.Listing.{firsts, seconds, outputsOk, checkedFor, answerIf}
 use Rattle.edges.specs.Steps.{Accepted}
@@ -107,11 +107,6 @@ both n m false false = refl
 
 -- ---- what the tests tell
 
-need-true : (b : Bool) (why : Refusal) (rest : Checked) → b ≡ true → need b why rest ≡ rest
-unfolding need
-need-true true why rest e = refl
-need-true false why rest e = let z : _≡_ {A = ℕ} 0 1 = cc in let un : ⊥ = omega arith in absurd un
-
 -- the rooms of the groups and the triangles
 abbrev pub lent : Rooms → Lent
 lent r = roomsFor (r .groups) (r .t0) (r .t1) (r .t2)
@@ -126,19 +121,13 @@ module _ (o : Surface) (s : Settings) (ks : List ℕ) (ds ws : List Float) (cnt 
   module _ (pass : meshCheck s own r ≡ Passed) where
     pub tests : (settingsOk s ≡ true) × (roomsOk r ≡ true) × (tableCheck s own ≡ Passed)
     unfolding meshCheck
-    tests =
-        let a = need-passed (settingsOk s) Setting (need (roomsOk r) Lengths (tableCheck s own)) pass in
-        let b = need-passed (roomsOk r) Lengths (tableCheck s own) (a .1) in
-        (a .0, b .0, b .1)
+    tests = let p = with-passed (roomsOk r) s own pass in (sound s own (p .1) .settings, p .0, p .1)
 
     outputs : outputsOk (r .first) (r .second) ≡ true
     outputs = and-first (outputsOk (r .first) (r .second)) _ (tests .1)
 
     edges-pass : checkedFor s own (r .first) (r .second) ≡ Passed
-    unfolding checkedFor
-    edges-pass =
-        need-true (settingsOk s) Setting (need (outputsOk (r .first) (r .second)) Lengths (tableCheck s own)) (tests .0)
-        ∙ need-true (outputsOk (r .first) (r .second)) Lengths (tableCheck s own) outputs ∙ tests .2
+    edges-pass = with-fit (outputsOk (r .first) (r .second)) s own outputs ∙ tests .2
 
     acc : Accepted ks ds ws cnt × (r .second ≡ r .first)
     acc = accepted s ks ds ws cnt (r .first) (r .second) edges-pass

@@ -17,14 +17,14 @@ use Rattle.lists.specs.declared.Listed.{Listed}
 use Rattle.lists.specs.declared.Listed.the-variants as listed
 use Rattle.lists.proofs.Bools.{and-first, and-second, and-eq}
 use Rattle.lists.proofs.PaddingLaws.{padded-length}
-use Rattle.refusals.specs.declared.Refusal.the-variants.{Setting, Lengths}
+use Rattle.refusals.specs.declared.Refusal.the-variants.{Lengths}
 use Rattle.search.specs.Keys.{ascending}
-use Rattle.table.specs.Table.{Table, table, beside, rows, settingsOk, tableCheck}
+use Rattle.table.specs.Table.{Table, table, beside, rows}
 use Rattle.table.specs.declared.Settings.{Settings}
 use Rattle.table.specs.declared.Checked.{Checked}
 use Rattle.table.proofs.Laying.{columns}
 use Rattle.table.specs.Rows.{keysOf}
-use Rattle.table.proofs.Checking.{need-passed}
+use Rattle.table.proofs.Checking.{with-passed}
 use Rattle.edges.specs.Edges.{Edge}
 use Rattle.edges.specs.Listing.{firsts, seconds, outputsOk, checkedFor, answerIf, crossingsAnswer, edgesAnswer, firstsHeld, secondsHeld}
 use Rattle.edges.specs.Steps.{Accepted}
@@ -60,8 +60,7 @@ module _ (s : Settings) (ks : List ℕ) (ds ws : List Float) (cnt a b : ℕ) (l 
   keys-are = sym (columns ks ds ws cnt (acc .0 .distances) (acc .0 .weights) .0)
 
   outputs : outputsOk a b ≡ true
-  unfolding checkedFor
-  outputs = need-passed (outputsOk a b) Lengths (tableCheck s t) (need-passed (settingsOk s) Setting _ (fit .edges) .1) .0
+  outputs = with-passed (outputsOk a b) s t (fit .edges) .0
 
   edges-answer : edgesAnswer s t a b ≡ roomFor (length es) a
   unfolding crossingsAnswer answerIf

@@ -8,9 +8,9 @@ use lib.Ieee.{Float}
 use lib.ListN.{length, replicate}
 use Rattle.floats.specs.Floats.{zero32}
 use Rattle.lists.specs.Padding.{padded}
-use Rattle.refusals.specs.declared.Refusal.the-variants.{Setting, Lengths, NoPlace}
+use Rattle.refusals.specs.declared.Refusal.the-variants.{NoPlace}
 use Rattle.refusals.specs.Refusals.{numberOf}
-use Rattle.table.specs.Table.{Table, rows, settingsOk, need, tableCheck}
+use Rattle.table.specs.Table.{Table, rows, checkWith}
 use Rattle.table.specs.declared.Settings.{Settings}
 use Rattle.table.specs.declared.Checked.{Checked}
 use Rattle.table.specs.declared.Checked.the-variants as checked
@@ -72,8 +72,7 @@ roomsOk r =
 
 -- refusals 1, 2 and 3
 unfoldable pub meshCheck : Settings → Table → Rooms → Checked
-unfolding need
-meshCheck s t r = need (settingsOk s) Setting (need (roomsOk r) Lengths (tableCheck s t))
+meshCheck s t r = checkWith (roomsOk r) s t
 
 -- edges, vertices, groups and triangles each have room in their own list
 abbrev pub haveRoomOn : Surface → Table → Rooms → Bool

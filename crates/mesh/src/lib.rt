@@ -65,13 +65,14 @@ fn check(
 ) -> Checked
     ensures { λ r. ⌜ r ≡ meshCheck settings (table (now (keys .entry)) (now (distances .entry)) (now (weights .entry)) count) rooms ⌝ }
 {
-    if !table::settings_ok(settings) {
-        return Checked::Refused(Refusal::Setting);
-    }
-    if !rooms_ok(rooms) {
-        return Checked::Refused(Refusal::Lengths);
-    }
-    table::check_table(settings, keys, distances, weights, count)
+    table::check_with(
+        rooms_ok(rooms),
+        settings,
+        keys,
+        distances,
+        weights,
+        count,
+    )
 }
 
 // The edges of document 01's surface, and from them the groups and the triangles.

@@ -9,6 +9,7 @@ use lib.Dec.{eqb, leb, ltb}
 use lib.Ieee.{Float}
 use lib.ListN.{length, take, replicate, length-map}
 use borrow.Author.Tests.{eqb-true, eq-eqb, leb-true, le-leb, lt-ltb}
+use Rattle.lists.specs.Beside.{besideBy}
 use Rattle.floats.specs.Floats.{zero32, thousand, million, isFinite, positiveTo}
 use Rattle.lists.specs.Lists.{_∈_}
 use Rattle.lists.specs.Listing.{roomFor}
@@ -39,7 +40,7 @@ use Rattle.tetrahedra.specs.ClosedTriangles.{closedTriangles}
 use Rattle.tetrahedra.specs.Closing.{names}
 use Rattle.tetrahedra.proofs.Corners.{or-first-true, or-second-true}
 use Rattle.tetrahedra.proofs.ClosingLaws.{side-small}
-use Rattle.corners.specs.Corners.{setOk, beside, every, vertex, verticesIn, vertexOk, triangle, trianglesIn, triangleOk}
+use Rattle.corners.specs.Corners.{setOk, every, vertex, verticesIn, vertexOk, triangle, trianglesIn, triangleOk}
 use Rattle.surfaces.specs.declared.Area.the-variants.{Square}
 use Rattle.surfaces.specs.Areas.{areaFrom, areaAnswer}
 use Rattle.surfaces.specs.Boxes.{boxOf, boxAnswer}
@@ -72,15 +73,15 @@ module _ {A B C : Type 0} (make : A → A → A → B) (f g h : C → A) where
   -- the columns of a list, whatever follows them, give back what is made of each three
   columns-back :
       (cs : List C) (xs ys zs : List A)
-      → take (length cs) (beside make (map f cs ++ xs) (map g cs ++ ys) (map h cs ++ zs)) ≡ map (λ (x : C). make (f x) (g x) (h x)) cs
-  unfolding beside
+      → take (length cs) (besideBy make (map f cs ++ xs) (map g cs ++ ys) (map h cs ++ zs)) ≡ map (λ (x : C). make (f x) (g x) (h x)) cs
+  unfolding besideBy
   columns-back [] xs ys zs = refl
   columns-back (c ∷ cs) xs ys zs = ap {B = List B} (λ r. make (f c) (g c) (h c) ∷ r) (columns-back cs xs ys zs)
 
   -- three lists of an answer that is a mesh: each column in its own room, and v after it
   module _ (w : Meshed) (i j : ℕ) (done : w ≡ Done i j) (v : A) (a b c : ℕ) (cs : List C) (n : ℕ) (count : n ≡ length cs) (xs ys zs : List A)
       (first : xs ≡ heldIn v w a (map f cs)) (second : ys ≡ heldIn v w b (map g cs)) (third : zs ≡ heldIn v w c (map h cs)) where
-    read-back : take n (beside make xs ys zs) ≡ map (λ (x : C). make (f x) (g x) (h x)) cs
+    read-back : take n (besideBy make xs ys zs) ≡ map (λ (x : C). make (f x) (g x) (h x)) cs
     unfolding heldIn padded
     read-back =
         rw (first, second, third, done, count)
@@ -106,7 +107,7 @@ module _ {A B C : Type 0} (make : A → A → A → B) (f g h : C → A) where
         eqb a b && eqb a c ≡ true
         → leb a 1048576 ≡ true
         → length cs ≤ a
-        → (take n (beside make xs ys zs) ≡ map (λ (x : C). make (f x) (g x) (h x)) cs) × (setOk (length xs) (length ys) (length zs) n ≡ true)
+        → (take n (besideBy make xs ys zs) ≡ map (λ (x : C). make (f x) (g x) (h x)) cs) × (setOk (length xs) (length ys) (length zs) n ≡ true)
     columns-taken same few fits = (read-back, set-taken same few fits)
 
 -- ---- a triangle of either surface names edges

@@ -14,11 +14,12 @@ use Rattle.gathering.proofs.LoadLaws.{puts-loaded, waits-loaded}
 use Rattle.table.specs.declared.Settings.{Settings}
 use Rattle.table.specs.declared.Checked.the-variants.{Passed}
 use Rattle.search.specs.Keys.{ascending}
-use Rattle.table.specs.Table.{Row, Table, table, beside, rowsOf, rows, lengthsOk, tableCheck, relaid}
+use Rattle.table.specs.Table.{Table, table, beside, rowsOf, rows, lengthsOk, tableCheck, relaid}
 use Rattle.table.proofs.RowLaws.{lengths-known}
 use Rattle.table.proofs.Checking.{sound}
 use Rattle.table.proofs.Putting.{rows-length}
 use Rattle.owning.specs.declared.Ran.{Ran}
+use Rattle.batching.specs.Batches.{Entry}
 use Rattle.owning.specs.Runs.{over, Ready, RunLeft, RanTo, RunTo}
 
 -- own rows in lists of 4,096
@@ -64,7 +65,7 @@ module _ (s : Settings) (ks : List ℕ) (ds ws : List Float) (n : ℕ) (passed :
           fits = rw (add-zero n) (fit .0);
         }
 
-    module _ (room : ℕ) (rs : List Row) (from : ℕ) (ran-to : Ran) (ods' ows' : List Float)
+    module _ (room : ℕ) (rs : List Entry) (from : ℕ) (ran-to : Ran) (ods' ows' : List Float)
         (ran : RanTo s oks ods ows own room rs from ran-to ods' ows') (left : n + room ≤ length ks) where
       -- what settling needs
       pub counted : (n + ran-to .added ≡ length (puts (s .«max_weight») (rowsOf oks ods' ows' own) (rows t))) × (n + ran-to .added ≤ length ks)

@@ -10,7 +10,7 @@ use lib.ListN.{length, drop}
 use lib.Ieee.{Float}
 use Rattle.refusals.specs.declared.Refusal.{Refusal}
 use Rattle.table.specs.declared.Settings.{Settings}
-use Rattle.table.specs.Table.{Row, Table}
+use Rattle.table.specs.Table.{Table}
 use Rattle.measuring.specs.declared.Admitted.the-variants.{Far, No}
 use Rattle.owning.specs.declared.Owned.{Owned}
 use Rattle.owning.specs.declared.Owned.the-variants as Owned
@@ -19,12 +19,12 @@ use Rattle.owning.specs.declared.Run.the-variants as Run
 use Rattle.batching.specs.declared.Batched.the-variants as Batched
 use Rattle.measuring.specs.Readings.{admitted}
 use Rattle.fusing.specs.Fusing.{fusedIf, fuseIf, effectOf, fuse}
-use Rattle.batching.specs.Batches.{batchOutcome, directOf, stopOr, batchFrom}
+use Rattle.batching.specs.Batches.{batchOutcome, Entry, directOf, stopOr, batchFrom}
 use Rattle.owning.specs.Runs.{over, Ready, GoesOn, StepLeft, Stepped, RunLeft, RanTo, RunTo}
 
 -- ---- readings that are not near
 
-module _ (s : Settings) (t : Table) (ks : List ℕ) (ds ws : List Float) (own added : ℕ) (ready : Ready s t ks ds ws own added) (r : Row) where
+module _ (s : Settings) (t : Table) (ks : List ℕ) (ds ws : List Float) (own added : ℕ) (ready : Ready s t ks ds ws own added) (r : Entry) where
   pub no-left : (why : Refusal) → admitted s (r .key) (directOf r) ≡ No why → StepLeft s t ks ds ws own added r (Owned.Refused why) ds ws
   unfolding StepLeft batchFrom stopOr fuse effectOf fuseIf fusedIf
   no-left why e = ((λ i rs. rw (ready .again, e)), refl, refl)
@@ -36,14 +36,14 @@ module _ (s : Settings) (t : Table) (ks : List ℕ) (ds ws : List Float) (own ad
 -- ---- the loop
 
 -- the readings before the i-th are fused into the own rows, and added so many
-abbrev pub Running : Settings → List ℕ → List Float → List Float → ℕ → ℕ → List Row → ℕ → ℕ → ℕ → List Float → List Float → Type 0
+abbrev pub Running : Settings → List ℕ → List Float → List Float → ℕ → ℕ → List Entry → ℕ → ℕ → ℕ → List Float → List Float → Type 0
 Running s ks ds₀ ws₀ own room rs from i added ds ws =
     (t : Table) → Ready s t ks ds₀ ws₀ own 0 → t .count + room ≤ length (t .keys)
     → (batchFrom s from (over s t ks ds₀ ws₀ own) (drop from rs) ≡ batchFrom s i (over s t ks ds ws own) (drop i rs)) × Ready s t ks ds ws own added
 
-module _ (s : Settings) (ks : List ℕ) (ds₀ ws₀ : List Float) (own room : ℕ) (rs : List Row) (from i added : ℕ)
+module _ (s : Settings) (ks : List ℕ) (ds₀ ws₀ : List Float) (own room : ℕ) (rs : List Entry) (from i added : ℕ)
     (ds ws : List Float) (run : Running s ks ds₀ ws₀ own room rs from i added ds ws) where
-  module _ (r : Row) (e : drop i rs ≡ r ∷ drop (suc i) rs) (spare : Bool) (left : spare ≡ true → added < room) (ds' ws' : List Float) where
+  module _ (r : Entry) (e : drop i rs ≡ r ∷ drop (suc i) rs) (spare : Bool) (left : spare ≡ true → added < room) (ds' ws' : List Float) where
     -- the batch goes on after a step that lets it
     after-step : (more : ℕ)
         → ((t : Table) → Ready s t ks ds ws own added → (spare ≡ true → t .count + added < length (t .keys)) → GoesOn s t ks ds ws own r ds' ws' more)
@@ -97,7 +97,7 @@ module _ (s : Settings) (ks : List ℕ) (ds₀ ws₀ : List Float) (own room : �
 
 -- ---- parts of a batch, one after the other
 
-module _ (s : Settings) (t : Table) (rs : List Row) (from least : ℕ) (r : Run) (u : Table) (ran : RunTo s t rs from least r u) where
+module _ (s : Settings) (t : Table) (rs : List Entry) (from least : ℕ) (r : Run) (u : Table) (ran : RunTo s t rs from least r u) where
   pub run-stops : (why : Refusal) (i : ℕ) → r ≡ Run.Refused why i → batchFrom s from t (drop from rs) ≡ batchOutcome (Batched.Refused why i) u
   unfolding RunLeft
   run-stops why i e = subst (λ (q : Run). RunLeft s t rs from least q u) e (ran .0)

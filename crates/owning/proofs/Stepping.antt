@@ -41,7 +41,7 @@ use Rattle.owning.specs.declared.Owned.{Owned}
 use Rattle.owning.specs.declared.Owned.the-variants as Owned
 use Rattle.measuring.specs.Readings.{admitted}
 use Rattle.fusing.specs.Fusing.{Outcome, outcome, averagingOf, fusedVoxel, voxelAt, hasPlace, stepAt, stored, fusedNear, fusedIf, fuseIf, effectOf, answered, fuse}
-use Rattle.batching.specs.Batches.{batchOutcome, directOf, stopOr, batchFrom}
+use Rattle.batching.specs.Batches.{batchOutcome, Entry, directOf, stopOr, batchFrom}
 use Rattle.owning.specs.Runs.{over, Ready, OwnPlace, oldVoxel, voxelAfter, Placed, StepLeft}
 use Rattle.fusing.proofs.Keeping.{weight-above, voxel-kept, zero-in, fuse-keeps}
 use Rattle.fusing.proofs.FuseLaws.{stored-answers}
@@ -289,7 +289,7 @@ module _ (s : Settings) (t : Table) (ks : List ℕ) (ds ws : List Float) (own ad
           fits = f;
         }
 
-    module _ (r : Row) (keyed : r .key ≡ k) (near : admitted s k (directOf r) ≡ Near m) where
+    module _ (r : Entry) (keyed : r .key ≡ k) (near : admitted s k (directOf r) ≡ Near m) where
       fused : fuse s now-table (r .key) (directOf r) ≡ answered (fusedNear how now-table k m)
       unfolding fuse effectOf fuseIf fusedIf
       fused = rw (keyed, ready .again, near)
@@ -303,7 +303,7 @@ module _ (s : Settings) (t : Table) (ks : List ℕ) (ds ws : List Float) (own ad
       goes-on :
           Said
           → within million (v .distance) ≡ true
-          → (i : ℕ) (rs : List Row)
+          → (i : ℕ) (rs : List Entry)
           → batchFrom s i now-table (r ∷ rs) ≡ batchFrom s (suc i) (over s t ks (set ds p (v .distance)) (set ws p (v .weight)) own) rs
       unfolding batchFrom stopOr
       goes-on said b i rs =
@@ -316,7 +316,7 @@ module _ (s : Settings) (t : Table) (ks : List ℕ) (ds ws : List Float) (own ad
       ends-there :
           Said
           → within million (v .distance) ≡ false
-          → (i : ℕ) (rs : List Row)
+          → (i : ℕ) (rs : List Entry)
           → batchFrom s i now-table (r ∷ rs) ≡ batchOutcome (Batched.Refused TooLarge i) now-table
       unfolding batchFrom stopOr
       ends-there said b i rs =

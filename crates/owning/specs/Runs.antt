@@ -14,7 +14,7 @@ use Rattle.search.specs.declared.Found.{Found}
 use Rattle.search.specs.declared.Found.the-variants.{At, Absent}
 use Rattle.table.specs.declared.Checked.the-variants.{Passed}
 use Rattle.search.specs.Keys.{find, ascending}
-use Rattle.table.specs.Table.{Row, Table, rowsOf, rows, lengthsOk, tableCheck, relaid}
+use Rattle.table.specs.Table.{Table, rowsOf, rows, lengthsOk, tableCheck, relaid}
 use Rattle.fusing.specs.declared.Averaging.{Averaging}
 use Rattle.fusing.specs.declared.Voxel.{Voxel}
 use Rattle.measuring.specs.declared.Measured.{Measured}
@@ -25,7 +25,7 @@ use Rattle.owning.specs.declared.Run.the-variants as Run
 use Rattle.owning.specs.declared.Ran.{Ran}
 use Rattle.batching.specs.declared.Batched.the-variants as Batched
 use Rattle.fusing.specs.Fusing.{fusedVoxel}
-use Rattle.batching.specs.Batches.{batchOutcome, batchFrom}
+use Rattle.batching.specs.Batches.{batchOutcome, Entry, batchFrom}
 
 -- the table with the own rows that stand
 abbrev pub over : Settings → Table → List ℕ → List Float → List Float → ℕ → Table
@@ -75,40 +75,40 @@ Placed how ds ws p spare m (Owned.Refused why) ds' ws' =
     × ((standing (how .most) (getD ws p nan) ≡ true) ⊎ (spare ≡ true))
 
 -- a batch goes on with the own rows that a reading left and so many rows added
-abbrev pub GoesOn : Settings → Table → List ℕ → List Float → List Float → ℕ → Row → List Float → List Float → ℕ → Type 0
+abbrev pub GoesOn : Settings → Table → List ℕ → List Float → List Float → ℕ → Entry → List Float → List Float → ℕ → Type 0
 GoesOn s t ks ds ws own r ds' ws' added =
-    ((i : ℕ) (rs : List Row) → batchFrom s i (over s t ks ds ws own) (r ∷ rs) ≡ batchFrom s (suc i) (over s t ks ds' ws' own) rs)
+    ((i : ℕ) (rs : List Entry) → batchFrom s i (over s t ks ds ws own) (r ∷ rs) ≡ batchFrom s (suc i) (over s t ks ds' ws' own) rs)
     × Ready s t ks ds' ws' own added
 
 -- a batch goes on, ends there, or the reading is left to others
-unfoldable pub StepLeft : Settings → Table → List ℕ → List Float → List Float → ℕ → ℕ → Row → Owned → List Float → List Float → Type 0
+unfoldable pub StepLeft : Settings → Table → List ℕ → List Float → List Float → ℕ → ℕ → Entry → Owned → List Float → List Float → Type 0
 StepLeft s t ks ds ws own added r Owned.Far ds' ws' = GoesOn s t ks ds ws own r ds' ws' added
 StepLeft s t ks ds ws own added r Owned.Changed ds' ws' = GoesOn s t ks ds ws own r ds' ws' added
 StepLeft s t ks ds ws own added r Owned.Added ds' ws' = GoesOn s t ks ds ws own r ds' ws' (suc added)
 StepLeft s t ks ds ws own added r Owned.Unknown ds' ws' = (ds' ≡ ds) × (ws' ≡ ws)
 StepLeft s t ks ds ws own added r (Owned.Refused why) ds' ws' =
-    ((i : ℕ) (rs : List Row) → batchFrom s i (over s t ks ds ws own) (r ∷ rs) ≡ batchOutcome (Batched.Refused why i) (over s t ks ds ws own))
+    ((i : ℕ) (rs : List Entry) → batchFrom s i (over s t ks ds ws own) (r ∷ rs) ≡ batchOutcome (Batched.Refused why i) (over s t ks ds ws own))
     × (ds' ≡ ds) × (ws' ≡ ws)
 
 -- the same beside every table
-abbrev pub Stepped : Settings → List ℕ → List Float → List Float → ℕ → Bool → Row → Owned → List Float → List Float → Type 0
+abbrev pub Stepped : Settings → List ℕ → List Float → List Float → ℕ → Bool → Entry → Owned → List Float → List Float → Type 0
 Stepped s ks ds ws own spare r step ds' ws' =
     (t :
     Table) (added : ℕ) → Ready s t ks ds ws own added → (spare ≡ true
     → t .count + added < length (t .keys)) → StepLeft s t ks ds ws own added r step ds' ws'
 
 -- where a part of a batch leaves off, at the least-th reading or later, it goes on with the table that is left; or it ends there
-unfoldable pub RunLeft : Settings → Table → List Row → ℕ → ℕ → Run → Table → Type 0
+unfoldable pub RunLeft : Settings → Table → List Entry → ℕ → ℕ → Run → Table → Type 0
 RunLeft s t rs from least (Run.Reached i) u =
     (batchFrom s from t (drop from rs) ≡ batchFrom s i u (drop i rs)) × (least ≤ i) × (i ≤ length rs)
 RunLeft s t rs from least (Run.Refused why i) u = batchFrom s from t (drop from rs) ≡ batchOutcome (Batched.Refused why i) u
 
 -- a part of a batch through own rows, beside every table
-abbrev pub RanTo : Settings → List ℕ → List Float → List Float → ℕ → ℕ → List Row → ℕ → Ran → List Float → List Float → Type 0
+abbrev pub RanTo : Settings → List ℕ → List Float → List Float → ℕ → ℕ → List Entry → ℕ → Ran → List Float → List Float → Type 0
 RanTo s ks ds ws own room rs from ran ds' ws' =
     (t : Table) → Ready s t ks ds ws own 0 → t .count + room ≤ length (t .keys)
     → RunLeft s (over s t ks ds ws own) rs from from (ran .run) (over s t ks ds' ws' own) × Ready s t ks ds' ws' own (ran .added)
 
 -- a part of a batch, and the table that it leaves
-abbrev pub RunTo : Settings → Table → List Row → ℕ → ℕ → Run → Table → Type 0
+abbrev pub RunTo : Settings → Table → List Entry → ℕ → ℕ → Run → Table → Type 0
 RunTo s t rs from least run u = RunLeft s t rs from least run u × (tableCheck s u ≡ Passed)

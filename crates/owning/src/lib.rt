@@ -23,7 +23,8 @@ ghost use mathlib.Core.Bool.{true};
 ghost use Prim.Native.Nat.{_+_, _<_, _≤_};
 ghost use lib.ListN.{length, take};
 ghost use Rattle.search.specs.Keys.{ascending};
-ghost use Rattle.table.specs.Table.{row, table, beside, lengthsOk, settingsOk, tableCheck};
+ghost use Rattle.table.specs.Table.{table, lengthsOk, settingsOk, tableCheck};
+ghost use Rattle.batching.specs.Batches.{entry, entries};
 ghost use Rattle.owning.specs.Runs.{OwnPlace, oldVoxel, Placed, Stepped, RanTo, RunTo};
 
 // What a reading does to the own rows of a batch: nothing where it is far; a row is added or changed; it is left to
@@ -128,7 +129,7 @@ fn fuse_own(
     requires { ⌜ settingsOk settings ≡ true ⌝ }
     requires { ⌜ lengthsOk (length (now «own_keys»)) (length (now «own_distances»)) (length (now «own_weights»)) own ≡ true ⌝ }
     ensures { λ r. ⌜ Stepped settings (now («own_keys» .entry)) (now («own_distances» .entry))
-        (now («own_weights» .entry)) own spare (row key distance confidence) r (now («own_distances» .exit))
+        (now («own_weights» .entry)) own spare (entry key distance confidence) r (now («own_distances» .exit))
         (now («own_weights» .exit)) ⌝ }
 {
     let reading = Reading::Direct {
@@ -173,7 +174,7 @@ fn fuse_run(
     requires { ⌜ (length (now «batch_distances») ≡ length (now «batch_keys»)) × (length (now «batch_confidences») ≡ length (now «batch_keys»)) ⌝ }
     ensures { λ r. ⌜ RanTo settings (now («own_keys» .entry)) (now («own_distances» .entry))
         (now («own_weights» .entry)) own room
-        (beside (now («batch_keys» .entry)) (now («batch_distances» .entry)) (now («batch_confidences» .entry))) from r
+        (entries (now («batch_keys» .entry)) (now («batch_distances» .entry)) (now («batch_confidences» .entry))) from r
         (now («own_distances» .exit)) (now («own_weights» .exit)) ⌝ }
 {
     let mut added = 0;
@@ -273,7 +274,7 @@ pub fn batch_run(
     requires { ⌜ (length (now «batch_distances») ≡ length (now «batch_keys»)) × (length (now «batch_confidences») ≡ length (now «batch_keys»)) ⌝ }
     ensures { λ r. ⌜ RunTo settings
         (table (now (keys .entry)) (now (distances .entry)) (now (weights .entry)) (now (count .entry)))
-        (beside (now («batch_keys» .entry)) (now («batch_distances» .entry)) (now («batch_confidences» .entry))) from from
+        (entries (now («batch_keys» .entry)) (now («batch_distances» .entry)) (now («batch_confidences» .entry))) from from
         r (table (now (keys .exit)) (now (distances .exit)) (now (weights .exit)) (now (count .exit))) ⌝ }
 {
     let to = end_of(batch_keys.len(), from);

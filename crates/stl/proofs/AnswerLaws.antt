@@ -1,16 +1,18 @@
 -- What each answer means: tests passed, and what the lent lists hold by it.
 -- Assumes nothing.
-use Prim.Native.Nat.{ℕ, suc, _+_, _-_, _*_, _<_, _≤_, zero-le}
-use native.Mathlib.Nat.{not-suc-le-zero, suc-ne-zero, suc-inj, min-eq-left}
+use Prim.Native.Nat.{ℕ, _+_, _-_, _*_, _<_, _≤_, zero-le}
+use native.Mathlib.Nat.{not-suc-le-zero, min-eq-left}
 use native.Mathlib.Omega.{arith}
 use mathlib.Core.Path.{_≡_, refl, sym, ap, _∙_}
 use mathlib.Core.Bool.{Bool, true, false, cond, not, _&&_}
-use mathlib.Core.List.{List, [], _∷_, map, append-nil}
+use mathlib.Core.List.{List, map, append-nil}
 use borrow.Author.Tests.{leb-true, eqb-true, le-ltb, lt-ltb, eq-eqb, ne-eqb}
 use lib.Dec.{leb, ltb, eqb}
 use lib.ListN.{length, take, length-take, length-replicate, length-map}
 use lib.Seq.{sets, sets-eq, drop-length}
 use lib.Ieee.{Float}
+use Rattle.lists.specs.Beside.{besideBy}
+use Rattle.lists.proofs.BesideLaws.{by-length}
 use Rattle.refusals.specs.declared.Refusal.{Refusal}
 use Rattle.refusals.specs.declared.Refusal.the-variants.{Lengths, NoPlace, BadVertex, BadLength}
 use Rattle.lists.specs.Padding.{padded}
@@ -21,7 +23,7 @@ use Rattle.lists.specs.declared.Listed.the-variants.{Count, Refused}
 use Rattle.lists.proofs.Bools.{yes, and-first, and-second, or-second}
 use Rattle.lists.proofs.Writing.{sets-front, cleared-whole}
 use Rattle.slopes.specs.declared.Vertex.{Vertex}
-use Rattle.corners.specs.Corners.{setOk, beside, every, vertexOk, verticesIn, triangle, trianglesIn, triangleOk}
+use Rattle.corners.specs.Corners.{setOk, every, vertexOk, verticesIn, triangle, trianglesIn, triangleOk}
 use Rattle.corners.specs.Steps.{Lent}
 use Rattle.corners.proofs.Sets.{lent}
 use Rattle.words.specs.Words.{zeros}
@@ -40,22 +42,12 @@ set-few a b c n e =
     let m = leb-true n a (and-second (leb a 1048576) _ t) in
     omega arith
 
-beside-length : {A B : Type 0} (make : A → A → A → B) (xs ys zs : List A)
-    → length ys ≡ length xs
-    → length zs ≡ length xs
-    → length (beside make xs ys zs) ≡ length xs
-unfolding beside
-beside-length make [] ys zs p q = refl
-beside-length make (x ∷ xs) [] zs p q = absurd (suc-ne-zero _ (sym p))
-beside-length make (x ∷ xs) (y ∷ ys) [] p q = absurd (suc-ne-zero _ (sym q))
-beside-length make (x ∷ xs) (y ∷ ys) (z ∷ zs) p q = ap suc (beside-length make xs ys zs (suc-inj p) (suc-inj q))
-
 -- as many triangles are written as are lent, those without area too
 pub facets-length : (xs ys zs : List Float) (n : ℕ) (is js ks : List ℕ) (m : ℕ) → Lent is js ks m → length (facetsLent xs ys zs n is js ks m) ≡ m
 facets-length xs ys zs n is js ks m l =
     length-map (trianglesIn is js ks m) _
-    ∙ length-take m (beside triangle is js ks)
-    ∙ min-eq-left (rw (beside-length triangle is js ks (l .second) (l .third)) (l .fits))
+    ∙ length-take m (besideBy triangle is js ks)
+    ∙ min-eq-left (rw (by-length triangle is js ks (l .second) (l .third)) (l .fits))
 
 -- zeros to the end clear the rest of a list
 pub zeros-clear : (l : List ℕ) (n : ℕ) → n ≤ length l → sets l n (zeros (length l - n)) ≡ clearedFrom 0 n l

@@ -10,6 +10,7 @@ use lib.Dec.{T}
 use lib.ListN.{length, getD, take}
 use lib.Ieee.{Float, fits, binary32}
 use lib.Ieee.Bits.{ofBits-fits}
+use Rattle.lists.specs.Beside.{besideBy}
 use Rattle.lists.specs.Lists.{joined, All}
 use Rattle.lists.specs.Listing.{heldFor}
 use Rattle.lists.specs.declared.Listed.the-variants.{Count}
@@ -17,7 +18,7 @@ use Rattle.lists.proofs.Bools.{and-eq}
 use Rattle.lists.proofs.PaddingLaws.{padded-front}
 use Rattle.floats.specs.Floats.{f32, zero32}
 use Rattle.slopes.specs.declared.Vertex.{Vertex}
-use Rattle.corners.specs.Corners.{beside, every, vertex, vertexOk, verticesIn, Triangle, trianglesIn}
+use Rattle.corners.specs.Corners.{every, vertex, vertexOk, verticesIn, Triangle, trianglesIn}
 use Rattle.surfaces.specs.Areas.{numbered}
 use Rattle.stl.specs.Files.{Facet, fileOf, statedIn, facetsIn, cornersOf}
 use Rattle.stl.specs.Calls.{facetsOf, facetsLent, exportAnswer, importAnswer}
@@ -44,8 +45,8 @@ module _ {A : Type 0} (P : A → Type 0) where
   all-at (x ∷ xs) d zero p h = h .0
   all-at (x ∷ xs) d (suc i) p h = all-at xs d i p (h .1)
 
-beside-all : (xs ys zs : List Float) → All Binary xs → All Binary ys → All Binary zs → All BinaryVertex (beside vertex xs ys zs)
-unfolding All beside
+beside-all : (xs ys zs : List Float) → All Binary xs → All Binary ys → All Binary zs → All BinaryVertex (besideBy vertex xs ys zs)
+unfolding All besideBy
 beside-all [] ys zs p q r = tt
 beside-all (x ∷ xs) [] zs p q r = tt
 beside-all (x ∷ xs) (y ∷ ys) [] p q r = tt
@@ -92,7 +93,7 @@ module _ (xs ys zs : List Float) (n : ℕ) (is js ks : List ℕ) (m room k : ℕ
         let zero-fits : T (fits binary32 zero32) = ofBits-fits binary32 0 in
         let at : (k : ℕ) → BinaryVertex (numbered (verticesIn xs ys zs n) k) =
         λ k. all-at BinaryVertex (verticesIn xs ys zs n) (vertex zero32 zero32 zero32) k (zero-fits, zero-fits, zero-fits)
-        (taken-all BinaryVertex n (beside vertex xs ys zs) (beside-all xs ys zs bx by bz)) in
+        (taken-all BinaryVertex n (besideBy vertex xs ys zs) (beside-all xs ys zs bx by bz)) in
         facets-all (verticesIn xs ys zs n) (trianglesIn is js ks m) at
 
     -- Read, it holds the corners bit for bit, and every triangle.

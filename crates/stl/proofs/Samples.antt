@@ -5,12 +5,13 @@ use mathlib.Core.Path.{_≡_, refl}
 use mathlib.Core.List.{List, [], _∷_, _++_}
 use lib.Ieee.{Float, le, lt, eq, neg, ofBits, toBits}
 use lib.ListN.{take}
+use Rattle.lists.specs.Beside.{besideBy}
 use Rattle.refusals.specs.declared.Refusal.the-variants.{BadLength}
 use Rattle.lists.specs.Lists.{joined}
 use Rattle.lists.specs.Threes.{three}
 use Rattle.lists.specs.declared.Listed.the-variants.{Count, Refused}
 use Rattle.floats.specs.Floats.{f32}
-use Rattle.corners.specs.Corners.{beside, every, vertex}
+use Rattle.corners.specs.Corners.{every, vertex}
 use Rattle.words.specs.Words.{zeros, bytesOf}
 use Rattle.stl.specs.Files.{facetBytes, fileOf, facetFrom, facetsFrom, facetsIn}
 use Rattle.stl.specs.Calls.{facetsLent, exportAnswer, importAnswer}
@@ -36,11 +37,11 @@ abbrev file : List ℕ
 file = zeros 80 ++ (1 ∷ 0 ∷ 0 ∷ 0 ∷ zeros 12) ++ (corner ++ corner ++ corner) ++ zeros 2
 
 pub written : (exportAnswer xs ys zs 1 none none none 1 134 ≡ Count 134) × (fileOf (facetsLent xs ys zs 1 none none none 1) ≡ file)
-unfolding exportAnswer fileOf facetBytes joined beside every le lt eq neg ofBits toBits
+unfolding exportAnswer fileOf facetBytes joined besideBy every le lt eq neg ofBits toBits
 written = (refl, refl)
 
 pub read : (importAnswer file 3 3 3 ≡ Count 3) × (facetsIn file ≡ facetsLent xs ys zs 1 none none none 1)
-unfolding importAnswer facetsFrom facetFrom joined beside every le lt eq neg ofBits
+unfolding importAnswer facetsFrom facetFrom joined besideBy every le lt eq neg ofBits
 read = (refl, refl)
 
 -- an empty file, one of 83 bytes, one a byte short, one a byte long, and a count of 2 ^ 31 without triangles

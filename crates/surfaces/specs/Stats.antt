@@ -4,6 +4,7 @@ use mathlib.Core.Bool.{Bool, false, cond, not, _&&_}
 use mathlib.Core.List.{List}
 use lib.ListN.{length, take}
 use lib.Ieee.{Float, eq}
+use Rattle.lists.specs.Beside.{besideBy}
 use Rattle.floats.specs.Floats.{zero32}
 use Rattle.refusals.specs.Refusals.{numberOf}
 use Rattle.refusals.specs.declared.Refusal.the-variants.{Lengths}
@@ -11,11 +12,11 @@ use Rattle.slopes.specs.declared.Normal.{Normal}
 use Rattle.slopes.specs.Normals.{normal}
 use Rattle.surfaces.specs.declared.MeshStats.{MeshStats}
 use Rattle.surfaces.specs.declared.MeshStats.the-variants.{HasNormals, Refused}
-use Rattle.corners.specs.Corners.{setOk, beside, every}
+use Rattle.corners.specs.Corners.{setOk, every}
 
 -- the normals of the first n places
 abbrev pub normalsIn : List Float → List Float → List Float → ℕ → List Normal
-normalsIn xs ys zs n = take n (beside normal xs ys zs)
+normalsIn xs ys zs n = take n (besideBy normal xs ys zs)
 
 -- three zeros of either sign
 abbrev pub isNone : Normal → Bool

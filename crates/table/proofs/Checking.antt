@@ -1,7 +1,7 @@
 -- What a table that passed the tests is: each test that passed says its own part.
 -- Assumes nothing.
-use mathlib.Core.Path.{_≡_, refl, sym}
-use mathlib.Core.Bool.{Bool, true, false}
+use mathlib.Core.Path.{_≡_, refl, sym, ap}
+use mathlib.Core.Bool.{Bool, true, false, _&&_}
 use Prim.Native.Nat.{ℕ}
 use native.Mathlib.Omega.{arith}
 use lib.ListN.{length, take}
@@ -12,7 +12,7 @@ use Rattle.table.specs.declared.Settings.{Settings}
 use Rattle.table.specs.declared.Checked.{Checked}
 use Rattle.table.specs.declared.Checked.the-variants.{Passed, Refused}
 use Rattle.search.specs.Keys.{ascending}
-use Rattle.table.specs.Table.{Table, settingsOk, lengthsOk, rows, rowsOk, tableOk, need, tableCheck}
+use Rattle.table.specs.Table.{Table, settingsOk, lengthsOk, rows, rowsOk, tableOk, need, checkWith, tableCheck, andThen}
 
 pub need-passed : (b : Bool) (why : Refusal) (rest : Checked) → need b why rest ≡ Passed → (b ≡ true) × (rest ≡ Passed)
 unfolding need
@@ -27,7 +27,7 @@ pub record Sound (s : Settings) (t : Table) : Type 0 where
   pub order : ascending (take (t .count) (t .keys)) ≡ true
 
 pub sound : (s : Settings) (t : Table) → tableCheck s t ≡ Passed → Sound s t
-unfolding tableCheck
+unfolding checkWith
 sound s t e =
     let a = need-passed (settingsOk s) _ _ e in
     let b = need-passed (lengthsOk (length (t .keys)) (length (t .distances)) (length (t .weights)) (t .count)) _ _ (a .1) in
@@ -38,6 +38,26 @@ sound s t e =
       ranges = and-first _ _ (c .0);
       order = and-second (rowsOk (s .«max_weight») (rows t)) _ (c .0);
     }
+
+-- ---- a call's tests
+
+-- a call that passed lends lists of its own that fit, and a table that passes
+pub with-passed : (fits : Bool) (s : Settings) (t : Table) → checkWith fits s t ≡ Passed → (fits ≡ true) × (tableCheck s t ≡ Passed)
+unfolding checkWith need
+with-passed fits s t e =
+    let a = need-passed (settingsOk s) _ _ e in
+    let b = need-passed (fits && lengthsOk (length (t .keys)) (length (t .distances)) (length (t .weights)) (t .count)) _ _ (a .1) in
+    (and-first fits _ (b .0), rw (a .0, and-second fits _ (b .0)) (b .1))
+
+-- where they fit, its tests are the table's
+pub with-fit : (fits : Bool) (s : Settings) (t : Table) → fits ≡ true → checkWith fits s t ≡ tableCheck s t
+with-fit fits s t e = ap (λ (b : Bool). checkWith b s t) e
+
+-- what passed with a test after it passed both
+pub went-on : (c rest : Checked) → andThen c rest ≡ Passed → (c ≡ Passed) × (rest ≡ Passed)
+unfolding andThen
+went-on Passed rest e = (refl, e)
+went-on (Refused why) rest e = let z : _≡_ {A = ℕ} 0 1 = cc in absurd (omega arith)
 
 -- ---- no test answers 6
 
@@ -59,9 +79,10 @@ lengths-spare b rest = other-refusal b Lengths rest (λ e. let z : _≡_ {A = �
 pub row-spares : (b : Bool) (rest : Checked) → (rest ≡ Refused NoPlace → ⊥) → need b BadRow rest ≡ Refused NoPlace → ⊥
 row-spares b rest = other-refusal b BadRow rest (λ e. let z : _≡_ {A = ℕ} 0 1 = cc in omega arith)
 
-pub table-spares : (s : Settings) (t : Table) → tableCheck s t ≡ Refused NoPlace → ⊥
-unfolding tableCheck
-table-spares s t =
+-- no test of a call does
+pub with-spares : (fits : Bool) (s : Settings) (t : Table) → checkWith fits s t ≡ Refused NoPlace → ⊥
+unfolding checkWith
+with-spares fits s t =
     setting-spares (settingsOk s) _
-    (lengths-spare (lengthsOk (length (t .keys)) (length (t .distances)) (length (t .weights)) (t .count)) _
+    (lengths-spare (fits && lengthsOk (length (t .keys)) (length (t .distances)) (length (t .weights)) (t .count)) _
     (row-spares (tableOk (s .«max_weight») t) _ (λ e. not-passed NoPlace (sym e))))

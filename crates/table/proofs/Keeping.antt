@@ -11,13 +11,14 @@ use lib.Dec.{ltb, eqb}
 use lib.ListN.{length, getD, take, drop, length-append, length-drop, length-map}
 use lib.Seq.{take-at}
 use lib.Ieee.{Float, nan}
+use Rattle.lists.specs.Beside.{besideBy}
 use Rattle.floats.specs.Floats.{zero32, million, between, within}
 use Rattle.ids.specs.Key.{onLattice}
 use Rattle.lists.proofs.Bools.{and-first, and-second, cases}
 use Rattle.table.specs.declared.Settings.{Settings}
 use Rattle.table.specs.declared.Checked.the-variants.{Passed}
 use Rattle.search.specs.Keys.{risesFrom, ascending}
-use Rattle.table.specs.Table.{Row, Table, beside, rowsOf, rows, put, laid, relaid, rowOk, rowsOk, lengthsOk, need, tableCheck}
+use Rattle.table.specs.Table.{Row, Table, beside, rowsOf, rows, put, laid, relaid, rowOk, rowsOk, lengthsOk, need, checkWith, tableCheck}
 use Rattle.table.proofs.RowLaws.{lengths-known}
 use Rattle.table.specs.Rows.{keysOf}
 use Rattle.table.proofs.Laying.{distancesOf, weightsOf}
@@ -77,7 +78,7 @@ put-ascends r (s ∷ rs) g =
 -- ---- the rows that were laid are the rows that are read
 
 pub read-back : (rs : List Row) (a : List ℕ) (b c : List Float) → rowsOf (keysOf rs ++ a) (distancesOf rs ++ b) (weightsOf rs ++ c) (length rs) ≡ rs
-unfolding beside
+unfolding besideBy
 read-back [] a b c = refl
 read-back (r ∷ rs) a b c = ap {B = List Row} (λ t. r ∷ t) (read-back rs a b c)
 
@@ -103,7 +104,7 @@ pub relaid-check :
     → rowsOk (s .«max_weight») rs ≡ true
     → ascending (keysOf rs) ≡ true
     → tableCheck s (relaid t rs) ≡ Passed
-unfolding tableCheck need relaid
+unfolding checkWith need relaid
 relaid-check s t rs e h g a =
     let k = sound s t e in
     let f = lengths-known (length (t .keys)) (length (t .distances)) (length (t .weights)) (t .count) (k .lengths) in

@@ -11,6 +11,7 @@ use lib.Dec.{ltb, eqb}
 use lib.ListN.{length, getD, take, drop, set, length-map, length-set, length-append, length-take, length-drop, take-append-drop}
 use lib.Seq.{length-take-le, set-append-left, take-take}
 use lib.Ieee.{Float}
+use Rattle.lists.specs.Beside.{besideBy}
 use Rattle.lists.specs.Places.{opened}
 use Rattle.search.specs.declared.Found.the-variants.{Absent}
 use Rattle.search.specs.Keys.{find, placeOf, ascending}
@@ -32,7 +33,7 @@ pub columns :
     → length ds ≡ length ks
     → length ws ≡ length ks
     → (keysOf (rowsOf ks ds ws n) ≡ take n ks) × (distancesOf (rowsOf ks ds ws n) ≡ take n ds) × (weightsOf (rowsOf ks ds ws n) ≡ take n ws)
-unfolding beside
+unfolding besideBy
 columns ks ds ws zero p q = (refl, refl, refl)
 columns [] [] [] (suc n) p q = (refl, refl, refl)
 columns [] (d ∷ ds) ws (suc n) p q = absurd (suc-ne-zero _ p)

@@ -1,17 +1,16 @@
 -- Rows that stand side by side in three lists of equal length.
 -- Assumes nothing.
-use mathlib.Core.Path.{_≡_, refl, sym, ap}
+use mathlib.Core.Path.{_≡_, sym}
 use mathlib.Core.Bool.{Bool, true, false}
-use mathlib.Core.List.{List, [], _∷_}
-use Prim.Native.Nat.{ℕ, zero, suc, _<_, _≤_}
-use native.Mathlib.Nat.{not-suc-le-zero, le-of-suc-le-suc, suc-ne-zero, suc-inj}
-use native.Mathlib.Omega.{arith}
+use mathlib.Core.List.{List, _∷_}
+use Prim.Native.Nat.{ℕ, suc, _<_, _≤_}
 use borrow.Author.Tests.{leb-true, eqb-true}
 use lib.Dec.{leb, eqb}
-use lib.ListN.{length, getD, drop, length-take, drop-of-length-le}
+use lib.ListN.{length, getD, drop}
 use lib.Ieee.{Float, nan}
 use Rattle.table.specs.Table.{row, beside, rowsOf, rowOk, rowsOk, lengthsOk}
 use Rattle.lists.proofs.Bools.{and-first, and-second}
+use Rattle.lists.proofs.BesideLaws.{by-length, by-at, by-past}
 
 -- what lengths that pass are
 pub lengths-known : (a b c n : ℕ) → lengthsOk a b c n ≡ true → (n ≤ a) × (b ≡ a) × (c ≡ a) × (a ≤ 65536)
@@ -26,11 +25,7 @@ lengths-known a b c n e =
 
 -- as many rows as places
 pub beside-length : (ks : List ℕ) (ds ws : List Float) → length ds ≡ length ks → length ws ≡ length ks → length (beside ks ds ws) ≡ length ks
-unfolding beside
-beside-length [] ds ws p q = refl
-beside-length (k ∷ ks) [] ws p q = absurd (suc-ne-zero _ (sym p))
-beside-length (k ∷ ks) (d ∷ ds) [] p q = absurd (suc-ne-zero _ (sym q))
-beside-length (k ∷ ks) (d ∷ ds) (w ∷ ws) p q = ap suc (beside-length ks ds ws (suc-inj p) (suc-inj q))
+beside-length = by-length row
 
 -- the row at place i, and those after it
 pub row-at :
@@ -40,14 +35,7 @@ pub row-at :
     → i < n
     → n ≤ length ks
     → drop i (rowsOf ks ds ws n) ≡ row (getD ks i 0) (getD ds i nan) (getD ws i nan) ∷ drop (suc i) (rowsOf ks ds ws n)
-unfolding beside
-row-at ks ds ws zero i p q h g = absurd (not-suc-le-zero h)
-row-at [] ds ws (suc n) i p q h g = absurd (not-suc-le-zero g)
-row-at (k ∷ ks) [] ws (suc n) i p q h g = absurd (suc-ne-zero _ (sym p))
-row-at (k ∷ ks) (d ∷ ds) [] (suc n) i p q h g = absurd (suc-ne-zero _ (sym q))
-row-at (k ∷ ks) (d ∷ ds) (w ∷ ws) (suc n) zero p q h g = refl
-row-at (k ∷ ks) (d ∷ ds) (w ∷ ws) (suc n) (suc i) p q h g =
-    row-at ks ds ws n i (suc-inj p) (suc-inj q) (le-of-suc-le-suc h) (le-of-suc-le-suc g)
+row-at ks ds ws n i = by-at row ks ds ws 0 nan nan n i
 
 module _ (most : Float) (ks : List ℕ) (ds ws : List Float) (n i : ℕ) (p : length ds ≡ length ks) (q : length ws ≡ length ks) (g : n ≤ length ks) where
   abbrev left : ℕ → Bool
@@ -64,4 +52,4 @@ module _ (most : Float) (ks : List ℕ) (ds ws : List Float) (n i : ℕ) (p : le
 
   pub done : n ≤ i → left i ≡ true
   unfolding rowsOk
-  done h = rw (drop-of-length-le (rowsOf ks ds ws n) {i = i} (rw length-take (omega arith)))
+  done h = rw (by-past row ks ds ws n i h)

@@ -8,6 +8,7 @@ use lib.Ieee.{Float, toBits, binary32}
 use Rattle.floats.specs.Floats.{f32, zero32, thousand, million, between, within, positiveTo}
 use Rattle.floats.specs.declared.Metres.{Metres}
 use Rattle.ids.specs.Key.{onLattice}
+use Rattle.lists.specs.Beside.{besideBy}
 use Rattle.refusals.specs.declared.Refusal.{Refusal}
 use Rattle.refusals.specs.declared.Refusal.the-variants.{Setting, Lengths, BadRow}
 use Rattle.table.specs.declared.Settings.{Settings}
@@ -49,11 +50,8 @@ abbrev pub table : List ℕ → List Float → List Float → ℕ → Table
 table ks ds ws n = record { keys = ks; distances = ds; weights = ws; count = n }
 
 -- three lists side by side, as far as all three go
-unfoldable pub beside : List ℕ → List Float → List Float → List Row
-beside [] ds ws = []
-beside (k ∷ ks) [] ws = []
-beside (k ∷ ks) (d ∷ ds) [] = []
-beside (k ∷ ks) (d ∷ ds) (w ∷ ws) = row k d w ∷ beside ks ds ws
+abbrev pub beside : List ℕ → List Float → List Float → List Row
+beside ks ds ws = besideBy row ks ds ws
 
 -- the rows of the first n places
 abbrev pub rowsOf : List ℕ → List Float → List Float → ℕ → List Row
@@ -94,13 +92,22 @@ unfoldable pub need : Bool → Refusal → Checked → Checked
 need true why rest = rest
 need false why rest = Refused why
 
--- refusals 1, 2 and 3, in this order
-unfoldable pub tableCheck : Settings → Table → Checked
+-- the tests of a call, in this order: a setting (1), a lent list, its own, which `fits` tells, or the table's (2), a row (3)
+unfoldable pub checkWith : Bool → Settings → Table → Checked
 unfolding need
-tableCheck s t =
+checkWith fits s t =
     need (settingsOk s) Setting
-    (need (lengthsOk (length (t .keys)) (length (t .distances)) (length (t .weights)) (t .count)) Lengths
+    (need (fits && lengthsOk (length (t .keys)) (length (t .distances)) (length (t .weights)) (t .count)) Lengths
     (need (tableOk (s .«max_weight») t) BadRow Passed))
+
+-- those of a call that lends no list but the table's
+abbrev pub tableCheck : Settings → Table → Checked
+tableCheck s t = checkWith true s t
+
+-- what passed goes on to what the call tests after them
+unfoldable pub andThen : Checked → Checked → Checked
+andThen Passed rest = rest
+andThen (Refused why) rest = Refused why
 
 -- r in the place of the row with its key, or as a new row before the first with a larger key
 unfoldable pub put : Row → List Row → List Row

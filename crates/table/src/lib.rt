@@ -8,7 +8,7 @@ use search::keys_ascend;
 ghost use mathlib.Core.Path.{_≡_};
 ghost use Prim.Native.Nat.{_≤_};
 ghost use lib.ListN.{length};
-ghost use Rattle.table.specs.Table.{settingsOf, defaults, table, rowsOf, farthestOk, settingsOk, lengthsOk, rowOk, rowsOk, tableCheck};
+ghost use Rattle.table.specs.Table.{settingsOf, defaults, table, rowsOf, farthestOk, settingsOk, lengthsOk, rowOk, rowsOk, need, checkWith, tableCheck, andThen};
 
 // The most places that a table has.
 pub const LONGEST_TABLE: usize = 65536;
@@ -97,7 +97,30 @@ fn rows_ok(most: f32, keys: &[u64], distances: &[f32], weights: &[f32], count: u
     true
 }
 
-// Refusals 1, 2 and 3.
+// The tests of a call, in this order: settings (1), lists, `fits` says whether its own pass (2), the table's rows (3).
+pub fn check_with(
+    fits: bool,
+    settings: Settings,
+    keys: &[u64],
+    distances: &[f32],
+    weights: &[f32],
+    count: usize,
+) -> Checked
+    ensures { λ r. ⌜ r ≡ checkWith fits settings (table (now (keys .entry)) (now (distances .entry)) (now (weights .entry)) count) ⌝ }
+{
+    if !settings_ok(settings) {
+        return Checked::Refused(Refusal::Setting);
+    }
+    if !(fits & lengths_ok(keys.len(), distances.len(), weights.len(), count)) {
+        return Checked::Refused(Refusal::Lengths);
+    }
+    if !(rows_ok(settings.max_weight, keys, distances, weights, count) & keys_ascend(keys, count)) {
+        return Checked::Refused(Refusal::BadRow);
+    }
+    Checked::Passed
+}
+
+// Those of a call that lends no list but the table's.
 pub fn check_table(
     settings: Settings,
     keys: &[u64],
@@ -107,14 +130,21 @@ pub fn check_table(
 ) -> Checked
     ensures { λ r. ⌜ r ≡ tableCheck settings (table (now (keys .entry)) (now (distances .entry)) (now (weights .entry)) count) ⌝ }
 {
-    if !settings_ok(settings) {
-        return Checked::Refused(Refusal::Setting);
+    check_with(true, settings, keys, distances, weights, count)
+}
+
+// A verdict, and what the call tests after it: `passes`, or why it is refused.
+pub fn and_then(verdict: Checked, passes: bool, why: Refusal) -> Checked
+    ensures { λ r. ⌜ r ≡ andThen verdict (need passes why Checked.Passed) ⌝ }
+{
+    match verdict {
+        Checked::Refused(earlier) => Checked::Refused(earlier),
+        Checked::Passed => {
+            if passes {
+                Checked::Passed
+            } else {
+                Checked::Refused(why)
+            }
+        }
     }
-    if !lengths_ok(keys.len(), distances.len(), weights.len(), count) {
-        return Checked::Refused(Refusal::Lengths);
-    }
-    if !(rows_ok(settings.max_weight, keys, distances, weights, count) & keys_ascend(keys, count)) {
-        return Checked::Refused(Refusal::BadRow);
-    }
-    Checked::Passed
 }

@@ -1,8 +1,7 @@
 -- What a passed check tells the work behind it, and what the list holds after it.
 -- Assumes nothing.
 use Prim.Native.Nat.{ℕ}
-use native.Mathlib.Omega.{arith}
-use mathlib.Core.Path.{_≡_, refl, ap, _∙_}
+use mathlib.Core.Path.{_≡_, ap, _∙_}
 use mathlib.Core.List.{List}
 use lib.Dec.{leb}
 use lib.Ieee.{Float}
@@ -15,18 +14,13 @@ use Rattle.lists.proofs.Held.{written-held}
 use Rattle.table.specs.declared.Settings.{Settings}
 use Rattle.table.specs.declared.Checked.{Checked}
 use Rattle.table.specs.declared.Checked.the-variants as checked
-use Rattle.table.specs.Table.{Table, table, rows, settingsOk, tableCheck}
-use Rattle.table.proofs.Checking.{need-passed}
-use Rattle.tsdf_surveys.specs.Surface.{surfaceKeys, andThen, listCheck, listedIf, surfaceListed}
+use Rattle.table.specs.Table.{Table, table, rows, checkWith}
+use Rattle.table.proofs.Checking.{with-passed, went-on}
+use Rattle.tsdf_surveys.specs.Surface.{surfaceKeys, listCheck, listedIf, surfaceListed}
 use Rattle.tsdf_questions.specs.Steps.{Accepted}
 use Rattle.tsdf_questions.proofs.Answers.{accepted}
 
 -- ---- what the tests tell
-
-went-on : (c rest : Checked) → andThen c rest ≡ checked.Passed → c ≡ checked.Passed
-unfolding andThen
-went-on checked.Passed rest e = refl
-went-on (checked.Refused why) rest e = let z : _≡_ {A = ℕ} 0 1 = cc in absurd (omega arith)
 
 pub list-accepted :
     (s : Settings) (ks : List ℕ) (ds ws : List Float) (n : ℕ) (threshold : Float) (room : ℕ)
@@ -34,7 +28,7 @@ pub list-accepted :
     → Accepted ks ds ws n
 unfolding listCheck
 list-accepted s ks ds ws n threshold room e =
-    accepted s ks ds ws n (went-on (tableCheck s (table ks ds ws n)) _ (need-passed (leb room 1048576) _ _ (need-passed (settingsOk s) _ _ e .1) .1))
+    accepted s ks ds ws n (with-passed (leb room 1048576) s (table ks ds ws n) (went-on (checkWith (leb room 1048576) s (table ks ds ws n)) _ e .0) .1)
 
 -- ---- the surface's cells
 

@@ -6,13 +6,14 @@ use mathlib.Core.Bool.{cond}
 use mathlib.Core.List.{List, [], _∷_}
 use lib.Count.{trailingZeros}
 use lib.Ieee.{binary32, span, climb, size, odd, units, round, neg, sum, add, div, lt, eq, le, ofFields, ofBits, toBits, ofInt}
+use Rattle.lists.specs.Beside.{besideBy}
 use Rattle.floats.specs.Floats.{f32}
 use Rattle.ids.specs.Key.{sameParity}
 use Rattle.ids.specs.Morton.{respaced}
 use Rattle.lists.specs.Lists.{kept}
 use Rattle.table.specs.declared.Settings.{Settings}
 use Rattle.search.specs.Keys.{risesFrom, ascending, next, find}
-use Rattle.table.specs.Table.{Table, table, settingsOf, rows, beside, rowsOk, need, tableCheck}
+use Rattle.table.specs.Table.{Table, table, settingsOf, rows, beside, rowsOk, need, checkWith, tableCheck}
 use Rattle.tsdf_questions.specs.declared.Distance.{Distance}
 use Rattle.tsdf_questions.specs.declared.Distance.the-variants as distance
 use Rattle.tsdf_questions.specs.declared.Surface.{Surface}
@@ -70,6 +71,6 @@ pub samples-hold : asked ≡
     ∷ (0 ∷ 0 ∷ 0 ∷ 0 ∷ 0 ∷ [])
     ∷ []
 unfolding trailingZeros span climb size odd units round neg sum add div lt eq le ofFields ofBits toBits ofInt sameParity
-    respaced kept risesFrom ascending next find beside rowsOk need tableCheck rowAt rowIf rowOf lookedIf lookedUp
+    respaced kept risesFrom ascending next find besideBy rowsOk need checkWith rowAt rowIf rowOf lookedIf lookedUp
     surfaceIf surfaceOf surfaceKeys tallied talliedAll statsOf statisticsIf statisticsOf distanceBits surfaceBit numbers
 samples-hold = refl

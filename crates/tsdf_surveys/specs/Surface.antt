@@ -10,11 +10,11 @@ use Rattle.lists.specs.Lists.{kept}
 use Rattle.lists.specs.Listing.{roomFor, heldFor}
 use Rattle.lists.specs.declared.Listed.{Listed}
 use Rattle.lists.specs.declared.Listed.the-variants as listed
-use Rattle.refusals.specs.declared.Refusal.the-variants.{Setting, Lengths, BadReading}
+use Rattle.refusals.specs.declared.Refusal.the-variants.{BadReading}
 use Rattle.table.specs.declared.Settings.{Settings}
 use Rattle.table.specs.declared.Checked.{Checked}
 use Rattle.table.specs.declared.Checked.the-variants as checked
-use Rattle.table.specs.Table.{Row, Table, rows, settingsOk, need, tableCheck}
+use Rattle.table.specs.Table.{Row, Table, rows, need, checkWith, andThen}
 
 -- |distance| is below the threshold, and the weight above 0
 abbrev pub isSurface : Float → Float → Float → Bool
@@ -24,17 +24,9 @@ isSurface threshold d w = lt (sizeOf d) threshold && lt zero32 w
 unfoldable pub surfaceKeys : Float → List Row → List ℕ
 surfaceKeys threshold rs = map (λ (r : Row). r .key) (kept (λ (r : Row). isSurface threshold (r .distance) (r .weight)) rs)
 
--- what passed goes on
-unfoldable pub andThen : Checked → Checked → Checked
-andThen checked.Passed rest = rest
-andThen (checked.Refused why) rest = checked.Refused why
-
 -- refusals 1, 2, of the list to be filled too, 3 and 5
 unfoldable pub listCheck : Settings → Table → Float → ℕ → Checked
-unfolding need andThen
-listCheck s t threshold room =
-    need (settingsOk s) Setting
-    (need (leb room 1048576) Lengths (andThen (tableCheck s t) (need (isFinite threshold) BadReading checked.Passed)))
+listCheck s t threshold room = andThen (checkWith (leb room 1048576) s t) (need (isFinite threshold) BadReading checked.Passed)
 
 -- then 6, exactly when the list is too short
 unfoldable pub listedIf : Checked → List ℕ → ℕ → Listed

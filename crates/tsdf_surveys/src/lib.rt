@@ -12,8 +12,9 @@ use lists::room_for;
 use refusals::Refusal;
 use table::Checked;
 use table::Settings;
+use table::and_then;
 use table::check_table;
-use table::settings_ok;
+use table::check_with;
 ghost use mathlib.Core.Path.{_≡_};
 ghost use mathlib.Core.Bool.{cond};
 ghost use Prim.Native.Nat.{_+_, _≤_, _<_};
@@ -104,22 +105,15 @@ fn check_list(
 ) -> Checked
     ensures { λ r. ⌜ r ≡ listCheck settings (table (now (keys .entry)) (now (distances .entry)) (now (weights .entry)) count) threshold room ⌝ }
 {
-    if !settings_ok(settings) {
-        return Checked::Refused(Refusal::Setting);
-    }
-    if LONGEST_LIST < room {
-        return Checked::Refused(Refusal::Lengths);
-    }
-    match check_table(settings, keys, distances, weights, count) {
-        Checked::Refused(why) => Checked::Refused(why),
-        Checked::Passed => {
-            if is_finite(threshold) {
-                Checked::Passed
-            } else {
-                Checked::Refused(Refusal::BadReading)
-            }
-        }
-    }
+    let verdict = check_with(
+        room <= LONGEST_LIST,
+        settings,
+        keys,
+        distances,
+        weights,
+        count,
+    );
+    and_then(verdict, is_finite(threshold), Refusal::BadReading)
 }
 
 // The surface's cells, where the tests passed; the places past them are left to be cleared.

@@ -3,7 +3,8 @@
 use Prim.Native.Nat.{_<_}
 use native.Mathlib.Omega.{arith}
 use lib.ListN.{length}
-use Rattle.table.proofs.RowLaws.{beside-length}
+use Rattle.lists.proofs.BesideLaws.{by-length}
+use Rattle.batching.specs.Batches.{entry}
 use Rattle.table.specs.Table.{table}
 use Rattle.owning.specs.Runs.{RunLeft}
 use Rattle.batching.proofs.Batching.{stops, goes-on-far, goes-on-added, goes-on-changed, passes-again}
@@ -100,7 +101,7 @@ returns-2 c =
             (a .batch-keys .now) (a .batch-distances .now) (a .batch-confidences .now) (a .from) (p .1 .1 .0) (p .1 .1 .1)
             h _ _ (at-fuse-sound .fuse-sound .ensures) (c .enum-told .given .1),
         omega arith,
-        rw (beside-length (a .batch-keys .now) (a .batch-distances .now) (a .batch-confidences .now) (p .1 .1 .0)
+        rw (by-length entry (a .batch-keys .now) (a .batch-distances .now) (a .batch-confidences .now) (p .1 .1 .0)
             (p .1 .1 .1)) (omega arith),
       ),
       passes-again (a .settings) (table (a .keys .now) (a .distances .now) (a .weights .now) (a .count .now))
@@ -130,7 +131,7 @@ returns-3 c =
             (a .batch-keys .now) (a .batch-distances .now) (a .batch-confidences .now) (a .from) (p .1 .1 .0) (p .1 .1 .1)
             h _ _ (at-fuse-sound .fuse-sound .ensures) _ (c .enum-told2 .given .1),
         omega arith,
-        rw (beside-length (a .batch-keys .now) (a .batch-distances .now) (a .batch-confidences .now) (p .1 .1 .0)
+        rw (by-length entry (a .batch-keys .now) (a .batch-distances .now) (a .batch-confidences .now) (p .1 .1 .0)
             (p .1 .1 .1)) (omega arith),
       ),
       passes-again (a .settings) (table (a .keys .now) (a .distances .now) (a .weights .now) (a .count .now))
@@ -160,7 +161,7 @@ returns-4 c =
             (a .batch-keys .now) (a .batch-distances .now) (a .batch-confidences .now) (a .from) (p .1 .1 .0) (p .1 .1 .1)
             h _ _ (at-fuse-sound .fuse-sound .ensures) _ (c .enum-told3 .given .1),
         omega arith,
-        rw (beside-length (a .batch-keys .now) (a .batch-distances .now) (a .batch-confidences .now) (p .1 .1 .0)
+        rw (by-length entry (a .batch-keys .now) (a .batch-distances .now) (a .batch-confidences .now) (p .1 .1 .0)
             (p .1 .1 .1)) (omega arith),
       ),
       passes-again (a .settings) (table (a .keys .now) (a .distances .now) (a .weights .now) (a .count .now))

@@ -4,10 +4,10 @@ use mathlib.Core.Path.{_≡_, refl, sym, _∙_}
 use Prim.Native.Nat.{_≤_, _-_}
 use native.Mathlib.Omega.{arith}
 use lib.ListN.{length, drop}
-use Rattle.table.proofs.RowLaws.{beside-length}
-use Rattle.table.specs.Table.{table, beside, tableCheck}
+use Rattle.lists.proofs.BesideLaws.{by-length}
+use Rattle.table.specs.Table.{table, tableCheck}
 use Rattle.table.specs.declared.Checked.the-variants.{Passed}
-use Rattle.batching.specs.Batches.{batchFrom}
+use Rattle.batching.specs.Batches.{entry, entries, batchFrom}
 use Rattle.batching.proofs.Batching.{ended}
 use Rattle.owning.proofs.Running.{run-stops, run-goes}
 use borrow.Author.Needs.{needs}
@@ -20,9 +20,9 @@ Inv-loop settings keys₀ distances₀ weights₀ count₀ batch-keys batch-dist
     (i ≤ length batch-keys)
     × (tableCheck settings (table keys distances weights count) ≡ Passed)
     × (batchFrom settings 0 (table keys₀ distances₀ weights₀ count₀)
-    (beside batch-keys batch-distances batch-confidences)
+    (entries batch-keys batch-distances batch-confidences)
     ≡ batchFrom settings i (table keys distances weights count)
-    (drop i (beside batch-keys batch-distances batch-confidences)))
+    (drop i (entries batch-keys batch-distances batch-confidences)))
     × (length keys ≡ length keys₀)
     × (length distances ≡ length distances₀)
     × (length weights ≡ length weights₀)
@@ -76,7 +76,7 @@ loop-less c =
     let at-loop-test = at-batch-step .before .before .before .before .before in
     let at-start = at-loop-test .before .before .before .before .before .before .before .before in
     let a = at-start .args in
-    let n = beside-length (a .batch-keys .now) (a .batch-distances .now) (a .batch-confidences .now) (at-start .pre .1 .0) (at-start .pre .1 .1) in
+    let n = by-length entry (a .batch-keys .now) (a .batch-distances .now) (a .batch-confidences .now) (at-start .pre .1 .0) (at-start .pre .1 .1) in
     let r = run-goes _ _ _ _ _ _ _ (at-batch-step .batch-step .ensures) _ (c .before .run2 .given .1) in
     omega (arith, n, r .1, r .2, at-loop-test .loop-test .taken)
 
@@ -86,7 +86,7 @@ loop-again c =
     let at-loop = at-batch-step .before .before .before .before .before .before in
     let at-start = at-loop .before .before .before .before .before .before .before in
     let a = at-start .args in
-    let n = beside-length (a .batch-keys .now) (a .batch-distances .now) (a .batch-confidences .now) (at-start .pre .1 .0) (at-start .pre .1 .1) in
+    let n = by-length entry (a .batch-keys .now) (a .batch-distances .now) (a .batch-confidences .now) (at-start .pre .1 .0) (at-start .pre .1 .1) in
     let r = run-goes _ _ _ _ _ _ _ (at-batch-step .batch-step .ensures) _ (c .before .run2 .given .1) in (
       omega (arith, n, r .2),
       at-batch-step .batch-step .ensures .1,

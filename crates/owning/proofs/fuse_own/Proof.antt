@@ -4,7 +4,7 @@ use mathlib.Core.Path.{refl, sym, _∙_}
 use native.Mathlib.Omega.{arith}
 use lib.ListN.{length}
 use Rattle.table.proofs.RowLaws.{lengths-known}
-use Rattle.table.specs.Table.{row}
+use Rattle.batching.specs.Batches.{entry}
 use Rattle.owning.specs.Runs.{StepLeft}
 use Rattle.measuring.proofs.Admitting.{near-known}
 use Rattle.owning.proofs.Stepping.{own-told, near-left}
@@ -79,7 +79,7 @@ returns-4 c =
     λ t added ready room.
     near-left (s .args .settings) t (s .args .own-keys .now) (s .args .own-distances .now) (s .args .own-weights .now)
     (s .args .own) added ready _ (s .args .key) (o .0) (o .1) _ (near-known _ _ _ _ n .1)
-    (row (s .args .key) (s .args .distance) (s .args .confidence)) refl n (s .args .spare) room _ _ _
+    (entry (s .args .key) (s .args .distance) (s .args .confidence)) refl n (s .args .spare) room _ _ _
     (rw (c .before .before .before .before .before .before .before .averaging-of .ensures) at (c .before .before .before .before .fuse-place .ensures))
 
 pub fuse-own-spec : {M : Type 1} → statement M

@@ -7,9 +7,9 @@ use borrow.Author.Tests.{ltb-true}
 use lib.Dec.{ltb}
 use lib.ListN.{length, getD}
 use lib.Ieee.{nan}
-use Rattle.table.proofs.RowLaws.{beside-length}
-use Rattle.table.specs.Table.{row, beside}
-use Rattle.batching.proofs.Batching.{beside-at}
+use Rattle.lists.proofs.BesideLaws.{by-length}
+use Rattle.batching.specs.Batches.{entry, entries}
+use Rattle.batching.proofs.Batching.{entry-at}
 use Rattle.owning.proofs.Running.{Running, passes-over, changes, adds, refuses, stays, ends}
 use borrow.Author.Needs.{needs}
 use Rattle.owning.proofs.fuse_run.Statement.{statement}
@@ -24,7 +24,7 @@ Inv-loop settings own-keys own-distances₀ own-weights₀ own slots room batch-
     × (length own-distances ≡ length own-distances₀)
     × (length own-weights ≡ length own-weights₀)
     × Running settings own-keys own-distances₀ own-weights₀ own room
-    (beside batch-keys batch-distances batch-confidences) from i added own-distances own-weights
+    (entries batch-keys batch-distances batch-confidences) from i added own-distances own-weights
 
 abbrev μ-loop : tie.MeasureT-loop
 μ-loop settings own-keys own-distances₀ own-weights₀ own slots room batch-keys batch-distances batch-confidences from to
@@ -103,11 +103,11 @@ loop-again c =
       at-fuse-own .fuse-own .kept .1 .1 .1 .0 ∙ l .inv .4,
       passes-over (s .args .settings) (s .args .own-keys .now) (s .args .own-distances .now) (s .args .own-weights .now)
           (s .args .own) (s .args .room)
-          (beside (s .args .batch-keys .now) (s .args .batch-distances .now) (s .args .batch-confidences .now))
+          (entries (s .args .batch-keys .now) (s .args .batch-distances .now) (s .args .batch-confidences .now))
           (s .args .from) (l .i) (l .added) (l .own-distances) (l .own-weights) (l .inv .5)
-          (row (getD (s .args .batch-keys .now) (l .i) 0) (getD (s .args .batch-distances .now) (l .i) nan)
+          (entry (getD (s .args .batch-keys .now) (l .i) 0) (getD (s .args .batch-distances .now) (l .i) nan)
           (getD (s .args .batch-confidences .now) (l .i) nan))
-          (beside-at (s .args .batch-keys .now) (s .args .batch-distances .now) (s .args .batch-confidences .now) (l .i)
+          (entry-at (s .args .batch-keys .now) (s .args .batch-distances .now) (s .args .batch-confidences .now) (l .i)
           (s .pre .1 .1 .1 .0) (s .pre .1 .1 .1 .1) h) (ltb (l .added) (s .args .room))
           (λ b. ltb-true (l .added) (s .args .room) b) _ _
           (rw (c .enum-told .given .1) at (at-fuse-own .fuse-own .ensures)),
@@ -140,11 +140,11 @@ loop-again-2 c =
       at-fuse-own .fuse-own .kept .1 .1 .1 .0 ∙ l .inv .4,
       changes (s .args .settings) (s .args .own-keys .now) (s .args .own-distances .now) (s .args .own-weights .now)
           (s .args .own) (s .args .room)
-          (beside (s .args .batch-keys .now) (s .args .batch-distances .now) (s .args .batch-confidences .now))
+          (entries (s .args .batch-keys .now) (s .args .batch-distances .now) (s .args .batch-confidences .now))
           (s .args .from) (l .i) (l .added) (l .own-distances) (l .own-weights) (l .inv .5)
-          (row (getD (s .args .batch-keys .now) (l .i) 0) (getD (s .args .batch-distances .now) (l .i) nan)
+          (entry (getD (s .args .batch-keys .now) (l .i) 0) (getD (s .args .batch-distances .now) (l .i) nan)
           (getD (s .args .batch-confidences .now) (l .i) nan))
-          (beside-at (s .args .batch-keys .now) (s .args .batch-distances .now) (s .args .batch-confidences .now) (l .i)
+          (entry-at (s .args .batch-keys .now) (s .args .batch-distances .now) (s .args .batch-confidences .now) (l .i)
           (s .pre .1 .1 .1 .0) (s .pre .1 .1 .1 .1) h) (ltb (l .added) (s .args .room))
           (λ b. ltb-true (l .added) (s .args .room) b) _ _
           (rw (c .enum-told2 .given .1) at (at-fuse-own .fuse-own .ensures)),
@@ -181,11 +181,11 @@ loop-again-3 c =
       at-fuse-own .fuse-own .kept .1 .1 .1 .0 ∙ l .inv .4,
       adds (s .args .settings) (s .args .own-keys .now) (s .args .own-distances .now) (s .args .own-weights .now)
           (s .args .own) (s .args .room)
-          (beside (s .args .batch-keys .now) (s .args .batch-distances .now) (s .args .batch-confidences .now))
+          (entries (s .args .batch-keys .now) (s .args .batch-distances .now) (s .args .batch-confidences .now))
           (s .args .from) (l .i) (l .added) (l .own-distances) (l .own-weights) (l .inv .5)
-          (row (getD (s .args .batch-keys .now) (l .i) 0) (getD (s .args .batch-distances .now) (l .i) nan)
+          (entry (getD (s .args .batch-keys .now) (l .i) 0) (getD (s .args .batch-distances .now) (l .i) nan)
           (getD (s .args .batch-confidences .now) (l .i) nan))
-          (beside-at (s .args .batch-keys .now) (s .args .batch-distances .now) (s .args .batch-confidences .now) (l .i)
+          (entry-at (s .args .batch-keys .now) (s .args .batch-distances .now) (s .args .batch-confidences .now) (l .i)
           (s .pre .1 .1 .1 .0) (s .pre .1 .1 .1 .1) h) (ltb (l .added) (s .args .room))
           (λ b. ltb-true (l .added) (s .args .room) b) _ _
           (rw (c .enum-told3 .given .1) at (at-fuse-own .fuse-own .ensures)),
@@ -219,14 +219,14 @@ returns c =
     let h : l .i < length (s .args .batch-keys .now) = omega (arith, at-loop-test .loop-test .taken) in
     stays (s .args .settings) (s .args .own-keys .now) (s .args .own-distances .now) (s .args .own-weights .now)
     (s .args .own) (s .args .room)
-    (beside (s .args .batch-keys .now) (s .args .batch-distances .now) (s .args .batch-confidences .now))
+    (entries (s .args .batch-keys .now) (s .args .batch-distances .now) (s .args .batch-confidences .now))
     (s .args .from) (l .i) (l .added) (l .own-distances) (l .own-weights) (l .inv .5)
-    (row (getD (s .args .batch-keys .now) (l .i) 0) (getD (s .args .batch-distances .now) (l .i) nan)
+    (entry (getD (s .args .batch-keys .now) (l .i) 0) (getD (s .args .batch-distances .now) (l .i) nan)
     (getD (s .args .batch-confidences .now) (l .i) nan))
-    (beside-at (s .args .batch-keys .now) (s .args .batch-distances .now) (s .args .batch-confidences .now) (l .i)
+    (entry-at (s .args .batch-keys .now) (s .args .batch-distances .now) (s .args .batch-confidences .now) (l .i)
     (s .pre .1 .1 .1 .0) (s .pre .1 .1 .1 .1) h) (ltb (l .added) (s .args .room))
     (λ b. ltb-true (l .added) (s .args .room) b) _ _ (omega arith)
-    (rw (beside-length (s .args .batch-keys .now) (s .args .batch-distances .now) (s .args .batch-confidences .now)
+    (rw (by-length entry (s .args .batch-keys .now) (s .args .batch-distances .now) (s .args .batch-confidences .now)
     (s .pre .1 .1 .1 .0) (s .pre .1 .1 .1 .1)) (omega arith))
     (rw (c .enum-told4 .given .1) at (at-fuse-own .fuse-own .ensures))
 
@@ -258,11 +258,11 @@ returns-2 c =
     let h : l .i < length (s .args .batch-keys .now) = omega (arith, at-loop-test .loop-test .taken) in
     refuses (s .args .settings) (s .args .own-keys .now) (s .args .own-distances .now) (s .args .own-weights .now)
     (s .args .own) (s .args .room)
-    (beside (s .args .batch-keys .now) (s .args .batch-distances .now) (s .args .batch-confidences .now))
+    (entries (s .args .batch-keys .now) (s .args .batch-distances .now) (s .args .batch-confidences .now))
     (s .args .from) (l .i) (l .added) (l .own-distances) (l .own-weights) (l .inv .5)
-    (row (getD (s .args .batch-keys .now) (l .i) 0) (getD (s .args .batch-distances .now) (l .i) nan)
+    (entry (getD (s .args .batch-keys .now) (l .i) 0) (getD (s .args .batch-distances .now) (l .i) nan)
     (getD (s .args .batch-confidences .now) (l .i) nan))
-    (beside-at (s .args .batch-keys .now) (s .args .batch-distances .now) (s .args .batch-confidences .now) (l .i)
+    (entry-at (s .args .batch-keys .now) (s .args .batch-distances .now) (s .args .batch-confidences .now) (l .i)
     (s .pre .1 .1 .1 .0) (s .pre .1 .1 .1 .1) h) (ltb (l .added) (s .args .room))
     (λ b. ltb-true (l .added) (s .args .room) b) _ _ _
     (rw (c .before .step .given .1) at (at-fuse-own .fuse-own .ensures))
@@ -281,9 +281,9 @@ returns-3 c =
     let l = c .before .loop in
     ends (s .args .settings) (s .args .own-keys .now) (s .args .own-distances .now) (s .args .own-weights .now)
     (s .args .own) (s .args .room)
-    (beside (s .args .batch-keys .now) (s .args .batch-distances .now) (s .args .batch-confidences .now))
+    (entries (s .args .batch-keys .now) (s .args .batch-distances .now) (s .args .batch-confidences .now))
     (s .args .from) (l .i) (l .added) (l .own-distances) (l .own-weights) (l .inv .5) (omega arith)
-    (rw (beside-length (s .args .batch-keys .now) (s .args .batch-distances .now) (s .args .batch-confidences .now)
+    (rw (by-length entry (s .args .batch-keys .now) (s .args .batch-distances .now) (s .args .batch-confidences .now)
     (s .pre .1 .1 .1 .0) (s .pre .1 .1 .1 .1)) (omega arith))
 
 pub fuse-run-spec : {M : Type 1} → statement M
