@@ -1,4 +1,4 @@
--- Document 01's samples of edges marked P, computed on the definition.
+-- Samples of edges beside document 01's (crate samples), computed on the definition.
 -- Assumes nothing.
 use Prim.Native.Nat.{ℕ}
 use mathlib.Core.Path.{_≡_, refl}
@@ -32,11 +32,8 @@ two d w d' w' es = record { rows = row a (f32 d) (f32 w) ∷ row b (f32 d') (f32
 samples : List Sample
 unfolding two
 samples =
-    -- 0.25 and -0.25, and the other way round
-    two 0x3E80_0000 0x3F80_0000 0xBE80_0000 0x3F80_0000 (edge a b ∷ [])
-    ∷ two 0xBE80_0000 0x3F80_0000 0x3E80_0000 0x3F80_0000 (edge a b ∷ [])
-    -- 1e-30 and -1e-30: the product is -0
-    ∷ two 0x0DA2_4260 0x3F80_0000 0x8DA2_4260 0x3F80_0000 []
+    -- -0.25 and 0.25
+    two 0xBE80_0000 0x3F80_0000 0x3E80_0000 0x3F80_0000 (edge a b ∷ [])
     -- a weight of 0 or -0, of either row
     ∷ two 0x3E80_0000 0 0xBE80_0000 0x3F80_0000 []
     ∷ two 0x3E80_0000 0x3F80_0000 0xBE80_0000 0 []

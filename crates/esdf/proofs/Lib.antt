@@ -7,3 +7,4 @@ pub mod Marching
 pub mod Choosing
 pub mod Computing
 pub mod Determined
+pub mod Passing

@@ -9,7 +9,7 @@ use Rattle.floats.specs.Floats.{zero32, isFinite}
 use Rattle.lists.specs.Padding.{padded}
 use Rattle.refusals.specs.Refusals.{numberOf}
 use Rattle.refusals.specs.declared.Refusal.the-variants.{BadReading}
-use Rattle.table.specs.Table.{Table, rows, need, checkWith, andThen}
+use Rattle.table.specs.Table.{Table, rows, need, checkWith, thenTest}
 use Rattle.table.specs.declared.Settings.{Settings}
 use Rattle.table.specs.declared.Checked.{Checked}
 use Rattle.table.specs.declared.Checked.the-variants as checked
@@ -37,7 +37,7 @@ placesOk p = setOk (p .keys) (p .distances) && setOk (p .estimates) (p .cells)
 
 -- refusals 1, 2, 3 and 5, in this order; `fit` says that the lists to be filled pass
 unfoldable pub marchCheck : Settings → Table → Float → Bool → Checked
-marchCheck s t threshold fit = andThen (checkWith fit s t) (need (isFinite threshold) BadReading checked.Passed)
+marchCheck s t threshold fit = thenTest (checkWith fit s t) (need (isFinite threshold) BadReading checked.Passed)
 
 -- what passed goes on
 unfoldable pub tested : Checked → Going → Going

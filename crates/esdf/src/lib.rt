@@ -20,8 +20,8 @@ use search::find_row;
 use search::place_of;
 use table::Checked;
 use table::Settings;
-use table::and_then;
 use table::check_with;
+use table::then_test;
 ghost use mathlib.Core.Path.{_≡_};
 ghost use mathlib.Core.Bool.{false};
 ghost use mathlib.Core.List.{List};
@@ -555,7 +555,7 @@ fn check(
     ensures { λ r. ⌜ r ≡ marchCheck settings (table (now (keys .entry)) (now (distances .entry)) (now (weights .entry)) count) threshold fit ⌝ }
 {
     let verdict = check_with(fit, settings, keys, distances, weights, count);
-    and_then(verdict, floats::is_finite(threshold), Refusal::BadReading)
+    then_test(verdict, floats::is_finite(threshold), Refusal::BadReading)
 }
 
 // The fast march; where it gave up, the lists are cleared and the plain march runs.

@@ -1,4 +1,4 @@
--- Document 01's samples on fusing, with rows in order, rays, the refusals and their order: settings, readings from an
+-- Samples of fusing beside document 01's (crate samples): rows in order, rays, the refusals and their order: settings, readings from an
 -- empty table on, what each answers, and the rows that are left. By computation.
 -- Assumes nothing.
 use Prim.Native.Nat.{ℕ}
@@ -82,24 +82,8 @@ allHold (s ∷ ss) = holds s && allHold ss
 
 unfoldable pub samples : List Sample
 samples =
-    -- 0.5 then -0.25: distance 0.125, weight 2
+    -- a full table: a new key that is far is Far, and one within the truncation has no place (6)
     record {
-      truncation = 0x3F80_0000;
-      most = 0x42C8_0000;
-      room = 2;
-      steps = step 7 0x3F00_0000 0x3F80_0000 0 ∷ step 7 0xBE80_0000 0x3F80_0000 0 ∷ [];
-      left = bits 7 0x3E00_0000 0x4000_0000 ∷ [];
-    }
-    -- maximum weight 1, 0.5 twice: distance 1.0, weight 1
-    ∷ record {
-      truncation = 0x3F80_0000;
-      most = 0x3F80_0000;
-      room = 2;
-      steps = step 7 0x3F00_0000 0x3F80_0000 0 ∷ step 7 0x3F00_0000 0x3F80_0000 0 ∷ [];
-      left = bits 7 0x3F80_0000 0x3F80_0000 ∷ [];
-    }
-    -- 1.0 is stored; the next float above is Far, even with a full table; a new key within the truncation then has no place (6)
-    ∷ record {
       truncation = 0x3F80_0000;
       most = 0x42C8_0000;
       room = 1;
@@ -107,8 +91,6 @@ samples =
           step 8 0x3F80_0000 0x3F80_0000 0 ∷ step 7 0x3F80_0001 0x3F80_0000 100 ∷ step 7 0x3F80_0000 0x3F80_0000 6 ∷ [];
       left = bits 8 0x3F80_0000 0x3F80_0000 ∷ [];
     }
-    -- confidence 0, reading 0.25, new key: row (0.25, 0)
-    ∷ record { truncation = 0x3F80_0000; most = 0x42C8_0000; room = 2; steps = step 7 0x3E80_0000 0 0 ∷ []; left = bits 7 0x3E80_0000 0 ∷ [] }
     -- rows stand ascending by key
     ∷ record {
       truncation = 0x3F80_0000;
@@ -141,9 +123,9 @@ samples =
     }
     ∷ []
 
-pub samples-hold : allHold samples ≡ true
+pub fusing-samples : allHold samples ≡ true
 unfolding trailingZeros span climb size odd units round neg sum add sub mul div lt eq le ofFields ofBits toBits ofInt
     besideBy rowsOk risesFrom ascending need checkWith next find put relaid admitIf admitted squares rayDistance rootBelow
     isqrt rounded rootOf respaced sameParity newWeight fusedVoxel voxelAt hasPlace stepAt stored fusedNear fusedIf fuseIf effectOf fuse sameRows
     runs allHold samples
-samples-hold = refl
+fusing-samples = refl

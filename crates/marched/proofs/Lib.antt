@@ -1,3 +1,4 @@
 pub mod MarchedLaws
+pub mod Passing
 pub mod Tests
 pub mod Determined

@@ -15,7 +15,7 @@ use Rattle.lists.proofs.Bools.{and-first, and-second}
 use Rattle.refusals.specs.declared.Refusal.{Refusal}
 use Rattle.refusals.specs.declared.Refusal.the-variants.{Lengths, BadRow, OffLattice}
 use Rattle.search.specs.Keys.{find, findBy, ascending}
-use Rattle.table.specs.Table.{need, andThen}
+use Rattle.table.specs.Table.{need, thenTest}
 use Rattle.table.specs.declared.Checked.{Checked}
 use Rattle.table.specs.declared.Checked.the-variants as checked
 use Rattle.search.specs.declared.Found.{Found}
@@ -99,11 +99,11 @@ module _ (t : MarchedTable) where
   lengths = marchedLengthsOk (length (t .keys)) (length (t .distances)) (t .count)
 
   -- what is tested after 2 and 3
-  pub marched-follow : (rest : Checked) → marchedThen t rest ≡ andThen (marchedCheck t) rest
-  unfolding marchedThen need andThen
+  pub marched-follow : (rest : Checked) → marchedThen t rest ≡ thenTest (marchedCheck t) rest
+  unfolding marchedThen need thenTest
   marched-follow rest = two lengths (marchedOk t)
     where
-      two : (a b : Bool) → need a Lengths (need b BadRow rest) ≡ andThen (need a Lengths (need b BadRow checked.Passed)) rest
+      two : (a b : Bool) → need a Lengths (need b BadRow rest) ≡ thenTest (need a Lengths (need b BadRow checked.Passed)) rest
       two true true = refl
       two true false = refl
       two false true = refl
@@ -111,12 +111,12 @@ module _ (t : MarchedTable) where
 
   -- a refusal stands; what passed is tested on
   pub refuses-on : (v : Checked) (rest : Checked) {why : Refusal} → v ≡ marchedCheck t → v ≡ checked.Refused why → checked.Refused why ≡ marchedThen t rest
-  unfolding andThen
-  refuses-on v rest e f = sym (marched-follow rest ∙ ap (λ (x : Checked). andThen x rest) (sym e ∙ f))
+  unfolding thenTest
+  refuses-on v rest e f = sym (marched-follow rest ∙ ap (λ (x : Checked). thenTest x rest) (sym e ∙ f))
 
   pub passes-on : (v : Checked) (rest : Checked) → v ≡ marchedCheck t → v ≡ checked.Passed → rest ≡ marchedThen t rest
-  unfolding andThen
-  passes-on v rest e f = sym (marched-follow rest ∙ ap (λ (x : Checked). andThen x rest) (sym e ∙ f))
+  unfolding thenTest
+  passes-on v rest e f = sym (marched-follow rest ∙ ap (λ (x : Checked). thenTest x rest) (sym e ∙ f))
 
   -- the same after 4
   pub refuses-after :

@@ -1,4 +1,4 @@
--- Document 01's samples P of the march, computed on the definition, and two with a place too few. Assumes nothing.
+-- A march with just enough places, computed on the definition, and two with a place too few. Assumes nothing.
 use mathlib.Core.Path.{_≡_, refl}
 use mathlib.Core.Bool.{cond}
 use mathlib.Core.List.{List, [], _∷_, map}
@@ -46,8 +46,8 @@ told (refused why) = numberOf why ∷ []
 
 pub samples :
     map (λ s. told (marched s))
-    (of 10 0 0x40000000 15 14 ∷ of 10 0 0x3FF33333 15 14 ∷ of 0 0 0x40000000 5 4 ∷ of 10 0 0x40000000 14 14 ∷ of 10 0 0x40000000 15 13 ∷ [])
-    ≡ (15 ∷ 14 ∷ 1 ∷ 8 ∷ 6 ∷ 0 ∷ []) ∷ (15 ∷ 14 ∷ 1 ∷ 8 ∷ 0 ∷ 6 ∷ []) ∷ (5 ∷ 4 ∷ 1 ∷ 4 ∷ 0 ∷ 0 ∷ []) ∷ (6 ∷ []) ∷ (8 ∷ []) ∷ []
+    (of 10 0 0x40000000 15 14 ∷ of 10 0 0x40000000 14 14 ∷ of 10 0 0x40000000 15 13 ∷ [])
+    ≡ (15 ∷ 14 ∷ 1 ∷ 8 ∷ 6 ∷ 0 ∷ []) ∷ (6 ∷ []) ∷ (8 ∷ []) ∷ []
 unfolding holding told insert andThen member distanceOf store wait waitAll seeds sow sowAll candidate heard settling
     settled spread settle visit taking takeUpTo march lengthAt
     morton respaced offsets inBox reachedFrom shown neighboursBy ofBits toBits add mul lt eq le neg

@@ -65,14 +65,7 @@ fn check(
 ) -> Checked
     ensures { λ r. ⌜ r ≡ meshCheck settings (table (now (keys .entry)) (now (distances .entry)) (now (weights .entry)) count) rooms ⌝ }
 {
-    table::check_with(
-        rooms_ok(rooms),
-        settings,
-        keys,
-        distances,
-        weights,
-        count,
-    )
+    table::check_with(rooms_ok(rooms), settings, keys, distances, weights, count)
 }
 
 // The edges of document 01's surface, and from them the groups and the triangles.

@@ -12,7 +12,7 @@ use Rattle.table.specs.declared.Settings.{Settings}
 use Rattle.table.specs.declared.Checked.{Checked}
 use Rattle.table.specs.declared.Checked.the-variants.{Passed, Refused}
 use Rattle.search.specs.Keys.{ascending}
-use Rattle.table.specs.Table.{Table, settingsOk, lengthsOk, rows, rowsOk, tableOk, need, checkWith, tableCheck, andThen}
+use Rattle.table.specs.Table.{Table, settingsOk, lengthsOk, rows, rowsOk, tableOk, need, checkWith, tableCheck, thenTest}
 
 pub need-passed : (b : Bool) (why : Refusal) (rest : Checked) → need b why rest ≡ Passed → (b ≡ true) × (rest ≡ Passed)
 unfolding need
@@ -54,8 +54,8 @@ pub with-fit : (fits : Bool) (s : Settings) (t : Table) → fits ≡ true → ch
 with-fit fits s t e = ap (λ (b : Bool). checkWith b s t) e
 
 -- what passed with a test after it passed both
-pub went-on : (c rest : Checked) → andThen c rest ≡ Passed → (c ≡ Passed) × (rest ≡ Passed)
-unfolding andThen
+pub went-on : (c rest : Checked) → thenTest c rest ≡ Passed → (c ≡ Passed) × (rest ≡ Passed)
+unfolding thenTest
 went-on Passed rest e = (refl, e)
 went-on (Refused why) rest e = let z : _≡_ {A = ℕ} 0 1 = cc in absurd (omega arith)
 

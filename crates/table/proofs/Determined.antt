@@ -7,7 +7,7 @@ use Rattle.table.proofs.settings_ok.Reads as settings_ok
 use Rattle.table.proofs.lengths_ok.Reads as lengths_ok
 use Rattle.table.proofs.check_with.Reads as check_with
 use Rattle.table.proofs.check_table.Reads as check_table
-use Rattle.table.proofs.and_then.Reads as and_then
+use Rattle.table.proofs.then_test.Reads as then_test
 
 pub settings-of-determined : (κs : _) (a : _) (r r' : _) (s s' : _) → settings_of.Post κs a r s → settings_of.Post κs a r' s' → r ≡ r'
 settings-of-determined κs a r r' s s' p q = p ∙ sym q
@@ -24,8 +24,8 @@ lengths-ok-determined κs a r r' s s' p q = p ∙ sym q
 pub check-with-determined : (κs : _) (a : _) (r r' : _) (s s' : _) → check_with.Post κs a r s → check_with.Post κs a r' s' → r ≡ r'
 check-with-determined κs a r r' s s' p q = p ∙ sym q
 
-pub and-then-determined : (κs : _) (a : _) (r r' : _) (s s' : _) → and_then.Post κs a r s → and_then.Post κs a r' s' → r ≡ r'
-and-then-determined κs a r r' s s' p q = p ∙ sym q
+pub then-test-determined : (κs : _) (a : _) (r r' : _) (s s' : _) → then_test.Post κs a r s → then_test.Post κs a r' s' → r ≡ r'
+then-test-determined κs a r r' s s' p q = p ∙ sym q
 
 pub check-table-determined : (κs : _) (a : _) (r r' : _) (s s' : _) → check_table.Post κs a r s → check_table.Post κs a r' s' → r ≡ r'
 check-table-determined κs a r r' s s' p q = p ∙ sym q

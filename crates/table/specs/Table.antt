@@ -105,9 +105,9 @@ abbrev pub tableCheck : Settings → Table → Checked
 tableCheck s t = checkWith true s t
 
 -- what passed goes on to what the call tests after them
-unfoldable pub andThen : Checked → Checked → Checked
-andThen Passed rest = rest
-andThen (Refused why) rest = Refused why
+unfoldable pub thenTest : Checked → Checked → Checked
+thenTest Passed rest = rest
+thenTest (Refused why) rest = Refused why
 
 -- r in the place of the row with its key, or as a new row before the first with a larger key
 unfoldable pub put : Row → List Row → List Row

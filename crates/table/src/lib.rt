@@ -8,7 +8,7 @@ use search::keys_ascend;
 ghost use mathlib.Core.Path.{_≡_};
 ghost use Prim.Native.Nat.{_≤_};
 ghost use lib.ListN.{length};
-ghost use Rattle.table.specs.Table.{settingsOf, defaults, table, rowsOf, farthestOk, settingsOk, lengthsOk, rowOk, rowsOk, need, checkWith, tableCheck, andThen};
+ghost use Rattle.table.specs.Table.{settingsOf, defaults, table, rowsOf, farthestOk, settingsOk, lengthsOk, rowOk, rowsOk, need, checkWith, tableCheck, thenTest};
 
 // The most places that a table has.
 pub const LONGEST_TABLE: usize = 65536;
@@ -134,8 +134,8 @@ pub fn check_table(
 }
 
 // A verdict, and what the call tests after it: `passes`, or why it is refused.
-pub fn and_then(verdict: Checked, passes: bool, why: Refusal) -> Checked
-    ensures { λ r. ⌜ r ≡ andThen verdict (need passes why Checked.Passed) ⌝ }
+pub fn then_test(verdict: Checked, passes: bool, why: Refusal) -> Checked
+    ensures { λ r. ⌜ r ≡ thenTest verdict (need passes why Checked.Passed) ⌝ }
 {
     match verdict {
         Checked::Refused(earlier) => Checked::Refused(earlier),

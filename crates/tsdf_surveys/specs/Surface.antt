@@ -14,7 +14,7 @@ use Rattle.refusals.specs.declared.Refusal.the-variants.{BadReading}
 use Rattle.table.specs.declared.Settings.{Settings}
 use Rattle.table.specs.declared.Checked.{Checked}
 use Rattle.table.specs.declared.Checked.the-variants as checked
-use Rattle.table.specs.Table.{Row, Table, rows, need, checkWith, andThen}
+use Rattle.table.specs.Table.{Row, Table, rows, need, checkWith, thenTest}
 
 -- |distance| is below the threshold, and the weight above 0
 abbrev pub isSurface : Float → Float → Float → Bool
@@ -26,7 +26,7 @@ surfaceKeys threshold rs = map (λ (r : Row). r .key) (kept (λ (r : Row). isSur
 
 -- refusals 1, 2, of the list to be filled too, 3 and 5
 unfoldable pub listCheck : Settings → Table → Float → ℕ → Checked
-listCheck s t threshold room = andThen (checkWith (leb room 1048576) s t) (need (isFinite threshold) BadReading checked.Passed)
+listCheck s t threshold room = thenTest (checkWith (leb room 1048576) s t) (need (isFinite threshold) BadReading checked.Passed)
 
 -- then 6, exactly when the list is too short
 unfoldable pub listedIf : Checked → List ℕ → ℕ → Listed

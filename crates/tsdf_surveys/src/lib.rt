@@ -12,9 +12,9 @@ use lists::room_for;
 use refusals::Refusal;
 use table::Checked;
 use table::Settings;
-use table::and_then;
 use table::check_table;
 use table::check_with;
+use table::then_test;
 ghost use mathlib.Core.Path.{_≡_};
 ghost use mathlib.Core.Bool.{cond};
 ghost use Prim.Native.Nat.{_+_, _≤_, _<_};
@@ -113,7 +113,7 @@ fn check_list(
         weights,
         count,
     );
-    and_then(verdict, is_finite(threshold), Refusal::BadReading)
+    then_test(verdict, is_finite(threshold), Refusal::BadReading)
 }
 
 // The surface's cells, where the tests passed; the places past them are left to be cleared.

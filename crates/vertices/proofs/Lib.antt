@@ -1,4 +1,3 @@
 pub mod Columns
 pub mod TableLaws
-pub mod Samples
 pub mod Determined

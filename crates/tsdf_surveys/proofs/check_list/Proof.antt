@@ -11,12 +11,12 @@ check-with-requires c κs = search needs
 is-finite-requires : tie.Need-is-finite-requires
 is-finite-requires c κs = search needs
 
-and-then-requires : tie.Need-and-then-requires
-and-then-requires c κs = search needs
+then-test-requires : tie.Need-then-test-requires
+then-test-requires c κs = search needs
 
 returns : tie.Need-returns
 unfolding listCheck
-returns c = rw (← c .before .before .check-with .ensures, ← c .before .is-finite .ensures) (c .and-then .ensures)
+returns c = rw (← c .before .before .check-with .ensures, ← c .before .is-finite .ensures) (c .then-test .ensures)
 
 pub check-list-spec : {M : Type 1} → statement M
-check-list-spec = tie.close (tie.spec check-with-requires is-finite-requires and-then-requires returns)
+check-list-spec = tie.close (tie.spec check-with-requires is-finite-requires then-test-requires returns)

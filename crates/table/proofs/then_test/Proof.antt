@@ -1,9 +1,9 @@
--- `table::and_then` meets its contract, case by case.
+-- `table::then_test` meets its contract, case by case.
 -- Assumes nothing.
-use Rattle.table.specs.Table.{need, andThen}
+use Rattle.table.specs.Table.{need, thenTest}
 use borrow.Author.Needs.{needs}
-use Rattle.table.proofs.and_then.Statement.{statement}
-use Rattle.table.proofs.and_then.Tie as tie
+use Rattle.table.proofs.then_test.Statement.{statement}
+use Rattle.table.proofs.then_test.Tie as tie
 
 enum-known-verdict : tie.Need-enum-known-verdict
 enum-known-verdict c = search needs
@@ -12,16 +12,16 @@ enum-told : tie.Need-enum-told
 enum-told c = search needs
 
 returns : tie.Need-returns
-unfolding andThen need
+unfolding thenTest need
 returns c = rw (c .before .verdict .given .1)
 
 returns-2 : tie.Need-returns-2
-unfolding andThen need
+unfolding thenTest need
 returns-2 c = rw (c .before .enum-told .given .1, c .if1 .taken)
 
 returns-3 : tie.Need-returns-3
-unfolding andThen need
+unfolding thenTest need
 returns-3 c = rw (c .before .enum-told .given .1, c .if1 .left)
 
-pub and-then-spec : {M : Type 1} → statement M
-and-then-spec = tie.close (tie.spec enum-known-verdict enum-told returns returns-2 returns-3)
+pub then-test-spec : {M : Type 1} → statement M
+then-test-spec = tie.close (tie.spec enum-known-verdict enum-told returns returns-2 returns-3)
