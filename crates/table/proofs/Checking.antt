@@ -86,3 +86,6 @@ with-spares fits s t =
     setting-spares (settingsOk s) _
     (lengths-spare (fits && lengthsOk (length (t .keys)) (length (t .distances)) (length (t .weights)) (t .count)) _
     (row-spares (tableOk (s .«max_weight») t) _ (λ e. not-passed NoPlace (sym e))))
+
+pub table-spares : (s : Settings) (t : Table) → tableCheck s t ≡ Refused NoPlace → ⊥
+table-spares s t = with-spares true s t
