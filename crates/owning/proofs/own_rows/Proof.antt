@@ -1,13 +1,16 @@
--- `owning::own_rows` meets its contract: the keys are copied, sorted as they may be, and those that rise are taken.
+-- `owning::own_rows` meets its contract: the keys are copied, sorted, and those that rise are taken.
 -- Assumes nothing.
 use Prim.Native.Nat.{_≤_, _-_}
+use mathlib.Core.Path.{_≡_, refl}
 use native.Mathlib.Omega.{arith}
+use lib.ListN.{length, length-set}
 use borrow.Author.Needs.{needs}
 use Rattle.owning.proofs.own_rows.Statement.{statement}
 use Rattle.owning.proofs.own_rows.Tie as tie
 
 abbrev Inv-loop : tie.InvT-loop
-Inv-loop own-keys slots batch-keys from to sorted₀ places₀ n i₀ sorted places i = i ≤ n
+Inv-loop own-keys slots batch-keys from to sorted₀ places₀ n i₀ sorted places i =
+    (i ≤ n) × (length sorted ≡ 4096) × (length places ≡ 4096)
 
 abbrev μ-loop : tie.MeasureT-loop
 μ-loop own-keys slots batch-keys from to sorted₀ places₀ n i₀ sorted places i = n - i
@@ -16,7 +19,7 @@ sub-n : tie.Need-sub-n Inv-loop μ-loop
 sub-n c = search needs
 
 loop-holds : tie.Need-loop-holds Inv-loop μ-loop
-loop-holds c = search needs
+loop-holds c = (search needs, refl, refl)
 
 add-sorted : tie.Need-add-sorted Inv-loop μ-loop
 add-sorted c =
@@ -59,10 +62,23 @@ loop-less c =
 
 loop-again : tie.Need-loop-again Inv-loop μ-loop
 loop-again c =
-    omega arith
+    let L = c .before .before .loop in
+    (search needs, simp length-set (L .inv .1), simp length-set (L .inv .2))
+
+slice-aggregate-sort : tie.Need-slice-aggregate-sort Inv-loop μ-loop
+slice-aggregate-sort c = search needs
+
+slice-aggregate-sort-2 : tie.Need-slice-aggregate-sort-2 Inv-loop μ-loop
+slice-aggregate-sort-2 c = search needs
 
 sort-requires : tie.Need-sort-requires Inv-loop μ-loop
 sort-requires c κs = search needs
+
+slice-aggregate-distinct : tie.Need-slice-aggregate-distinct Inv-loop μ-loop
+slice-aggregate-distinct c = search needs
+
+slice-aggregate-distinct-2 : tie.Need-slice-aggregate-distinct-2 Inv-loop μ-loop
+slice-aggregate-distinct-2 c = search needs
 
 distinct-requires : tie.Need-distinct-requires Inv-loop μ-loop
 distinct-requires c κs = search needs
@@ -72,7 +88,7 @@ same-length c = search needs
 
 returns : tie.Need-returns Inv-loop μ-loop
 returns c =
-    (omega (arith, c .before .before .distinct .ensures .0), c .before .before .distinct .ensures .1)
+    (omega (arith, c .before .before .distinct .ensures .0 .0), c .before .before .distinct .ensures .0 .1)
 
 pub own-rows-spec : {M : Type 1} → statement M
 own-rows-spec =
@@ -93,7 +109,11 @@ own-rows-spec =
     add-i
     loop-less
     loop-again
+    slice-aggregate-sort
+    slice-aggregate-sort-2
     sort-requires
+    slice-aggregate-distinct
+    slice-aggregate-distinct-2
     distinct-requires
     same-length
     returns)
