@@ -42,7 +42,8 @@ use Rattle.owning.specs.declared.Owned.the-variants as Owned
 use Rattle.measuring.specs.Readings.{admitted}
 use Rattle.fusing.specs.Fusing.{Outcome, outcome, averagingOf, fusedVoxel, voxelAt, hasPlace, stepAt, stored, fusedNear, fusedIf, fuseIf, effectOf, answered, fuse}
 use Rattle.batching.specs.Batches.{batchOutcome, Entry, directOf, stopOr, batchFrom}
-use Rattle.owning.specs.Runs.{over, Ready, OwnPlace, oldVoxel, voxelAfter, Placed, StepLeft}
+use Rattle.sorting.specs.Sorting.{Numbered}
+use Rattle.owning.specs.Runs.{over, Ready, oldVoxel, voxelAfter, Placed, StepLeft}
 use Rattle.fusing.proofs.Keeping.{weight-above, voxel-kept, zero-in, fuse-keeps}
 use Rattle.fusing.proofs.FuseLaws.{stored-answers}
 
@@ -96,9 +97,15 @@ other true b h e = let z : _≡_ {A = ℕ} 0 1 = cc in absurd (omega arith)
 other false true h e = refl
 other false false h e = let z : _≡_ {A = ℕ} 0 1 = cc in absurd (omega arith)
 
-pub own-told : (ks : List ℕ) (own k : ℕ) (f : Found) (p : ℕ) → OwnPlace ks own k f → f ≡ At p → (p < own) × (getD ks p 0 ≡ k)
-unfolding OwnPlace
-own-told ks own k f p h e = subst (λ (g : Found). OwnPlace ks own k g) e h
+-- the place of a slot counted from 1
+pub numbered-place : (ks : List ℕ) (own k slot : ℕ)
+    → own ≤ length ks
+    → Numbered (take own ks) k slot
+    → (0 < slot) × (slot - 1 < own) × (getD ks (slot - 1) 0 ≡ k)
+numbered-place ks own k slot fits n =
+    let most = length-take-le own ks fits in
+    let inside : slot - 1 < own = omega (arith, n .counted, n .within) in
+    (n .counted, inside, sym (getD-take own ks (slot - 1) 0 inside) ∙ n .there)
 
 -- ---- the own row at p, whose key is k
 

@@ -10,8 +10,7 @@ use Rattle.floats.specs.Floats.{zero32, million, within}
 use Rattle.gathering.specs.Gathering.{standing, puts}
 use Rattle.refusals.specs.declared.Refusal.the-variants.{TooLarge}
 use Rattle.table.specs.declared.Settings.{Settings}
-use Rattle.search.specs.declared.Found.{Found}
-use Rattle.search.specs.declared.Found.the-variants.{At, Absent}
+use Rattle.search.specs.declared.Found.the-variants.{Absent}
 use Rattle.table.specs.declared.Checked.the-variants.{Passed}
 use Rattle.search.specs.Keys.{find, ascending}
 use Rattle.table.specs.Table.{Table, rowsOf, rows, lengthsOk, tableCheck, relaid}
@@ -25,6 +24,7 @@ use Rattle.owning.specs.declared.Run.the-variants as Run
 use Rattle.owning.specs.declared.Ran.{Ran}
 use Rattle.batching.specs.declared.Batched.the-variants as Batched
 use Rattle.fusing.specs.Fusing.{fusedVoxel}
+use Rattle.sorting.specs.Sorting.{Numbered}
 use Rattle.batching.specs.Batches.{batchOutcome, Entry, batchFrom}
 
 -- the table with the own rows that stand
@@ -41,10 +41,9 @@ pub record Ready (s : Settings) (t : Table) (ks : List ℕ) (ds ws : List Float)
   pub many : length (puts (s .«max_weight») (rowsOf ks ds ws own) (rows t)) ≡ t .count + added
   pub fits : t .count + added ≤ length (t .keys)
 
--- a place that was found has the key
-unfoldable pub OwnPlace : List ℕ → ℕ → ℕ → Found → Type 0
-OwnPlace ks own k (At p) = (p < own) × (getD ks p 0 ≡ k)
-OwnPlace ks own k Absent = Unit
+-- the slot of each reading from `from` up to `to` is the number of its key among the own keys, counted from 1
+abbrev pub OwnSlots : List ℕ → ℕ → ℕ → List ℕ → List ℕ → Type 0
+OwnSlots keys from to own slots = (i : ℕ) → from + i < to → Numbered own (getD keys (from + i) 0) (getD slots i 0)
 
 -- the voxel of a row that stands; one that waits starts with (0, 0)
 unfoldable pub oldVoxel : Bool → Float → Float → Voxel

@@ -13,7 +13,6 @@ use measuring::Measured;
 use measuring::Reading;
 use measuring::admit;
 use refusals::Refusal;
-use search::Found;
 use sorting::distinct;
 use sorting::sort;
 use table::Checked;
@@ -25,10 +24,11 @@ ghost use lib.ListN.{length, take};
 ghost use Rattle.search.specs.Keys.{ascending};
 ghost use Rattle.table.specs.Table.{table, lengthsOk, settingsOk, tableCheck};
 ghost use Rattle.batching.specs.Batches.{entry, entries};
-ghost use Rattle.owning.specs.Runs.{OwnPlace, oldVoxel, Placed, Stepped, RanTo, RunTo};
+ghost use Rattle.sorting.specs.Sorting.{Numbered};
+ghost use Rattle.owning.specs.Runs.{oldVoxel, Placed, Stepped, OwnSlots, RanTo, RunTo};
 
 // What a reading does to the own rows of a batch: nothing where it is far; a row is added or changed; it is left to
-// others where it has no own row, or that row no place in the table; or why it is refused.
+// others where its row has no place in the table; or why it is refused.
 enum Owned {
     Far,
     Added,
@@ -47,25 +47,6 @@ pub enum Run {
 struct Ran {
     added: usize,
     run: Run,
-}
-
-// The place of a slot counted from 1, where `key` stands there among the first `own` keys.
-fn own_place(own_keys: &[u64], own: usize, slot: u16, key: u64) -> Found
-    requires { ⌜ own ≤ length (now «own_keys») ⌝ }
-    ensures { λ r. ⌜ OwnPlace (now («own_keys» .entry)) own key r ⌝ }
-{
-    let number = slot as usize;
-    if number == 0 {
-        return Found::Absent;
-    }
-    let place = number - 1;
-    if own <= place {
-        return Found::Absent;
-    }
-    if own_keys[place] != key {
-        return Found::Absent;
-    }
-    Found::At(place)
 }
 
 // The voxel of an own row that stands; one that waits starts with (0, 0).
@@ -113,7 +94,7 @@ fn fuse_place(
     Owned::Added
 }
 
-// One reading of a batch, into the own rows.
+// One reading of a batch, into the own rows; its slot is the number of its key among them, counted from 1.
 fn fuse_own(
     settings: Settings,
     own_keys: &[u64],
@@ -128,6 +109,7 @@ fn fuse_own(
 ) -> Owned
     requires { ⌜ settingsOk settings ≡ true ⌝ }
     requires { ⌜ lengthsOk (length (now «own_keys»)) (length (now «own_distances»)) (length (now «own_weights»)) own ≡ true ⌝ }
+    requires { ⌜ Numbered (take own (now «own_keys»)) key slot ⌝ }
     ensures { λ r. ⌜ Stepped settings (now («own_keys» .entry)) (now («own_distances» .entry))
         (now («own_weights» .entry)) own spare (entry key distance confidence) r (now («own_distances» .exit))
         (now («own_weights» .exit)) ⌝ }
@@ -139,17 +121,17 @@ fn fuse_own(
     match admit(settings, key, reading) {
         Admitted::No(why) => Owned::Refused(why),
         Admitted::Far => Owned::Far,
-        Admitted::Near(near) => match own_place(own_keys, own, slot, key) {
-            Found::Absent => Owned::Unknown,
-            Found::At(place) => fuse_place(
+        Admitted::Near(near) => {
+            let place = slot as usize - 1;
+            fuse_place(
                 averaging_of(settings),
                 own_distances,
                 own_weights,
                 place,
                 spare,
                 near,
-            ),
-        },
+            )
+        }
     }
 }
 
@@ -160,7 +142,7 @@ fn fuse_run(
     own_distances: &mut [f32],
     own_weights: &mut [f32],
     own: usize,
-    slots: &[u16; 4096],
+    slots: &[u16],
     room: usize,
     batch_keys: &[u64],
     batch_distances: &[f32],
@@ -172,6 +154,7 @@ fn fuse_run(
     requires { ⌜ lengthsOk (length (now «own_keys»)) (length (now «own_distances»)) (length (now «own_weights»)) own ≡ true ⌝ }
     requires { ⌜ (from ≤ to) × (to ≤ from + 4096) × (to ≤ length (now «batch_keys»)) ⌝ }
     requires { ⌜ (length (now «batch_distances») ≡ length (now «batch_keys»)) × (length (now «batch_confidences») ≡ length (now «batch_keys»)) ⌝ }
+    requires { ⌜ (4096 ≤ length (now slots)) × OwnSlots (now «batch_keys») from to (take own (now «own_keys»)) (now slots) ⌝ }
     ensures { λ r. ⌜ RanTo settings (now («own_keys» .entry)) (now («own_distances» .entry))
         (now («own_weights» .entry)) own room
         (entries (now («batch_keys» .entry)) (now («batch_distances» .entry)) (now («batch_confidences» .entry))) from r
@@ -227,14 +210,15 @@ fn fuse_run(
 // The keys of the readings from `from` up to `to`, ascending, each once, into `own_keys`, and the slot of each reading.
 fn own_rows(
     own_keys: &mut [u64],
-    slots: &mut [u16; 4096],
+    slots: &mut [u16],
     batch_keys: &[u64],
     from: usize,
     to: usize,
 ) -> usize
     requires { ⌜ (from ≤ to) × (to ≤ from + 4096) × (to ≤ length (now «batch_keys»)) ⌝ }
-    requires { ⌜ 4096 ≤ length (now «own_keys») ⌝ }
+    requires { ⌜ (4096 ≤ length (now «own_keys»)) × (4096 ≤ length (now slots)) ⌝ }
     ensures { λ r. ⌜ (r ≤ 4096) × (ascending (take r (now («own_keys» .exit))) ≡ true) ⌝ }
+    ensures { λ r. ⌜ OwnSlots (now («batch_keys» .entry)) from to (take r (now («own_keys» .exit))) (now (slots .exit)) ⌝ }
 {
     let mut sorted = [0u64; 4096];
     let mut places = [0u16; 4096];

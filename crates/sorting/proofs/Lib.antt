@@ -4,3 +4,4 @@ pub mod DealLaws
 pub mod TallyLaws
 pub mod Dealing
 pub mod SortLaws
+pub mod Numbering

@@ -17,6 +17,9 @@ end-of-requires c κs = search needs
 slice-aggregate-own-rows : tie.Need-slice-aggregate-own-rows
 slice-aggregate-own-rows c = search needs
 
+slice-aggregate-own-rows-2 : tie.Need-slice-aggregate-own-rows-2
+slice-aggregate-own-rows-2 c = search needs
+
 own-rows-requires : tie.Need-own-rows-requires
 own-rows-requires c κs = (
   (
@@ -38,13 +41,13 @@ slice-aggregate-load-3 c = search needs
 
 load-requires : tie.Need-load-requires
 load-requires c κs =
-    let at-own-rows = c .before .before .before .before .before .before .before in
-    let s = c .before .before .before .before .before .before .before .before .before .before .before .before .before .before .before .before .before .before in
+    let at-own-rows = c .before .before .before .before .before .before .before .before in
+    let s = at-own-rows .before .before .before .before .before .before .before .before .before .before .before in
     let k = sound (s .args .settings) (table (s .args .keys .now) (s .args .distances .now) (s .args .weights .now) (s .args .count .now)) (s .pre .0) in
     let f =
     lengths-known (length (s .args .keys .now)) (length (s .args .distances .now)) (length (s .args .weights .now))
     (s .args .count .now) (k .lengths) in
-    (k .lengths, (k .order, simp (at-own-rows .own-rows .kept .0, length-replicate, le-leb _ _ (at-own-rows .own-rows .ensures .0))))
+    (k .lengths, (k .order, simp (at-own-rows .own-rows .kept .0, length-replicate, le-leb _ _ (at-own-rows .own-rows .ensures .0 .0))))
 
 slice-aggregate-fuse-run : tie.Need-slice-aggregate-fuse-run
 slice-aggregate-fuse-run c = search needs
@@ -55,10 +58,12 @@ slice-aggregate-fuse-run-2 c = search needs
 slice-aggregate-fuse-run-3 : tie.Need-slice-aggregate-fuse-run-3
 slice-aggregate-fuse-run-3 c = search needs
 
+slice-aggregate-fuse-run-4 : tie.Need-slice-aggregate-fuse-run-4
+slice-aggregate-fuse-run-4 c = search needs
+
 sub-fuse-run : tie.Need-sub-fuse-run
 sub-fuse-run c =
-    let s = c .before .before .before .before .before .before .before .before .before .before .before .before .before
-    .before .before .before .before .before .before .before .before .before .before .before .before in
+    let s = c .before .before .before .before .before .before .before .before .before .before .before .before .before .before .before .before .before .before .before .before .before .before .before .before .before .before in
     let k = sound (s .args .settings) (table (s .args .keys .now) (s .args .distances .now) (s .args .weights .now) (s .args .count .now)) (s .pre .0) in
     let f =
     lengths-known (length (s .args .keys .now)) (length (s .args .distances .now)) (length (s .args .weights .now))
@@ -68,10 +73,9 @@ sub-fuse-run c =
 fuse-run-requires : tie.Need-fuse-run-requires
 fuse-run-requires c κs =
     let at-load = c .before .before .before .before .before .before in
-    let at-own-rows = at-load .before .before .before .before .before .before .before .before in
+    let at-own-rows = at-load .before .before .before .before .before .before .before .before .before in
     let at-end-of = at-own-rows .before .before .before .before in
-    let s = c .before .before .before .before .before .before .before .before .before .before .before .before .before
-    .before .before .before .before .before .before .before .before .before .before .before .before in
+    let s = at-own-rows .before .before .before .before .before .before .before .before .before .before .before in
     let k = sound (s .args .settings) (table (s .args .keys .now) (s .args .distances .now) (s .args .weights .now) (s .args .count .now)) (s .pre .0) in
     let f =
     lengths-known (length (s .args .keys .now)) (length (s .args .distances .now)) (length (s .args .weights .now))
@@ -83,19 +87,20 @@ fuse-run-requires c κs =
           at-load .load .kept .1 .1 .1 .1 .1 .0,
           at-load .load .kept .1 .1 .1 .1 .1 .1 .0,
           length-replicate,
-          le-leb _ _ (at-own-rows .own-rows .ensures .0),
+          le-leb _ _ (at-own-rows .own-rows .ensures .0 .0),
         ),
-        ((at-end-of .end-of .ensures .0, at-end-of .end-of .ensures .2, at-end-of .end-of .ensures .1), s .pre .1 .1),
+        (
+          (at-end-of .end-of .ensures .0, at-end-of .end-of .ensures .2, at-end-of .end-of .ensures .1),
+          (s .pre .1 .1, (rw (at-own-rows .own-rows .kept .1 .0, length-replicate) (omega arith), at-own-rows .own-rows .ensures .1)),
+        ),
       ),
     )
 
 add-total : tie.Need-add-total
 add-total c =
     let at-load = c .before .before .before .before .before .before .before .before .before .before in
-    let at-own-rows = at-load .before .before .before .before .before .before .before .before in
-    let s = c .before .before .before .before .before .before .before .before .before .before .before .before .before
-    .before .before .before .before .before .before .before .before .before .before .before .before .before
-    .before .before .before in
+    let at-own-rows = at-load .before .before .before .before .before .before .before .before .before in
+    let s = at-own-rows .before .before .before .before .before .before .before .before .before .before .before in
     let k = sound (s .args .settings) (table (s .args .keys .now) (s .args .distances .now) (s .args .weights .now) (s .args .count .now)) (s .pre .0) in
     let f =
     lengths-known (length (s .args .keys .now)) (length (s .args .distances .now)) (length (s .args .weights .now))
@@ -105,7 +110,7 @@ add-total c =
       counted (s .args .settings) (s .args .keys .now) (s .args .distances .now) (s .args .weights .now)
           (s .args .count .now) (s .pre .0) _ _ _ _ (at-own-rows .own-rows .kept .0)
           (at-load .load .kept .1 .1 .1 .1 .1 .0) (at-load .load .kept .1 .1 .1 .1 .1 .1 .0)
-          (at-own-rows .own-rows .ensures .0) (at-own-rows .own-rows .ensures .1) (at-load .load .ensures) _ _ _ _ _ _
+          (at-own-rows .own-rows .ensures .0 .0) (at-own-rows .own-rows .ensures .0 .1) (at-load .load .ensures) _ _ _ _ _ _
           (c .before .before .before .fuse-run .ensures) (omega (arith, f)) .1,
       f,
     )
@@ -123,10 +128,8 @@ settle-requires : tie.Need-settle-requires
 settle-requires c κs =
     let at-fuse-run = c .before .before .before .before .before .before .before .before .before in
     let at-load = at-fuse-run .before .before .before .before .before .before .before in
-    let at-own-rows = at-load .before .before .before .before .before .before .before .before in
-    let s = c .before .before .before .before .before .before .before .before .before .before .before .before .before
-    .before .before .before .before .before .before .before .before .before .before .before .before .before
-    .before .before .before .before .before .before .before .before .before in
+    let at-own-rows = at-load .before .before .before .before .before .before .before .before .before in
+    let s = at-own-rows .before .before .before .before .before .before .before .before .before .before .before in
     let k = sound (s .args .settings) (table (s .args .keys .now) (s .args .distances .now) (s .args .weights .now) (s .args .count .now)) (s .pre .0) in
     let f =
     lengths-known (length (s .args .keys .now)) (length (s .args .distances .now)) (length (s .args .weights .now))
@@ -140,14 +143,14 @@ settle-requires c κs =
           at-load .load .kept .1 .1 .1 .1 .1 .0,
           at-load .load .kept .1 .1 .1 .1 .1 .1 .0,
           length-replicate,
-          le-leb _ _ (at-own-rows .own-rows .ensures .0),
+          le-leb _ _ (at-own-rows .own-rows .ensures .0 .0),
         ),
         (
-          (k .order, at-own-rows .own-rows .ensures .1),
+          (k .order, at-own-rows .own-rows .ensures .0 .1),
           counted (s .args .settings) (s .args .keys .now) (s .args .distances .now) (s .args .weights .now)
               (s .args .count .now) (s .pre .0) _ _ _ _ (at-own-rows .own-rows .kept .0)
               (at-load .load .kept .1 .1 .1 .1 .1 .0) (at-load .load .kept .1 .1 .1 .1 .1 .1 .0)
-              (at-own-rows .own-rows .ensures .0) (at-own-rows .own-rows .ensures .1) (at-load .load .ensures) _ _ _ _ _ _
+              (at-own-rows .own-rows .ensures .0 .0) (at-own-rows .own-rows .ensures .0 .1) (at-load .load .ensures) _ _ _ _ _ _
               (at-fuse-run .fuse-run .ensures) (omega (arith, f)),
         ),
       ),
@@ -167,18 +170,15 @@ returns c =
     let at-settle = c .before .before .before .before .before .before in
     let at-fuse-run = at-settle .before .before .before .before .before .before .before .before .before .before in
     let at-load = at-fuse-run .before .before .before .before .before .before .before in
-    let at-own-rows = at-load .before .before .before .before .before .before .before .before in
-    let s = c .before .before .before .before .before .before .before .before .before .before .before .before .before
-    .before .before .before .before .before .before .before .before .before .before .before .before .before
-    .before .before .before .before .before .before .before .before .before .before .before .before .before
-    .before .before .before in
+    let at-own-rows = at-load .before .before .before .before .before .before .before .before .before in
+    let s = at-own-rows .before .before .before .before .before .before .before .before .before .before .before in
     let k = sound (s .args .settings) (table (s .args .keys .now) (s .args .distances .now) (s .args .weights .now) (s .args .count .now)) (s .pre .0) in
     let f =
     lengths-known (length (s .args .keys .now)) (length (s .args .distances .now)) (length (s .args .weights .now))
     (s .args .count .now) (k .lengths) in
     settled (s .args .settings) (s .args .keys .now) (s .args .distances .now) (s .args .weights .now)
     (s .args .count .now) (s .pre .0) _ _ _ _ (at-own-rows .own-rows .kept .0) (at-load .load .kept .1 .1 .1 .1 .1 .0)
-    (at-load .load .kept .1 .1 .1 .1 .1 .1 .0) (at-own-rows .own-rows .ensures .0) (at-own-rows .own-rows .ensures .1)
+    (at-load .load .kept .1 .1 .1 .1 .1 .1 .0) (at-own-rows .own-rows .ensures .0 .0) (at-own-rows .own-rows .ensures .0 .1)
     (at-load .load .ensures) _ _ _ _ _ _ (at-fuse-run .fuse-run .ensures) (omega (arith, f)) _ _ _
     (at-settle .settle .ensures)
 
@@ -188,6 +188,7 @@ batch-run-spec =
     (tie.spec
     end-of-requires
     slice-aggregate-own-rows
+    slice-aggregate-own-rows-2
     own-rows-requires
     slice-aggregate-load
     slice-aggregate-load-2
@@ -196,6 +197,7 @@ batch-run-spec =
     slice-aggregate-fuse-run
     slice-aggregate-fuse-run-2
     slice-aggregate-fuse-run-3
+    slice-aggregate-fuse-run-4
     sub-fuse-run
     fuse-run-requires
     add-total

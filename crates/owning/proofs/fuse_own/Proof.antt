@@ -1,17 +1,30 @@
 -- `owning::fuse_own` meets its contract: a reading that is not near leaves the own rows, and a near one is fused into its own.
 -- Assumes nothing.
-use mathlib.Core.Path.{refl, sym, _∙_}
+use Prim.Native.Nat.{_-_, _<_, _≤_}
+use mathlib.Core.Path.{_≡_, refl, sym, _∙_}
 use native.Mathlib.Omega.{arith}
-use lib.ListN.{length}
+use lib.ListN.{length, getD}
 use Rattle.table.proofs.RowLaws.{lengths-known}
 use Rattle.batching.specs.Batches.{entry}
-use Rattle.owning.specs.Runs.{StepLeft}
 use Rattle.measuring.proofs.Admitting.{near-known}
-use Rattle.owning.proofs.Stepping.{own-told, near-left}
+use Rattle.owning.proofs.Stepping.{numbered-place, near-left}
 use Rattle.owning.proofs.Running.{no-left, far-left}
 use borrow.Author.Needs.{needs}
 use Rattle.owning.proofs.fuse_own.Statement.{statement}
 use Rattle.owning.proofs.fuse_own.Tie as tie
+
+-- the lists of own rows, and the place of the reading's row
+fit : (s : tie.Start) → (s .args .own ≤ length (s .args .own-keys .now))
+    × (length (s .args .own-distances .now) ≡ length (s .args .own-keys .now))
+    × (length (s .args .own-weights .now) ≡ length (s .args .own-keys .now))
+    × (length (s .args .own-keys .now) ≤ 65536)
+fit s =
+    lengths-known (length (s .args .own-keys .now)) (length (s .args .own-distances .now))
+    (length (s .args .own-weights .now)) (s .args .own) (s .pre .1 .0)
+
+placed : (s : tie.Start) → (0 < s .args .slot) × (s .args .slot - 1 < s .args .own)
+    × (getD (s .args .own-keys .now) (s .args .slot - 1) 0 ≡ s .args .key)
+placed s = numbered-place (s .args .own-keys .now) (s .args .own) (s .args .key) (s .args .slot) (fit s .0) (s .pre .1 .1)
 
 admit-requires : tie.Need-admit-requires
 admit-requires c κs = search needs
@@ -25,28 +38,19 @@ enum-told c = search needs
 enum-known-near : tie.Need-enum-known-near
 enum-known-near c = search needs
 
-own-place-requires : tie.Need-own-place-requires
-own-place-requires c κs =
+sub-place : tie.Need-sub-place
+sub-place c =
     let s = c .before .before .before .before .before .before .before in
-    (lengths-known (length (s .args .own-keys .now)) (length (s .args .own-distances .now)) (length (s .args .own-weights .now)) (s .args .own) (s .pre .1)) .0
-
-enum-told-2 : tie.Need-enum-told-2
-enum-told-2 c = search needs
-
-enum-known-place : tie.Need-enum-known-place
-enum-known-place c = search needs
+    omega (arith, placed s .0)
 
 averaging-of-requires : tie.Need-averaging-of-requires
 averaging-of-requires c κs = search needs
 
 fuse-place-requires : tie.Need-fuse-place-requires
 fuse-place-requires c κs =
-    let s = c .before .before .before .before .before .before .before .before .before .before .before .before .before .before in
-    let o = own-told _ _ _ _ _ (c .before .before .before .before .before .before .own-place .ensures) (c .before .before .before .before .place .given .1) in
-    let f =
-    (lengths-known (length (s .args .own-keys .now)) (length (s .args .own-distances .now))
-    (length (s .args .own-weights .now)) (s .args .own) (s .pre .1)) in
-    (omega (arith, o .0, f), omega (arith, f))
+    let s = c .before .before .before .before .before .before .before .before .before .before in
+    let f = fit s in
+    (omega (arith, placed s .1, f), omega (arith, f))
 
 returns : tie.Need-returns
 returns c =
@@ -56,29 +60,22 @@ returns-2 : tie.Need-returns-2
 returns-2 c =
     λ t added ready room. far-left _ _ _ _ _ _ _ ready _ (sym (c .before .before .admit .ensures) ∙ c .enum-told .given .1)
 
-returns-3 : tie.Need-returns-3
-unfolding StepLeft
-returns-3 c =
-    λ t added ready room. (refl, refl)
-
 same-length : tie.Need-same-length
 same-length c = search needs
 
 same-length-2 : tie.Need-same-length-2
 same-length-2 c = search needs
 
-returns-4 : tie.Need-returns-4
-returns-4 c =
-    let at-place = c .before .before .before .before .before .before .before .before .before in
-    let at-own-place = at-place .before .before in
-    let at-near = at-own-place .before .before in
+returns-3 : tie.Need-returns-3
+returns-3 c =
+    let at-near = c .before .before .before .before .before .before .before .before .before in
     let at-admit = at-near .before .before in
-    let s = c .before .before .before .before .before .before .before .before .before .before .before .before .before .before .before .before .before .before .before in
-    let o = own-told _ _ _ _ _ (at-own-place .own-place .ensures) (at-place .place .given .1) in
+    let s = at-admit .before .before .before .before in
+    let o = placed s in
     let n = sym (at-admit .admit .ensures) ∙ at-near .near .given .1 in
     λ t added ready room.
     near-left (s .args .settings) t (s .args .own-keys .now) (s .args .own-distances .now) (s .args .own-weights .now)
-    (s .args .own) added ready _ (s .args .key) (o .0) (o .1) _ (near-known _ _ _ _ n .1)
+    (s .args .own) added ready _ (s .args .key) (o .1) (o .2) _ (near-known _ _ _ _ n .1)
     (entry (s .args .key) (s .args .distance) (s .args .confidence)) refl n (s .args .spare) room _ _ _
     (rw (c .before .before .before .before .before .before .before .averaging-of .ensures) at (c .before .before .before .before .fuse-place .ensures))
 
@@ -90,14 +87,11 @@ fuse-own-spec =
     enum-known-why
     enum-told
     enum-known-near
-    own-place-requires
-    enum-told-2
-    enum-known-place
+    sub-place
     averaging-of-requires
     fuse-place-requires
     returns
     returns-2
-    returns-3
     same-length
     same-length-2
-    returns-4)
+    returns-3)

@@ -1,15 +1,16 @@
 -- `owning::fuse_run` meets its contract: what is left of the readings ends as the whole does.
 -- Assumes nothing.
-use mathlib.Core.Path.{_≡_, refl, _∙_}
-use Prim.Native.Nat.{_≤_, _<_, _-_}
+use mathlib.Core.Path.{_≡_, refl, subst, _∙_}
+use Prim.Native.Nat.{ℕ, _≤_, _<_, _-_, _+_}
 use native.Mathlib.Omega.{arith}
 use borrow.Author.Tests.{ltb-true}
 use lib.Dec.{ltb}
-use lib.ListN.{length, getD}
+use lib.ListN.{length, getD, take}
 use lib.Ieee.{nan}
 use Rattle.lists.proofs.BesideLaws.{by-length}
 use Rattle.batching.specs.Batches.{entry, entries}
 use Rattle.batching.proofs.Batching.{entry-at}
+use Rattle.sorting.specs.Sorting.{Numbered}
 use Rattle.owning.proofs.Running.{Running, passes-over, changes, adds, refuses, stays, ends}
 use borrow.Author.Needs.{needs}
 use Rattle.owning.proofs.fuse_run.Statement.{statement}
@@ -42,8 +43,8 @@ mul-fuse-own : tie.Need-mul-fuse-own Inv-loop μ-loop
 mul-fuse-own c =
     omega arith
 
-element-copy-out-fuse-own : tie.Need-element-copy-out-fuse-own Inv-loop μ-loop
-element-copy-out-fuse-own c =
+shared-slice-read-fuse-own-4 : tie.Need-shared-slice-read-fuse-own-4 Inv-loop μ-loop
+shared-slice-read-fuse-own-4 c =
     omega arith
 
 mul-fuse-own-2 : tie.Need-mul-fuse-own-2 Inv-loop μ-loop
@@ -73,8 +74,19 @@ shared-slice-read-fuse-own-3 c =
 fuse-own-requires : tie.Need-fuse-own-requires Inv-loop μ-loop
 fuse-own-requires c κs =
     let at-loop = c .before .before .before .before .before .before .before in
-    let at-start = at-loop .before .before .before .before .before .before .before in
-    (at-start .pre .0, rw (at-loop .loop .inv .3, at-loop .loop .inv .4) (at-start .pre .1 .0))
+    let s = at-loop .before .before .before .before .before .before .before .before in
+    let l = at-loop .loop in
+    let same : s .args .from + (l .i - s .args .from) ≡ l .i = omega arith in
+    let inside : s .args .from + (l .i - s .args .from) < s .args .to = omega arith in (
+      s .pre .0,
+      (
+        rw (l .inv .3, l .inv .4) (s .pre .1 .0),
+        subst (λ (j : ℕ).
+            Numbered (take (s .args .own) (s .args .own-keys .now)) (getD (s .args .batch-keys .now) j 0)
+            (getD (s .args .slots .now) (l .i - s .args .from) 0)) same
+            (s .pre .1 .1 .1 .1 .1 (l .i - s .args .from) inside),
+      ),
+    )
 
 enum-told : tie.Need-enum-told Inv-loop μ-loop
 enum-told c = search needs
@@ -92,8 +104,7 @@ loop-again c =
     let at-fuse-own = c .before .before .before .before .before .before in
     let at-loop-test = at-fuse-own .before .before .before .before .before .before .before in
     let at-loop = at-loop-test .before in
-    let s = c .before .before .before .before .before .before .before .before .before .before .before .before .before
-    .before .before .before .before .before .before .before .before in
+    let s = at-loop .before .before .before .before .before .before .before .before in
     let l = at-loop .loop in
     let h : l .i < length (s .args .batch-keys .now) = omega (arith, at-loop-test .loop-test .taken) in (
       omega arith,
@@ -108,7 +119,7 @@ loop-again c =
           (entry (getD (s .args .batch-keys .now) (l .i) 0) (getD (s .args .batch-distances .now) (l .i) nan)
           (getD (s .args .batch-confidences .now) (l .i) nan))
           (entry-at (s .args .batch-keys .now) (s .args .batch-distances .now) (s .args .batch-confidences .now) (l .i)
-          (s .pre .1 .1 .1 .0) (s .pre .1 .1 .1 .1) h) (ltb (l .added) (s .args .room))
+          (s .pre .1 .1 .1 .0 .0) (s .pre .1 .1 .1 .0 .1) h) (ltb (l .added) (s .args .room))
           (λ b. ltb-true (l .added) (s .args .room) b) _ _
           (rw (c .enum-told .given .1) at (at-fuse-own .fuse-own .ensures)),
     )
@@ -129,8 +140,7 @@ loop-again-2 c =
     let at-fuse-own = c .before .before .before .before .before .before in
     let at-loop-test = at-fuse-own .before .before .before .before .before .before .before in
     let at-loop = at-loop-test .before in
-    let s = c .before .before .before .before .before .before .before .before .before .before .before .before .before
-    .before .before .before .before .before .before .before .before in
+    let s = at-loop .before .before .before .before .before .before .before .before in
     let l = at-loop .loop in
     let h : l .i < length (s .args .batch-keys .now) = omega (arith, at-loop-test .loop-test .taken) in (
       omega arith,
@@ -145,7 +155,7 @@ loop-again-2 c =
           (entry (getD (s .args .batch-keys .now) (l .i) 0) (getD (s .args .batch-distances .now) (l .i) nan)
           (getD (s .args .batch-confidences .now) (l .i) nan))
           (entry-at (s .args .batch-keys .now) (s .args .batch-distances .now) (s .args .batch-confidences .now) (l .i)
-          (s .pre .1 .1 .1 .0) (s .pre .1 .1 .1 .1) h) (ltb (l .added) (s .args .room))
+          (s .pre .1 .1 .1 .0 .0) (s .pre .1 .1 .1 .0 .1) h) (ltb (l .added) (s .args .room))
           (λ b. ltb-true (l .added) (s .args .room) b) _ _
           (rw (c .enum-told2 .given .1) at (at-fuse-own .fuse-own .ensures)),
     )
@@ -170,8 +180,7 @@ loop-again-3 c =
     let at-fuse-own = c .before .before .before .before .before .before in
     let at-loop-test = at-fuse-own .before .before .before .before .before .before .before in
     let at-loop = at-loop-test .before in
-    let s = c .before .before .before .before .before .before .before .before .before .before .before .before .before
-    .before .before .before .before .before .before .before .before in
+    let s = at-loop .before .before .before .before .before .before .before .before in
     let l = at-loop .loop in
     let h : l .i < length (s .args .batch-keys .now) = omega (arith, at-loop-test .loop-test .taken) in (
       omega arith,
@@ -186,7 +195,7 @@ loop-again-3 c =
           (entry (getD (s .args .batch-keys .now) (l .i) 0) (getD (s .args .batch-distances .now) (l .i) nan)
           (getD (s .args .batch-confidences .now) (l .i) nan))
           (entry-at (s .args .batch-keys .now) (s .args .batch-distances .now) (s .args .batch-confidences .now) (l .i)
-          (s .pre .1 .1 .1 .0) (s .pre .1 .1 .1 .1) h) (ltb (l .added) (s .args .room))
+          (s .pre .1 .1 .1 .0 .0) (s .pre .1 .1 .1 .0 .1) h) (ltb (l .added) (s .args .room))
           (λ b. ltb-true (l .added) (s .args .room) b) _ _
           (rw (c .enum-told3 .given .1) at (at-fuse-own .fuse-own .ensures)),
     )
@@ -213,8 +222,7 @@ returns c =
     let at-fuse-own = c .before .before .before .before .before .before in
     let at-loop-test = at-fuse-own .before .before .before .before .before .before .before in
     let at-loop = at-loop-test .before in
-    let s = c .before .before .before .before .before .before .before .before .before .before .before .before .before
-    .before .before .before .before .before .before .before .before in
+    let s = at-loop .before .before .before .before .before .before .before .before in
     let l = at-loop .loop in
     let h : l .i < length (s .args .batch-keys .now) = omega (arith, at-loop-test .loop-test .taken) in
     stays (s .args .settings) (s .args .own-keys .now) (s .args .own-distances .now) (s .args .own-weights .now)
@@ -224,10 +232,10 @@ returns c =
     (entry (getD (s .args .batch-keys .now) (l .i) 0) (getD (s .args .batch-distances .now) (l .i) nan)
     (getD (s .args .batch-confidences .now) (l .i) nan))
     (entry-at (s .args .batch-keys .now) (s .args .batch-distances .now) (s .args .batch-confidences .now) (l .i)
-    (s .pre .1 .1 .1 .0) (s .pre .1 .1 .1 .1) h) (ltb (l .added) (s .args .room))
+    (s .pre .1 .1 .1 .0 .0) (s .pre .1 .1 .1 .0 .1) h) (ltb (l .added) (s .args .room))
     (λ b. ltb-true (l .added) (s .args .room) b) _ _ (omega arith)
     (rw (by-length entry (s .args .batch-keys .now) (s .args .batch-distances .now) (s .args .batch-confidences .now)
-    (s .pre .1 .1 .1 .0) (s .pre .1 .1 .1 .1)) (omega arith))
+    (s .pre .1 .1 .1 .0 .0) (s .pre .1 .1 .1 .0 .1)) (omega arith))
     (rw (c .enum-told4 .given .1) at (at-fuse-own .fuse-own .ensures))
 
 enum-known-step : tie.Need-enum-known-step Inv-loop μ-loop
@@ -252,8 +260,7 @@ returns-2 c =
     let at-fuse-own = c .before .before .before .before .before .before .before in
     let at-loop-test = at-fuse-own .before .before .before .before .before .before .before in
     let at-loop = at-loop-test .before in
-    let s = c .before .before .before .before .before .before .before .before .before .before .before .before .before
-    .before .before .before .before .before .before .before .before .before in
+    let s = at-loop .before .before .before .before .before .before .before .before in
     let l = at-loop .loop in
     let h : l .i < length (s .args .batch-keys .now) = omega (arith, at-loop-test .loop-test .taken) in
     refuses (s .args .settings) (s .args .own-keys .now) (s .args .own-distances .now) (s .args .own-weights .now)
@@ -263,7 +270,7 @@ returns-2 c =
     (entry (getD (s .args .batch-keys .now) (l .i) 0) (getD (s .args .batch-distances .now) (l .i) nan)
     (getD (s .args .batch-confidences .now) (l .i) nan))
     (entry-at (s .args .batch-keys .now) (s .args .batch-distances .now) (s .args .batch-confidences .now) (l .i)
-    (s .pre .1 .1 .1 .0) (s .pre .1 .1 .1 .1) h) (ltb (l .added) (s .args .room))
+    (s .pre .1 .1 .1 .0 .0) (s .pre .1 .1 .1 .0 .1) h) (ltb (l .added) (s .args .room))
     (λ b. ltb-true (l .added) (s .args .room) b) _ _ _
     (rw (c .before .step .given .1) at (at-fuse-own .fuse-own .ensures))
 
@@ -277,14 +284,14 @@ same-length-6 c =
 
 returns-3 : tie.Need-returns-3 Inv-loop μ-loop
 returns-3 c =
-    let s = c .before .before .before .before .before .before .before .before in
+    let s = c .before .before .before .before .before .before .before .before .before in
     let l = c .before .loop in
     ends (s .args .settings) (s .args .own-keys .now) (s .args .own-distances .now) (s .args .own-weights .now)
     (s .args .own) (s .args .room)
     (entries (s .args .batch-keys .now) (s .args .batch-distances .now) (s .args .batch-confidences .now))
     (s .args .from) (l .i) (l .added) (l .own-distances) (l .own-weights) (l .inv .5) (omega arith)
     (rw (by-length entry (s .args .batch-keys .now) (s .args .batch-distances .now) (s .args .batch-confidences .now)
-    (s .pre .1 .1 .1 .0) (s .pre .1 .1 .1 .1)) (omega arith))
+    (s .pre .1 .1 .1 .0 .0) (s .pre .1 .1 .1 .0 .1)) (omega arith))
 
 pub fuse-run-spec : {M : Type 1} → statement M
 fuse-run-spec =
@@ -295,13 +302,13 @@ fuse-run-spec =
     loop-holds
     sub-offset
     mul-fuse-own
-    element-copy-out-fuse-own
-    mul-fuse-own-2
     shared-slice-read-fuse-own
-    mul-fuse-own-3
+    mul-fuse-own-2
     shared-slice-read-fuse-own-2
-    mul-fuse-own-4
+    mul-fuse-own-3
     shared-slice-read-fuse-own-3
+    mul-fuse-own-4
+    shared-slice-read-fuse-own-4
     fuse-own-requires
     enum-told
     add-i
