@@ -44,23 +44,23 @@ abbrev rowBits : Row → List ℕ
 rowBits r = r .key ∷ toBits binary32 (r .distance) ∷ toBits binary32 (r .weight) ∷ []
 
 -- a direct reading: key, distance and confidence
-pub record Given : Type 0 where
+pub record SampleReading : Type 0 where
   pub key : ℕ
   pub distance : ℕ
   pub confidence : ℕ
 
-abbrev given : ℕ → ℕ → ℕ → Given
+abbrev given : ℕ → ℕ → ℕ → SampleReading
 given k d c = record { key = k; distance = d; confidence = c }
 
 -- the answers to readings in turn, 0 stored, 100 Far or a refusal's number, then the rows that they leave
-unfoldable fusedInto : ℕ → ℕ → Table → List Given → List ℕ
+unfoldable fusedInto : ℕ → ℕ → Table → List SampleReading → List ℕ
 fusedInto truncation most t [] = joined rowBits (rows t)
 fusedInto truncation most t (g ∷ gs) =
     let o = fuse (settingsOf (f32 truncation) (f32 most) one32 one32) t (g .key) (Direct (record { 0 = f32 (g .distance) }) (f32 (g .confidence))) in
     fusedNumber (o .answer) ∷ fusedInto truncation most (o .left) gs
 
 -- readings into an empty table of so many places, under a truncation and a maximum weight
-abbrev fused : ℕ → ℕ → ℕ → List Given → List ℕ
+abbrev fused : ℕ → ℕ → ℕ → List SampleReading → List ℕ
 fused truncation most places gs =
     fusedInto truncation most (table (replicate places 0) (replicate places zero32) (replicate places zero32) 0) gs
 
