@@ -1,5 +1,7 @@
 // A batch of readings, fused in turn (src/layers/tsdf.rs: batch_update): many at a time through own rows, few one by one.
 use batching::Batched;
+use batching::Ending;
+use batching::batched_of;
 use floats::Metres;
 use fusing::Step;
 use fusing::fuse_sound;
@@ -14,7 +16,7 @@ ghost use mathlib.Core.Path.{_≡_};
 ghost use Prim.Native.Nat.{_+_, _<_};
 ghost use lib.ListN.{length};
 ghost use Rattle.table.specs.Table.{table, tableCheck};
-ghost use Rattle.batching.specs.Batches.{batchOutcome, entries, batchFrom, batch};
+ghost use Rattle.batching.specs.Batches.{batchOutcome, batchEnd, entries, batchFrom, batch};
 ghost use Rattle.owning.specs.Runs.{RunTo};
 
 // One reading of a batch, into the table itself.
@@ -130,10 +132,10 @@ fn batch_sound(
     batch_keys: &[u64],
     batch_distances: &[f32],
     batch_confidences: &[f32],
-) -> Batched
+) -> Ending
     requires { ⌜ tableCheck settings (table (now keys) (now distances) (now weights) (now count)) ≡ Checked.Passed ⌝ }
     requires { ⌜ (length (now «batch_distances») ≡ length (now «batch_keys»)) × (length (now «batch_confidences») ≡ length (now «batch_keys»)) ⌝ }
-    ensures { λ r. ⌜ batchOutcome r (table (now (keys .exit)) (now (distances .exit)) (now (weights .exit)) (now (count .exit)))
+    ensures { λ r. ⌜ batchEnd r (table (now (keys .exit)) (now (distances .exit)) (now (weights .exit)) (now (count .exit)))
         ≡ batchFrom settings 0
         (table (now (keys .entry)) (now (distances .entry)) (now (weights .entry)) (now (count .entry)))
         (entries (now («batch_keys» .entry)) (now («batch_distances» .entry)) (now («batch_confidences» .entry))) ⌝ }
@@ -153,14 +155,14 @@ fn batch_sound(
         );
         match run {
             Run::Refused(why, at) => {
-                return Batched::Refused(why, at);
+                return Ending::Refused(why, at);
             }
             Run::Reached(reached) => {
                 i = reached;
             }
         }
     }
-    Batched::Done
+    Ending::Taken
 }
 
 // A batch of direct readings. A refusal ends it; the readings before it stand.
@@ -187,15 +189,18 @@ pub fn batch_update(
     );
     match check_with(fits, settings, keys, distances, weights, *count) {
         Checked::Refused(why) => Batched::Refused(why, 0),
-        Checked::Passed => batch_sound(
-            settings,
-            keys,
-            distances,
-            weights,
-            count,
-            batch_keys,
-            batch_distances,
-            batch_confidences,
-        ),
+        Checked::Passed => {
+            let ending = batch_sound(
+                settings,
+                keys,
+                distances,
+                weights,
+                count,
+                batch_keys,
+                batch_distances,
+                batch_confidences,
+            );
+            batched_of(ending)
+        }
     }
 }

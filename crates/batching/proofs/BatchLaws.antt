@@ -22,8 +22,10 @@ use Rattle.fusing.specs.declared.Fused.{Fused}
 use Rattle.fusing.specs.declared.Fused.the-variants as Fused
 use Rattle.batching.specs.declared.Batched.{Batched}
 use Rattle.batching.specs.declared.Batched.the-variants as Batched
+use Rattle.batching.specs.declared.Ending.{Ending}
+use Rattle.batching.specs.declared.Ending.the-variants as Ending
 use Rattle.fusing.specs.Fusing.{Outcome, fuseIf, effectOf, fuse}
-use Rattle.batching.specs.Batches.{BatchOutcome, batchOutcome, Entry, entry, entries, directOf, stopOr, batchFrom, batchIf, batchCheck, batch}
+use Rattle.batching.specs.Batches.{BatchOutcome, batchOutcome, batchEnd, batchedOf, answerOf, Entry, entry, entries, directOf, stopOr, batchFrom, batchIf, batchCheck, batch}
 use Rattle.fusing.proofs.Keeping.{fuse-keeps}
 use Rattle.fusing.proofs.FuseLaws.{refused-unchanged}
 
@@ -40,7 +42,7 @@ fits a b c p q h = rw (eq-eqb a b (sym p), eq-eqb a c (sym q), le-leb a 65536 h,
 
 -- a fuse's outcome as that of a batch of one
 abbrev pub asBatch : Outcome → BatchOutcome
-asBatch o = stopOr (o .answer) 0 (o .left) (batchOutcome Batched.Done (o .left))
+asBatch o = answerOf (stopOr (o .answer) 0 (o .left) (batchEnd Ending.Taken (o .left)))
 
 pub batch-of-one : (s : Settings) (t : Table) (k : ℕ) (d c : Float) → batch s t (k ∷ []) (d ∷ []) (c ∷ []) ≡ asBatch (fuse s t k (directOf (entry k d c)))
 unfolding batch batchIf batchFrom besideBy fuse effectOf fuseIf stopOr
@@ -66,24 +68,28 @@ counted n (Batched.Refused why i) = Batched.Refused why (n + i)
 abbrev pub countedFrom : ℕ → BatchOutcome → BatchOutcome
 countedFrom n o = batchOutcome (counted n (o .answer)) (o .left)
 
-from-counted : (s : Settings) (n i : ℕ) (t : Table) (rs : List Entry) → batchFrom s (n + i) t rs ≡ countedFrom n (batchFrom s i t rs)
+-- what is answered to readings of which the first is the i-th
+abbrev from : Settings → ℕ → Table → List Entry → BatchOutcome
+from s i t rs = answerOf (batchFrom s i t rs)
+
+from-counted : (s : Settings) (n i : ℕ) (t : Table) (rs : List Entry) → from s (n + i) t rs ≡ countedFrom n (from s i t rs)
 unfolding batchFrom stopOr counted
 from-counted s n i t [] = refl
 from-counted s n i t (r ∷ rs) =
     go (fuse s t (r .key) (directOf r) .answer) (fuse s t (r .key) (directOf r) .left)
-    (λ u. ap (λ (j : ℕ). batchFrom s j u rs) (sym (add-suc n i)) ∙ from-counted s n (suc i) u rs)
+    (λ u. ap (λ (j : ℕ). from s j u rs) (sym (add-suc n i)) ∙ from-counted s n (suc i) u rs)
   where
     go :
         (a : Fused) (u : Table)
-        → ((v : Table) → batchFrom s (suc (n + i)) v rs ≡ countedFrom n (batchFrom s (suc i) v rs))
-        → stopOr a (n + i) u (batchFrom s (suc (n + i)) u rs) ≡ countedFrom n (stopOr a i u (batchFrom s (suc i) u rs))
+        → ((v : Table) → from s (suc (n + i)) v rs ≡ countedFrom n (from s (suc i) v rs))
+        → answerOf (stopOr a (n + i) u (batchFrom s (suc (n + i)) u rs)) ≡ countedFrom n (answerOf (stopOr a i u (batchFrom s (suc i) u rs)))
     go (Fused.Refused why) u h = refl
     go Fused.Far u h = h u
     go Fused.Stored u h = h u
 
 from-splits :
     (s : Settings) (i : ℕ) (t : Table) (rs qs : List Entry)
-    → batchFrom s i t (rs ++ qs) ≡ followedBy (batchFrom s i t rs .answer) (batchFrom s i t rs .left) (λ u. batchFrom s (i + length rs) u qs)
+    → from s i t (rs ++ qs) ≡ followedBy (from s i t rs .answer) (from s i t rs .left) (λ u. from s (i + length rs) u qs)
 unfolding batchFrom stopOr followedBy
 from-splits s i t [] qs = rw add-zero
 from-splits s i t (r ∷ rs) qs = go (fuse s t (r .key) (directOf r) .answer) (fuse s t (r .key) (directOf r) .left) (λ u. from-splits s (suc i) u rs qs)
@@ -91,11 +97,11 @@ from-splits s i t (r ∷ rs) qs = go (fuse s t (r .key) (directOf r) .answer) (f
     go :
         (a : Fused) (u : Table)
         → ((v : Table)
-        → batchFrom s (suc i) v (rs ++ qs) ≡ followedBy (batchFrom s (suc i) v rs .answer)
-        (batchFrom s (suc i) v rs .left) (λ w. batchFrom s (suc i + length rs) w qs))
-        → stopOr a i u (batchFrom s (suc i) u (rs ++ qs))
-        ≡ followedBy (stopOr a i u (batchFrom s (suc i) u rs) .answer) (stopOr a i u (batchFrom s (suc i) u rs) .left)
-        (λ w. batchFrom s (i + suc (length rs)) w qs)
+        → from s (suc i) v (rs ++ qs) ≡ followedBy (from s (suc i) v rs .answer)
+        (from s (suc i) v rs .left) (λ w. from s (suc i + length rs) w qs))
+        → answerOf (stopOr a i u (batchFrom s (suc i) u (rs ++ qs)))
+        ≡ followedBy (answerOf (stopOr a i u (batchFrom s (suc i) u rs)) .answer) (stopOr a i u (batchFrom s (suc i) u rs) .left)
+        (λ w. from s (i + suc (length rs)) w qs)
     go (Fused.Refused why) u h = refl
     go Fused.Far u h = rw (add-suc i (length rs), ← suc-add i (length rs)) (h u)
     go Fused.Stored u h = rw (add-suc i (length rs), ← suc-add i (length rs)) (h u)
@@ -161,11 +167,11 @@ batch-splits s t ks ks' ds ds' cs cs' p q p' q' h =
     second :
         (u : Table)
         → tableCheck s u ≡ Checked.Passed
-        → batchFrom s (0 + length (entries ks ds cs)) u (entries ks' ds' cs')
+        → from s (0 + length (entries ks ds cs)) u (entries ks' ds' cs')
         ≡ countedFrom (length ks)
         (batchIf (batchCheck s u (length ks') (length ds') (length cs')) s u (entries ks' ds' cs'))
     second u e =
-        ap (λ (j : ℕ). batchFrom s j u (entries ks' ds' cs')) (zero-add (length (entries ks ds cs)) ∙ by-length entry ks ds cs p q ∙ sym (add-zero (length ks)))
+        ap (λ (j : ℕ). from s j u (entries ks' ds' cs')) (zero-add (length (entries ks ds cs)) ∙ by-length entry ks ds cs p q ∙ sym (add-zero (length ks)))
         ∙ from-counted s (length ks) 0 u (entries ks' ds' cs')
         ∙ ap (λ (r : Checked). countedFrom (length ks) (batchIf r s u (entries ks' ds' cs')))
         (sym (check-once s u (length ks') (length ds') (length cs')
@@ -182,9 +188,9 @@ batch-splits s t ks ks' ds ds' cs cs' p q p' q' h =
         (batchIf (batchCheck s u (length ks') (length ds') (length cs')) s u (entries ks' ds' cs')))
     go (Checked.Refused why) e = refl
     go Checked.Passed e =
-        let o = batchFrom s 0 t (entries ks ds cs) in
+        let o = from s 0 t (entries ks ds cs) in
         from-splits s 0 t (entries ks ds cs) (entries ks' ds' cs')
-        ∙ followed-same (o .answer) (o .left) (λ u. batchFrom s (0 + length (entries ks ds cs)) u (entries ks' ds' cs'))
+        ∙ followed-same (o .answer) (o .left) (λ u. from s (0 + length (entries ks ds cs)) u (entries ks' ds' cs'))
         (λ u.
         countedFrom (length ks)
         (batchIf (batchCheck s u (length ks') (length ds') (length cs')) s u (entries ks' ds' cs')))
@@ -197,9 +203,9 @@ pub record Stands (s : Settings) (j : ℕ) (t : Table) (rs : List Entry) (i : �
   pub earlier : ℕ
   pub named : i ≡ j + earlier
   pub inside : earlier < length rs
-  pub same : batchFrom s j t (take earlier rs) ≡ batchOutcome Batched.Done (batchFrom s j t rs .left)
+  pub same : batchFrom s j t (take earlier rs) ≡ batchEnd Ending.Taken (batchFrom s j t rs .left)
 
-stands : (s : Settings) (j : ℕ) (t : Table) (rs : List Entry) (why : Refusal) (i : ℕ) → batchFrom s j t rs .answer ≡ Batched.Refused why i → Stands s j t rs i
+stands : (s : Settings) (j : ℕ) (t : Table) (rs : List Entry) (why : Refusal) (i : ℕ) → batchFrom s j t rs .ending ≡ Ending.Refused why i → Stands s j t rs i
 unfolding batchFrom stopOr
 stands s j t [] why i e = let z : _≡_ {A = ℕ} 0 1 = cc in absurd (omega arith)
 stands s j t (r ∷ rs) why i e = go (fuse s t (r .key) (directOf r) .answer) refl e (λ q. stands s (suc j) (fuse s t (r .key) (directOf r) .left) rs why i q)
@@ -207,8 +213,8 @@ stands s j t (r ∷ rs) why i e = go (fuse s t (r .key) (directOf r) .answer) re
     go :
         (a : Fused)
         → fuse s t (r .key) (directOf r) .answer ≡ a
-        → stopOr a j (fuse s t (r .key) (directOf r) .left) (batchFrom s (suc j) (fuse s t (r .key) (directOf r) .left) rs) .answer ≡ Batched.Refused why i
-        → (batchFrom s (suc j) (fuse s t (r .key) (directOf r) .left) rs .answer ≡ Batched.Refused why i
+        → stopOr a j (fuse s t (r .key) (directOf r) .left) (batchFrom s (suc j) (fuse s t (r .key) (directOf r) .left) rs) .ending ≡ Ending.Refused why i
+        → (batchFrom s (suc j) (fuse s t (r .key) (directOf r) .left) rs .ending ≡ Ending.Refused why i
         → Stands s (suc j) (fuse s t (r .key) (directOf r) .left) rs i)
         → Stands s j t (r ∷ rs) i
     go (Fused.Refused w) q f next =
@@ -217,7 +223,7 @@ stands s j t (r ∷ rs) why i e = go (fuse s t (r .key) (directOf r) .answer) re
           earlier = 0;
           named = rw add-zero (sym n);
           inside = suc-le-suc zero-le;
-          same = rw q (ap (batchOutcome Batched.Done) (sym (refused-unchanged s t (r .key) (directOf r) w q)));
+          same = rw q (ap (batchEnd Ending.Taken) (sym (refused-unchanged s t (r .key) (directOf r) w q)));
         }
     go Fused.Far q f next =
         let n = next f in
@@ -226,6 +232,11 @@ stands s j t (r ∷ rs) why i e = go (fuse s t (r .key) (directOf r) .answer) re
         let n = next f in
         record { earlier = suc (n .earlier); named = omega (arith, n .named); inside = suc-le-suc (n .inside); same = rw q (n .same) }
 
+-- an answer tells its ending
+told : (e : Ending) {why : Refusal} {i : ℕ} → batchedOf e ≡ Batched.Refused why i → e ≡ Ending.Refused why i
+told Ending.Taken q = let z : _≡_ {A = ℕ} 0 1 = cc in absurd (omega arith)
+told (Ending.Refused why i) q = cc
+
 -- the readings before the refused one stand, and nothing else changed
 pub earlier-stand :
     (s : Settings) (t : Table) (ks : List ℕ) (ds cs : List Float) (why : Refusal) (i : ℕ)
@@ -233,4 +244,4 @@ pub earlier-stand :
     → batch s t ks ds cs .answer ≡ Batched.Refused why i
     → Stands s 0 t (entries ks ds cs) i
 unfolding batch batchIf
-earlier-stand s t ks ds cs why i p e = stands s 0 t (entries ks ds cs) why i (rw p at e)
+earlier-stand s t ks ds cs why i p e = stands s 0 t (entries ks ds cs) why i (told (batchFrom s 0 t (entries ks ds cs) .ending) (rw p at e))

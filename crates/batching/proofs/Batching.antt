@@ -14,9 +14,9 @@ use Rattle.table.specs.declared.Checked.the-variants.{Passed}
 use Rattle.table.specs.Table.{Table, tableCheck}
 use Rattle.fusing.specs.declared.Step.{Step}
 use Rattle.fusing.specs.declared.Step.the-variants.{Far, Added, Changed, Refused}
-use Rattle.batching.specs.declared.Batched.the-variants as Batched
+use Rattle.batching.specs.declared.Ending.the-variants as Ending
 use Rattle.fusing.specs.Fusing.{Effect, effect, effectOf, fusedOf, fuse}
-use Rattle.batching.specs.Batches.{BatchOutcome, batchOutcome, entry, entries, directOf, stopOr, batchFrom}
+use Rattle.batching.specs.Batches.{BatchEnd, batchEnd, entry, entries, directOf, stopOr, batchFrom}
 use Rattle.fusing.proofs.Keeping.{fuse-keeps}
 
 -- the reading at place i, and those after it
@@ -32,11 +32,11 @@ entries-past : (ks : List ℕ) (ds cs : List Float) (i : ℕ) → length ks ≤ 
 entries-past ks ds cs i h = rw (by-whole entry ks ds cs) at (by-past entry ks ds cs (length ks) i h)
 
 module _ (s : Settings) (t : Table) (ks : List ℕ) (ds cs : List Float) (i : ℕ) where
-  abbrev from : ℕ → Table → BatchOutcome
+  abbrev from : ℕ → Table → BatchEnd
   from j u = batchFrom s j u (drop j (entries ks ds cs))
 
   -- no reading is left
-  pub ended : length ks ≤ i → from i t ≡ batchOutcome Batched.Done t
+  pub ended : length ks ≤ i → from i t ≡ batchEnd Ending.Taken t
   unfolding batchFrom
   ended h = rw (entries-past ks ds cs i h)
 
@@ -47,7 +47,7 @@ module _ (s : Settings) (t : Table) (ks : List ℕ) (ds cs : List Float) (i : �
     unfolding batchFrom fuse
     one = rw (entry-at ks ds cs i p q h, ← e, add-one)
 
-    pub stops : (why : Refusal) → step ≡ Refused why → from i t ≡ batchOutcome (Batched.Refused why i) u
+    pub stops : (why : Refusal) → step ≡ Refused why → from i t ≡ batchEnd (Ending.Refused why i) u
     unfolding stopOr
     stops why f = one ∙ rw f
 

@@ -15,6 +15,8 @@ use Rattle.fusing.specs.declared.Fused.{Fused}
 use Rattle.fusing.specs.declared.Fused.the-variants as Fused
 use Rattle.batching.specs.declared.Batched.{Batched}
 use Rattle.batching.specs.declared.Batched.the-variants as Batched
+use Rattle.batching.specs.declared.Ending.{Ending}
+use Rattle.batching.specs.declared.Ending.the-variants as Ending
 use Rattle.fusing.specs.Fusing.{fuse}
 
 -- what a batch answers, and the table that it leaves
@@ -24,6 +26,22 @@ pub record BatchOutcome : Type 0 where
 
 abbrev pub batchOutcome : Batched → Table → BatchOutcome
 batchOutcome a t = record { answer = a; left = t }
+
+-- how its readings end, and the table that they leave
+pub record BatchEnd : Type 0 where
+  pub ending : Ending
+  pub left : Table
+
+abbrev pub batchEnd : Ending → Table → BatchEnd
+batchEnd e t = record { ending = e; left = t }
+
+-- what is answered to an ending
+abbrev pub batchedOf : Ending → Batched
+batchedOf Ending.Taken = Batched.Done
+batchedOf (Ending.Refused why i) = Batched.Refused why i
+
+abbrev pub answerOf : BatchEnd → BatchOutcome
+answerOf e = batchOutcome (batchedOf (e .ending)) (e .left)
 
 -- a reading of a batch: a cell's key, a direct distance and its confidence
 pub record Entry : Type 0 where
@@ -42,14 +60,14 @@ abbrev pub directOf : Entry → Reading
 directOf r = Direct (record { 0 = r .distance }) (r .confidence)
 
 -- a refusal ends the batch and names its reading
-unfoldable pub stopOr : Fused → ℕ → Table → BatchOutcome → BatchOutcome
-stopOr (Fused.Refused why) i t rest = batchOutcome (Batched.Refused why i) t
+unfoldable pub stopOr : Fused → ℕ → Table → BatchEnd → BatchEnd
+stopOr (Fused.Refused why) i t rest = batchEnd (Ending.Refused why i) t
 stopOr Fused.Far i t rest = rest
 stopOr Fused.Stored i t rest = rest
 
 -- the readings in order, the first of them the i-th, each fused into what those before it left
-unfoldable pub batchFrom : Settings → ℕ → Table → List Entry → BatchOutcome
-batchFrom s i t [] = batchOutcome Batched.Done t
+unfoldable pub batchFrom : Settings → ℕ → Table → List Entry → BatchEnd
+batchFrom s i t [] = batchEnd Ending.Taken t
 batchFrom s i t (r ∷ rs) =
     let o = fuse s t (r .key) (directOf r) in
     stopOr (o .answer) i (o .left) (batchFrom s (suc i) (o .left) rs)
@@ -58,7 +76,7 @@ batchFrom s i t (r ∷ rs) =
 unfoldable pub batchIf : Checked → Settings → Table → List Entry → BatchOutcome
 unfolding batchFrom
 batchIf (Checked.Refused why) s t rs = batchOutcome (Batched.Refused why 0) t
-batchIf Checked.Passed s t rs = batchFrom s 0 t rs
+batchIf Checked.Passed s t rs = answerOf (batchFrom s 0 t rs)
 
 -- refusals 1, 2 and 3; the three lists of readings are equal and at most 65,536 long
 abbrev pub batchCheck : Settings → Table → ℕ → ℕ → ℕ → Checked

@@ -16,10 +16,10 @@ use Rattle.owning.specs.declared.Owned.{Owned}
 use Rattle.owning.specs.declared.Owned.the-variants as Owned
 use Rattle.owning.specs.declared.Run.{Run}
 use Rattle.owning.specs.declared.Run.the-variants as Run
-use Rattle.batching.specs.declared.Batched.the-variants as Batched
+use Rattle.batching.specs.declared.Ending.the-variants as Ending
 use Rattle.measuring.specs.Readings.{admitted}
 use Rattle.fusing.specs.Fusing.{fusedIf, fuseIf, effectOf, fuse}
-use Rattle.batching.specs.Batches.{batchOutcome, Entry, directOf, stopOr, batchFrom}
+use Rattle.batching.specs.Batches.{batchEnd, Entry, directOf, stopOr, batchFrom}
 use Rattle.owning.specs.Runs.{over, Ready, GoesOn, StepLeft, Stepped, RunLeft, RanTo, RunTo}
 
 -- ---- readings that are not near
@@ -98,7 +98,7 @@ module _ (s : Settings) (ks : List ℕ) (ds₀ ws₀ : List Float) (own room : �
 -- ---- parts of a batch, one after the other
 
 module _ (s : Settings) (t : Table) (rs : List Entry) (from least : ℕ) (r : Run) (u : Table) (ran : RunTo s t rs from least r u) where
-  pub run-stops : (why : Refusal) (i : ℕ) → r ≡ Run.Refused why i → batchFrom s from t (drop from rs) ≡ batchOutcome (Batched.Refused why i) u
+  pub run-stops : (why : Refusal) (i : ℕ) → r ≡ Run.Refused why i → batchFrom s from t (drop from rs) ≡ batchEnd (Ending.Refused why i) u
   unfolding RunLeft
   run-stops why i e = subst (λ (q : Run). RunLeft s t rs from least q u) e (ran .0)
 

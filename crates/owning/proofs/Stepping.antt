@@ -35,13 +35,13 @@ use Rattle.fusing.specs.declared.Averaging.{Averaging}
 use Rattle.fusing.specs.declared.Voxel.{Voxel}
 use Rattle.measuring.specs.declared.Measured.{Measured}
 use Rattle.fusing.specs.declared.Fused.the-variants as Fused
-use Rattle.batching.specs.declared.Batched.the-variants as Batched
+use Rattle.batching.specs.declared.Ending.the-variants as Ending
 use Rattle.measuring.specs.declared.Admitted.the-variants.{Near}
 use Rattle.owning.specs.declared.Owned.{Owned}
 use Rattle.owning.specs.declared.Owned.the-variants as Owned
 use Rattle.measuring.specs.Readings.{admitted}
 use Rattle.fusing.specs.Fusing.{Outcome, outcome, averagingOf, fusedVoxel, voxelAt, hasPlace, stepAt, stored, fusedNear, fusedIf, fuseIf, effectOf, answered, fuse}
-use Rattle.batching.specs.Batches.{batchOutcome, Entry, directOf, stopOr, batchFrom}
+use Rattle.batching.specs.Batches.{batchEnd, Entry, directOf, stopOr, batchFrom}
 use Rattle.sorting.specs.Sorting.{Numbered}
 use Rattle.owning.specs.Runs.{over, Ready, oldVoxel, voxelAfter, Placed, StepLeft}
 use Rattle.fusing.proofs.Keeping.{weight-above, voxel-kept, zero-in, fuse-keeps}
@@ -324,7 +324,7 @@ module _ (s : Settings) (t : Table) (ks : List ℕ) (ds ws : List Float) (own ad
           Said
           → within million (v .distance) ≡ false
           → (i : ℕ) (rs : List Entry)
-          → batchFrom s i now-table (r ∷ rs) ≡ batchOutcome (Batched.Refused TooLarge i) now-table
+          → batchFrom s i now-table (r ∷ rs) ≡ batchEnd (Ending.Refused TooLarge i) now-table
       unfolding batchFrom stopOr
       ends-there said b i rs =
           let e : fuse s now-table (r .key) (directOf r) ≡ outcome (Fused.Refused TooLarge) now-table = fused ∙ said ∙ rw b in

@@ -22,10 +22,10 @@ use Rattle.owning.specs.declared.Owned.the-variants as Owned
 use Rattle.owning.specs.declared.Run.{Run}
 use Rattle.owning.specs.declared.Run.the-variants as Run
 use Rattle.owning.specs.declared.Ran.{Ran}
-use Rattle.batching.specs.declared.Batched.the-variants as Batched
+use Rattle.batching.specs.declared.Ending.the-variants as Ending
 use Rattle.fusing.specs.Fusing.{fusedVoxel}
 use Rattle.sorting.specs.Sorting.{Numbered}
-use Rattle.batching.specs.Batches.{batchOutcome, Entry, batchFrom}
+use Rattle.batching.specs.Batches.{batchEnd, Entry, batchFrom}
 
 -- the table with the own rows that stand
 abbrev pub over : Settings → Table → List ℕ → List Float → List Float → ℕ → Table
@@ -86,7 +86,7 @@ StepLeft s t ks ds ws own added r Owned.Changed ds' ws' = GoesOn s t ks ds ws ow
 StepLeft s t ks ds ws own added r Owned.Added ds' ws' = GoesOn s t ks ds ws own r ds' ws' (suc added)
 StepLeft s t ks ds ws own added r Owned.Unknown ds' ws' = (ds' ≡ ds) × (ws' ≡ ws)
 StepLeft s t ks ds ws own added r (Owned.Refused why) ds' ws' =
-    ((i : ℕ) (rs : List Entry) → batchFrom s i (over s t ks ds ws own) (r ∷ rs) ≡ batchOutcome (Batched.Refused why i) (over s t ks ds ws own))
+    ((i : ℕ) (rs : List Entry) → batchFrom s i (over s t ks ds ws own) (r ∷ rs) ≡ batchEnd (Ending.Refused why i) (over s t ks ds ws own))
     × (ds' ≡ ds) × (ws' ≡ ws)
 
 -- the same beside every table
@@ -100,7 +100,7 @@ Stepped s ks ds ws own spare r step ds' ws' =
 unfoldable pub RunLeft : Settings → Table → List Entry → ℕ → ℕ → Run → Table → Type 0
 RunLeft s t rs from least (Run.Reached i) u =
     (batchFrom s from t (drop from rs) ≡ batchFrom s i u (drop i rs)) × (least ≤ i) × (i ≤ length rs)
-RunLeft s t rs from least (Run.Refused why i) u = batchFrom s from t (drop from rs) ≡ batchOutcome (Batched.Refused why i) u
+RunLeft s t rs from least (Run.Refused why i) u = batchFrom s from t (drop from rs) ≡ batchEnd (Ending.Refused why i) u
 
 -- a part of a batch through own rows, beside every table
 abbrev pub RanTo : Settings → List ℕ → List Float → List Float → ℕ → ℕ → List Entry → ℕ → Ran → List Float → List Float → Type 0
