@@ -22,17 +22,16 @@ use Rattle.lists.proofs.Held.{written-held, refused-held}
 use Rattle.lists.proofs.PaddingLaws.{padded-length}
 use Rattle.refusals.specs.declared.Refusal.{Refusal}
 use Rattle.table.specs.Table.{Row, Table, table, rows}
-use Rattle.table.proofs.Checking.{with-passed}
-use Rattle.table.specs.declared.Settings.{Settings}
 use Rattle.table.specs.declared.Checked.{Checked}
 use Rattle.table.specs.declared.Checked.the-variants.{Passed, Refused}
 use Rattle.edges.specs.Edges.{Edge}
 use Rattle.edges.specs.Surfaces.{edgesOn}
-use Rattle.edges.specs.Listing.{firsts, seconds, outputsOk, checkedFor, answerIf, crossingsAnswer, firstsOn, secondsOn}
+use Rattle.edges.specs.Listing.{firsts, seconds, answerIf}
+use Rattle.edges.specs.Steps.{Tested}
 use Rattle.edges.specs.declared.Surface.the-variants as surface
-use Rattle.edges.proofs.AnswerLaws.{accepted}
+use Rattle.edges.proofs.AnswerLaws.{outputs-same, cleared-held}
 use Rattle.edges.proofs.ListingLaws.{rows-rise}
-use Rattle.edges.proofs.Calls.{counted-only, answered-on}
+use Rattle.edges.proofs.Calls.{counted-only}
 use Rattle.groups.proofs.CountingLaws.{edges-back}
 use Rattle.tetrahedra.specs.ClosedEdges.{closedEdges}
 use Rattle.tetrahedra.specs.ClosedTriangles.{closedTriangles}
@@ -40,69 +39,59 @@ use Rattle.tetrahedra.proofs.ScanLaws.{closed-edges-scan}
 use Rattle.cutting.specs.Steps.{Puts, OwnIf, IsCut}
 use Rattle.cutting.specs.Closing.{closedAnswer, threeOk, cutAnswer, trianglesAnswer}
 
-module _ (s : Settings) (ks : List ℕ) (ds ws : List Float) (cnt a b : ℕ) where
+module _ (v : Checked) (ks : List ℕ) (ds ws : List Float) (cnt a b : ℕ) (tested : Tested v ks ds ws cnt a b) where
   abbrev t : Table
   t = table ks ds ws cnt
 
-  -- where the tests pass, the scan finds the closed edges
-  scanned : checkedFor s t a b ≡ Passed → edgesOn surface.Closed (rows t) ≡ closedEdges (rows t)
-  scanned pass = closed-edges-scan (rows t) (rows-rise ks ds ws cnt (accepted s ks ds ws cnt a b pass .0))
+  abbrev es : List Edge
+  es = edgesOn surface.Closed (rows t)
 
-  pub closed-answer : crossingsAnswer surface.Closed s t a b ≡ closedAnswer s t a b
-  unfolding crossingsAnswer closedAnswer answerIf
-  closed-answer = go (checkedFor s t a b) refl
+  -- where the tests pass, the scan finds the closed edges
+  scanned : v ≡ Passed → es ≡ closedEdges (rows t)
+  scanned pass = closed-edges-scan (rows t) (rows-rise ks ds ws cnt (tested pass .0))
+
+  pub closed-answer : answerIf v es a ≡ closedAnswer v t a
+  unfolding closedAnswer answerIf
+  closed-answer = go v refl
     where
-      go : (c : Checked) → checkedFor s t a b ≡ c → answerIf c (edgesOn surface.Closed (rows t)) a ≡ answerIf c (closedEdges (rows t)) a
-      go Passed q = ap (λ (es : List Edge). roomFor (length es) a) (scanned q)
+      go : (c : Checked) → v ≡ c → answerIf c es a ≡ answerIf c (closedEdges (rows t)) a
+      go Passed q = ap (λ (xs : List Edge). roomFor (length xs) a) (scanned q)
       go (Refused why) q = refl
 
   -- a list that holds a column of what the scan finds holds that of the closed edges
-  column-closed : (f : Edge → ℕ) (room : ℕ)
-      → heldFor 0 (crossingsAnswer surface.Closed s t a b) room (map f (edgesOn surface.Closed (rows t)))
-      ≡ heldFor 0 (closedAnswer s t a b) room (map f (closedEdges (rows t)))
-  unfolding crossingsAnswer answerIf heldFor
-  column-closed f room =
-      go (checkedFor s t a b) refl
-      ∙ ap (λ (l : Listed). heldFor 0 l room (map f (closedEdges (rows t)))) closed-answer
+  pub column-closed : (f : Edge → ℕ) (room : ℕ) → heldFor 0 (answerIf v es a) room (map f es) ≡ heldFor 0 (closedAnswer v t a) room (map f (closedEdges (rows t)))
+  unfolding answerIf heldFor
+  column-closed f room = go v refl ∙ ap (λ (l : Listed). heldFor 0 l room (map f (closedEdges (rows t)))) closed-answer
     where
-      go : (c : Checked) → checkedFor s t a b ≡ c →
-          heldFor 0 (answerIf c (edgesOn surface.Closed (rows t)) a) room (map f (edgesOn surface.Closed (rows t)))
-          ≡ heldFor 0 (answerIf c (edgesOn surface.Closed (rows t)) a) room (map f (closedEdges (rows t)))
-      go Passed q = ap (λ (es : List Edge). heldFor 0 (roomFor (length (edgesOn surface.Closed (rows t))) a) room (map f es)) (scanned q)
+      go : (c : Checked) → v ≡ c → heldFor 0 (answerIf c es a) room (map f es) ≡ heldFor 0 (answerIf c es a) room (map f (closedEdges (rows t)))
+      go Passed q = ap (λ (xs : List Edge). heldFor 0 (roomFor (length es) a) room (map f xs)) (scanned q)
       go (Refused why) q = refl
 
-  pub firsts-closed : firstsOn surface.Closed s t a b ≡ heldFor 0 (closedAnswer s t a b) a (firsts (closedEdges (rows t)))
-  firsts-closed = column-closed (λ (e : Edge). e .first) a
+  module _ (e : Listed) (answer : e ≡ answerIf v es a) where
+    -- a list that holds such a column, by the answer
+    pub held-closed : (f : Edge → ℕ) (room : ℕ) (l : List ℕ) → l ≡ heldFor 0 e room (map f es) → l ≡ heldFor 0 (closedAnswer v t a) room (map f (closedEdges (rows t)))
+    held-closed f room l h = h ∙ ap (λ (x : Listed). heldFor 0 x room (map f es)) answer ∙ column-closed f room
 
-  pub seconds-closed : secondsOn surface.Closed s t a b ≡ heldFor 0 (closedAnswer s t a b) b (seconds (closedEdges (rows t)))
-  seconds-closed = column-closed (λ (e : Edge). e .second) b
-
-  -- the two lists hold the closed edges of an accepted table
-  pub own-listed : (e : Listed) (f' s' : List ℕ)
-      → e ≡ crossingsAnswer surface.Closed s t a b
-      → f' ≡ firstsOn surface.Closed s t a b
-      → s' ≡ secondsOn surface.Closed s t a b
-      → OwnIf e ks ds ws cnt f' s'
-  unfolding crossingsAnswer padded
-  own-listed e f' s' q p r n h =
-      let es = edgesOn surface.Closed (rows t) in
-      let c = answered-on s t a b surface.Closed n (sym q ∙ h) in
-      let pass = c .0 in
-      let acc = accepted s ks ds ws cnt a b pass in
-      let fits = counted-only (checkedFor s t a b) es a n (sym q ∙ h) .2 in
-      let outputs = with-passed (outputsOk a b) s t pass .0 in
-      let fd : f' ≡ padded 0 a (firsts es) = p ∙ c .2 in
-      let sd : s' ≡ padded 0 b (seconds es) = r ∙ c .3 in
-      let fl : length f' ≡ a = ap length fd ∙ padded-length 0 a (firsts es) (omega (arith, length-map es (λ (x : Edge). x .first))) in
-      let sl : length s' ≡ b = ap length sd ∙ padded-length 0 b (seconds es) (omega (arith, length-map es (λ (x : Edge). x .second), acc .1)) in
-      record {
-        accepted = acc .0;
-        pairs =
-            rw (fl, sl, c .1)
-            (and-eq (and-first (eqb a b) _ outputs) (and-eq (and-second (eqb a b) _ outputs) (le-leb (length es) a fits)));
-        edges =
-            rw (fd, sd, c .1) (edges-back es (replicate (a - length (firsts es)) 0) (replicate (b - length (seconds es)) 0)) ∙ scanned pass;
-      }
+    -- the two lists hold the closed edges of an accepted table
+    pub own-listed : (f' s' : List ℕ) → f' ≡ heldFor 0 e a (firsts es) → s' ≡ heldFor 0 e b (seconds es) → OwnIf e ks ds ws cnt f' s'
+    unfolding heldFor padded
+    own-listed f' s' p q n h =
+        let c = counted-only v es a n (sym answer ∙ h) in
+        let acc = tested (c .0) in
+        let outputs = acc .1 in
+        let fd : f' ≡ padded 0 a (firsts es) = p ∙ ap (λ (x : Listed). heldFor 0 x a (firsts es)) h in
+        let sd : s' ≡ padded 0 b (seconds es) = q ∙ ap (λ (x : Listed). heldFor 0 x b (seconds es)) h in
+        let fl : length f' ≡ a = ap length fd ∙ padded-length 0 a (firsts es) (omega (arith, length-map es (λ (x : Edge). x .first), c .2)) in
+        let sl : length s' ≡ b =
+        ap length sd ∙ padded-length 0 b (seconds es) (omega (arith, length-map es (λ (x : Edge). x .second), outputs-same a b outputs, c .2)) in
+        record {
+          accepted = acc .0;
+          pairs =
+              rw (fl, sl, c .1)
+              (and-eq (and-first (eqb a b) _ outputs) (and-eq (and-second (eqb a b) _ outputs) (le-leb (length es) a (c .2))));
+          edges =
+              rw (fd, sd, c .1) (edges-back es (replicate (a - length (firsts es)) 0) (replicate (b - length (seconds es)) 0)) ∙ scanned (c .0);
+        }
 
 -- ---- triangles that were put from the front
 
@@ -157,16 +146,16 @@ refused-cut e rs x y z why q =
 
 -- ---- the whole call
 
-pub cut-answered : (s : Settings) (t : Table) (a b x y z : ℕ) (e r : Listed)
-    → e ≡ closedAnswer s t a b
+pub cut-answered : (v : Checked) (t : Table) (a x y z : ℕ) (e r : Listed)
+    → e ≡ closedAnswer v t a
     → r ≡ cutAnswer e (closedTriangles (rows t)) x y z
-    → r ≡ trianglesAnswer s t a b x y z
+    → r ≡ trianglesAnswer v t a x y z
 unfolding trianglesAnswer
-cut-answered s t a b x y z e r p q = q ∙ ap (λ (l : Listed). cutAnswer l (closedTriangles (rows t)) x y z) p
+cut-answered v t a x y z e r p q = q ∙ ap (λ (l : Listed). cutAnswer l (closedTriangles (rows t)) x y z) p
 
 pub cleared-to : (r a : Listed) → r ≡ a → (n : ℕ) → n ≡ countOf r
     → (l l' : List ℕ) (room : ℕ) (xs : List ℕ)
     → l' ≡ clearedFrom 0 n l
     → clearedFrom 0 (countOf r) l ≡ heldFor 0 r room xs
     → l' ≡ heldFor 0 a room xs
-cleared-to r a e n c l l' room xs w h = w ∙ ap (λ (k : ℕ). clearedFrom 0 k l) c ∙ h ∙ ap (λ (x : Listed). heldFor 0 x room xs) e
+cleared-to r a e n c l l' room xs w h = cleared-held r n c l l' room xs w h ∙ ap (λ (x : Listed). heldFor 0 x room xs) e

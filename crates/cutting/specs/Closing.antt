@@ -11,17 +11,17 @@ use Rattle.lists.specs.declared.Listed.{Listed}
 use Rattle.lists.specs.declared.Listed.the-variants as listed
 use Rattle.refusals.specs.declared.Refusal.the-variants.{Lengths}
 use Rattle.table.specs.Table.{Table, rows}
-use Rattle.table.specs.declared.Settings.{Settings}
+use Rattle.table.specs.declared.Checked.{Checked}
 use Rattle.edges.specs.Edges.{edges}
-use Rattle.edges.specs.Listing.{firsts, seconds, checkedFor, answerIf}
+use Rattle.edges.specs.Listing.{firsts, seconds, answerIf}
 use Rattle.tetrahedra.specs.ClosedEdges.{crossesIn, closedEdges}
 use Rattle.tetrahedra.specs.ClosedTriangles.{closedTriangles}
 use Rattle.cutting.specs.declared.ClosedListed.{ClosedListed}
 
--- the answer to the edges: 1, 2, 3, then 6 exactly when they would outgrow their lists
-unfoldable pub closedAnswer : Settings → Table → ℕ → ℕ → Listed
+-- the answer to the edges by the verdict of the tests: what they refuse, then 6 exactly when they would outgrow their lists
+unfoldable pub closedAnswer : Checked → Table → ℕ → Listed
 unfolding answerIf edges crossesIn
-closedAnswer s t a b = answerIf (checkedFor s t a b) (closedEdges (rows t)) a
+closedAnswer v t a = answerIf v (closedEdges (rows t)) a
 
 -- three lists of equal length, at most 1,048,576
 abbrev pub threeOk : ℕ → ℕ → ℕ → Bool
@@ -32,16 +32,16 @@ abbrev pub cutAnswer : Listed → List (Three ℕ) → ℕ → ℕ → ℕ → L
 cutAnswer (listed.Count n) ts x y z = cond (threeOk x y z) (roomFor (length ts) x) (listed.Refused Lengths)
 cutAnswer (listed.Refused why) ts x y z = listed.Refused why
 
-unfoldable pub trianglesAnswer : Settings → Table → ℕ → ℕ → ℕ → ℕ → ℕ → Listed
+unfoldable pub trianglesAnswer : Checked → Table → ℕ → ℕ → ℕ → ℕ → Listed
 unfolding closedAnswer closedTriangles
-trianglesAnswer s t a b x y z = cutAnswer (closedAnswer s t a b) (closedTriangles (rows t)) x y z
+trianglesAnswer v t a x y z = cutAnswer (closedAnswer v t a) (closedTriangles (rows t)) x y z
 
 -- the answers, and what each of the five lists holds
-pub record IsClosed (s : Settings) (t : Table) (a b x y z : ℕ) (r : ClosedListed) (as' bs is js ks : List ℕ) : Type 0 where
-  pub edges : r .edges ≡ closedAnswer s t a b
-  pub first : as' ≡ heldFor 0 (closedAnswer s t a b) a (firsts (closedEdges (rows t)))
-  pub second : bs ≡ heldFor 0 (closedAnswer s t a b) b (seconds (closedEdges (rows t)))
-  pub triangles : r .triangles ≡ trianglesAnswer s t a b x y z
-  pub t0 : is ≡ heldFor 0 (trianglesAnswer s t a b x y z) x (column0 (closedTriangles (rows t)))
-  pub t1 : js ≡ heldFor 0 (trianglesAnswer s t a b x y z) y (column1 (closedTriangles (rows t)))
-  pub t2 : ks ≡ heldFor 0 (trianglesAnswer s t a b x y z) z (column2 (closedTriangles (rows t)))
+pub record IsClosed (v : Checked) (t : Table) (a b x y z : ℕ) (r : ClosedListed) (as' bs is js ks : List ℕ) : Type 0 where
+  pub edges : r .edges ≡ closedAnswer v t a
+  pub first : as' ≡ heldFor 0 (closedAnswer v t a) a (firsts (closedEdges (rows t)))
+  pub second : bs ≡ heldFor 0 (closedAnswer v t a) b (seconds (closedEdges (rows t)))
+  pub triangles : r .triangles ≡ trianglesAnswer v t a x y z
+  pub t0 : is ≡ heldFor 0 (trianglesAnswer v t a x y z) x (column0 (closedTriangles (rows t)))
+  pub t1 : js ≡ heldFor 0 (trianglesAnswer v t a x y z) y (column1 (closedTriangles (rows t)))
+  pub t2 : ks ≡ heldFor 0 (trianglesAnswer v t a x y z) z (column2 (closedTriangles (rows t)))

@@ -7,7 +7,7 @@ use edges::Surface;
 use lists::LONGEST_LIST;
 use lists::Listed;
 use refusals::Refusal;
-use table::Settings;
+use table::Checked;
 ghost use mathlib.Core.Path.{_≡_};
 ghost use Prim.Native.Nat.{_+_, _≤_, _<_};
 ghost use mathlib.Core.Bool.{true};
@@ -17,7 +17,7 @@ ghost use Rattle.lists.specs.declared.Listed.the-variants.{Count};
 ghost use Rattle.lists.specs.Threes.{three, threes, withTwo, withThird};
 ghost use Rattle.neighbors.specs.Neighbors.{adjacent};
 ghost use Rattle.table.specs.Table.{table, rowsOf};
-ghost use Rattle.edges.specs.Steps.{Accepted, rowAt};
+ghost use Rattle.edges.specs.Steps.{Accepted, Tested, rowAt};
 ghost use Rattle.groups.specs.CellEdges.{edgesIn};
 ghost use Rattle.tetrahedra.specs.ClosedEdges.{closedEdges};
 ghost use Rattle.tetrahedra.specs.ClosedTriangles.{closedTriangles};
@@ -492,9 +492,10 @@ fn cut_checked(
     }
 }
 
-// The closed mesh's edges in two lists and its triangles in three: 1, 2, 3, then 6 exactly when one would outgrow its own lists.
+// The closed mesh's edges in two lists and its triangles in three, by the verdict of the tests: what they refuse stays refused, then 6 exactly
+// when one would outgrow its own lists.
 pub fn list_closed(
-    settings: Settings,
+    verdict: Checked,
     keys: &[u64],
     distances: &[f32],
     weights: &[f32],
@@ -505,13 +506,14 @@ pub fn list_closed(
     t1: &mut [u32],
     t2: &mut [u32],
 ) -> ClosedListed
-    ensures { λ r. ⌜ IsClosed settings (table (now (keys .entry)) (now (distances .entry)) (now (weights .entry)) count) (length (now (first .entry)))
+    requires { ⌜ Tested verdict (now keys) (now distances) (now weights) count (length (now first)) (length (now second)) ⌝ }
+    ensures { λ r. ⌜ IsClosed verdict (table (now (keys .entry)) (now (distances .entry)) (now (weights .entry)) count) (length (now (first .entry)))
         (length (now (second .entry))) (length (now (t0 .entry))) (length (now (t1 .entry))) (length (now (t2 .entry)))
         r (now (first .exit)) (now (second .exit)) (now (t0 .exit)) (now (t1 .exit)) (now (t2 .exit)) ⌝ }
 {
-    let edges = edges::list_crossings(
+    let edges = edges::list_tested(
         Surface::Closed,
-        settings,
+        verdict,
         keys,
         distances,
         weights,

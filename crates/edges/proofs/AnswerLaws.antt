@@ -3,6 +3,7 @@
 use Prim.Native.Nat.{ℕ}
 use native.Mathlib.Omega.{arith}
 use mathlib.Core.Path.{_≡_, sym, ap, _∙_}
+use mathlib.Core.Bool.{true}
 use mathlib.Core.List.{List}
 use lib.Dec.{eqb}
 use lib.Ieee.{Float}
@@ -28,15 +29,19 @@ use Rattle.edges.specs.Steps.{Accepted, Wrote}
 
 -- ---- what the tests tell
 
-module _ (s : Settings) (ks : List ℕ) (ds ws : List Float) (n a b : ℕ) where
-  pub accepted : checkedFor s (table ks ds ws n) a b ≡ Passed → Accepted ks ds ws n × (b ≡ a)
-  accepted e =
-      let p = with-passed (outputsOk a b) s (table ks ds ws n) e in
-      let k = sound s (table ks ds ws n) (p .1) in
-      let l = lengths-known (length ks) (length ds) (length ws) n (k .lengths) in (
-        record { fits = l .0; distances = l .1; weights = l .2; few = l .3; rising = k .order },
-        sym (eqb-true a b (and-first (eqb a b) _ (p .0))),
-      )
+-- two lists that fit are equally long
+pub outputs-same : (a b : ℕ) → outputsOk a b ≡ true → b ≡ a
+outputs-same a b p = sym (eqb-true a b (and-first (eqb a b) _ p))
+
+pub accepted :
+    (s : Settings) (ks : List ℕ) (ds ws : List Float) (n a b : ℕ)
+    → checkedFor s (table ks ds ws n) a b ≡ Passed
+    → Accepted ks ds ws n × (outputsOk a b ≡ true)
+accepted s ks ds ws n a b e =
+    let p = with-passed (outputsOk a b) s (table ks ds ws n) e in
+    let k = sound s (table ks ds ws n) (p .1) in
+    let l = lengths-known (length ks) (length ds) (length ws) n (k .lengths) in
+    (record { fits = l .0; distances = l .1; weights = l .2; few = l .3; rising = k .order }, p .0)
 
 -- ---- what the lists hold
 
@@ -58,18 +63,22 @@ module _ (es : List Edge) (first second : List ℕ) (n : ℕ) (first' second' : 
   pub seconds-held : length second ≡ length first → clearedFrom 0 (countOf r) second' ≡ heldFor 0 r (length second) (seconds es)
   seconds-held h = rw (e, ← h) (written-held 0 second (seconds es) n second' (counted ∙ sym (length-map es (λ (x : Edge). x .second))) (w .others))
 
--- the whole call: the verdict v, the answer r and how many it says
+-- the places past a count are cleared
+pub cleared-held :
+    (r : Listed) (n : ℕ)
+    → n ≡ countOf r
+    → (l l' : List ℕ) (room : ℕ) (xs : List ℕ)
+    → l' ≡ clearedFrom 0 n l
+    → clearedFrom 0 (countOf r) l ≡ heldFor 0 r room xs
+    → l' ≡ heldFor 0 r room xs
+cleared-held r n c l l' room xs w h = w ∙ ap (λ (k : ℕ). clearedFrom 0 k l) c ∙ h
+
+-- the whole call: the verdict v and the answer r
 module _ (o : Surface) (s : Settings) (t : Table) (a b : ℕ) (v : Checked) (verdict : v ≡ checkedFor s t a b) (r : Listed)
     (answer : r ≡ answerIf v (edgesOn o (rows t)) a) where
   pub answered : r ≡ crossingsAnswer o s t a b
   unfolding crossingsAnswer
   answered = answer ∙ ap (λ (c : Checked). answerIf c (edgesOn o (rows t)) a) verdict
 
-  pub cleared-to :
-      (n : ℕ)
-      → n ≡ countOf r
-      → (l l' : List ℕ) (room : ℕ) (xs : List ℕ)
-      → l' ≡ clearedFrom 0 n l
-      → clearedFrom 0 (countOf r) l ≡ heldFor 0 r room xs
-      → l' ≡ heldFor 0 (crossingsAnswer o s t a b) room xs
-  cleared-to n c l l' room xs w h = w ∙ ap (λ (k : ℕ). clearedFrom 0 k l) c ∙ h ∙ ap (λ (x : Listed). heldFor 0 x room xs) answered
+  pub held-by : (l : List ℕ) (room : ℕ) (xs : List ℕ) → l ≡ heldFor 0 r room xs → l ≡ heldFor 0 (crossingsAnswer o s t a b) room xs
+  held-by l room xs h = h ∙ ap (λ (x : Listed). heldFor 0 x room xs) answered

@@ -9,7 +9,9 @@ use lib.Seq.{sets}
 use Rattle.search.specs.Keys.{ascending}
 use Rattle.table.specs.Table.{Row, row}
 use Rattle.edges.specs.Edges.{Edge}
-use Rattle.edges.specs.Listing.{firsts, seconds}
+use Rattle.table.specs.declared.Checked.{Checked}
+use Rattle.table.specs.declared.Checked.the-variants.{Passed}
+use Rattle.edges.specs.Listing.{firsts, seconds, outputsOk}
 
 -- a table that refusals 1 to 3 let pass, as far as edges need it
 pub record Accepted (ks : List ℕ) (ds ws : List Float) (n : ℕ) : Type 0 where
@@ -18,6 +20,10 @@ pub record Accepted (ks : List ℕ) (ds ws : List Float) (n : ℕ) : Type 0 wher
   pub weights : length ws ≡ length ks
   pub few : length ks ≤ 65536
   pub rising : ascending (take n ks) ≡ true
+
+-- what a verdict that passed tells of a table, and of two lists of lengths a and b
+abbrev pub Tested : Checked → List ℕ → List Float → List Float → ℕ → ℕ → ℕ → Type 0
+Tested v ks ds ws n a b = v ≡ Passed → Accepted ks ds ws n × (outputsOk a b ≡ true)
 
 -- the row at a place
 abbrev pub rowAt : List ℕ → List Float → List Float → ℕ → Row

@@ -17,8 +17,8 @@ ghost use Rattle.rings.specs.Rings.{crossesScan};
 ghost use Rattle.edges.specs.Edges.{listed, edgesOf};
 ghost use Rattle.edges.specs.ZeroCrossing.{crossing};
 ghost use Rattle.edges.specs.Surfaces.{crossesOn, edgesOn};
-ghost use Rattle.edges.specs.Listing.{firsts, seconds, outputsOk, checkedFor, answerIf, crossingsAnswer, firstsOn, secondsOn, edgesAnswer, firstsHeld, secondsHeld};
-ghost use Rattle.edges.specs.Steps.{Accepted, rowAt, Wrote};
+ghost use Rattle.edges.specs.Listing.{firsts, seconds, outputsOk, checkedFor, answerIf, edgesAnswer, firstsHeld, secondsHeld};
+ghost use Rattle.edges.specs.Steps.{Accepted, Tested, rowAt, Wrote};
 
 // Which surface is asked for: document 01's, whose edges are the zero crossings; or the one that closes (document 02, No. 14), whose edges are the
 // crossed edges of tetrahedra.
@@ -243,7 +243,7 @@ fn list_checked(
     first: &mut [u64],
     second: &mut [u64],
 ) -> Listed
-    requires { ⌜ (verdict ≡ Checked.Passed → Accepted (now keys) (now distances) (now weights) count × (length (now second) ≡ length (now first))) ⌝ }
+    requires { ⌜ Tested verdict (now keys) (now distances) (now weights) count (length (now first)) (length (now second)) ⌝ }
     ensures { λ r. ⌜ r ≡ answerIf verdict
         (edgesOn surface (rowsOf (now (keys .entry)) (now (distances .entry)) (now (weights .entry)) count))
         (length (now (first .entry))) ⌝ }
@@ -263,10 +263,10 @@ fn list_checked(
     lists::room_for(n, first.len())
 }
 
-// The edges of a surface of a table, in two lists.
-pub fn list_crossings(
+// The edges of a surface in two lists, by the verdict of the tests: what they refuse stays refused.
+pub fn list_tested(
     surface: Surface,
-    settings: Settings,
+    verdict: Checked,
     keys: &[u64],
     distances: &[f32],
     weights: &[f32],
@@ -274,25 +274,17 @@ pub fn list_crossings(
     first: &mut [u64],
     second: &mut [u64],
 ) -> Listed
-    ensures { λ r. ⌜ r ≡ crossingsAnswer surface settings
-        (table (now (keys .entry)) (now (distances .entry)) (now (weights .entry)) count) (length (now (first .entry)))
-        (length (now (second .entry))) ⌝ }
-    ensures { λ _. ⌜ now (first .exit) ≡ firstsOn surface settings
-        (table (now (keys .entry)) (now (distances .entry)) (now (weights .entry)) count) (length (now (first .entry)))
-        (length (now (second .entry))) ⌝ }
-    ensures { λ _. ⌜ now (second .exit) ≡ secondsOn surface settings
-        (table (now (keys .entry)) (now (distances .entry)) (now (weights .entry)) count) (length (now (first .entry)))
-        (length (now (second .entry))) ⌝ }
+    requires { ⌜ Tested verdict (now keys) (now distances) (now weights) count (length (now first)) (length (now second)) ⌝ }
+    ensures { λ r. ⌜ r ≡ answerIf verdict
+        (edgesOn surface (rowsOf (now (keys .entry)) (now (distances .entry)) (now (weights .entry)) count))
+        (length (now (first .entry))) ⌝ }
+    ensures { λ r. ⌜ now (first .exit) ≡ heldFor 0 r (length (now (first .entry)))
+        (firsts (edgesOn surface
+        (rowsOf (now (keys .entry)) (now (distances .entry)) (now (weights .entry)) count))) ⌝ }
+    ensures { λ r. ⌜ now (second .exit) ≡ heldFor 0 r (length (now (second .entry)))
+        (seconds (edgesOn surface
+        (rowsOf (now (keys .entry)) (now (distances .entry)) (now (weights .entry)) count))) ⌝ }
 {
-    let verdict = check(
-        settings,
-        keys,
-        distances,
-        weights,
-        count,
-        first.len(),
-        second.len(),
-    );
     let listed = list_checked(
         surface,
         verdict,
@@ -329,9 +321,18 @@ pub fn get_zero_crossing_edges(
         (table (now (keys .entry)) (now (distances .entry)) (now (weights .entry)) count) (length (now (first .entry)))
         (length (now (second .entry))) ⌝ }
 {
-    list_crossings(
-        Surface::Open,
+    let verdict = check(
         settings,
+        keys,
+        distances,
+        weights,
+        count,
+        first.len(),
+        second.len(),
+    );
+    list_tested(
+        Surface::Open,
+        verdict,
         keys,
         distances,
         weights,

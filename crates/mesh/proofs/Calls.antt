@@ -39,8 +39,8 @@ use Rattle.mesh.specs.declared.Rooms.{Rooms}
 use Rattle.mesh.specs.declared.Meshed.{Meshed}
 use Rattle.mesh.specs.declared.Meshed.the-variants.{Done, Refused}
 use Rattle.mesh.specs.Mesh.{surfaceEdges, groupsOn, trianglesOn, edgesOf, groupsOf, trianglesOf, roomsOk, meshCheck, haveRoomOn, haveRoom, meshedOn, meshAnswerOn, meshAnswer, heldIn}
-use Rattle.mesh.proofs.OpenLaws.{rise, pairs}
-use Rattle.mesh.proofs.MeshLaws.{fit}
+use Rattle.mesh.proofs.OpenLaws.{pairs}
+use Rattle.mesh.proofs.MeshLaws.{passing, rise, rest-ok, fit}
 
 never : (why : Refusal) (i j : ℕ) → Refused why ≡ Done i j → ⊥
 never why i j e = let z : _≡_ {A = ℕ} 0 1 = cc in omega arith
@@ -164,14 +164,14 @@ module _ (s : Settings) (ks : List ℕ) (ds ws : List Float) (cnt : ℕ) (r : Ro
 
     -- The edges and the triangles are those of demand 3, and the counts are theirs; each edge has two places in the groups.
     pub mesh-edges : IsEdgeList neighbours adjacent crossesZero (rows t) es × (i ≡ length es)
-    mesh-edges = (demand-3-edges (rows t) (rise s ks ds ws cnt (r .first) (r .second) _ (fit Open s ks ds ws cnt r (known .0))), known .2)
+    mesh-edges = (demand-3-edges (rows t) (rise Open s ks ds ws cnt r (known .0)), known .2)
 
     pub mesh-triangles : IsTriangleList es (trianglesOf t) × (j ≡ length (trianglesOf t))
-    mesh-triangles = (zero-crossing-triangles (rows t) (rise s ks ds ws cnt (r .first) (r .second) _ (fit Open s ks ds ws cnt r (known .0))), known .3)
+    mesh-triangles = (zero-crossing-triangles (rows t) (rise Open s ks ds ws cnt r (known .0)), known .3)
 
     pub mesh-groups : length (groupsOf t) ≡ i + i
     mesh-groups =
-        let up = rise s ks ds ws cnt (r .first) (r .second) _ (fit Open s ks ds ws cnt r (known .0)) in
+        let up = rise Open s ks ds ws cnt r (known .0) in
         let n = groups-room neighbours adjacent crossesZero (rows t) es up (demand-3-edges (rows t) up) in
         omega (arith, known .2)
 
@@ -183,7 +183,7 @@ module _ (s : Settings) (ks : List ℕ) (ds ws : List Float) (cnt : ℕ) (r : Ro
     unfolding heldIn padded
     mesh-hands-group cell on =
         let pass = known .0 in
-        let up = rise s ks ds ws cnt (r .first) (r .second) _ (fit Open s ks ds ws cnt r pass) in
+        let up = rise Open s ks ds ws cnt r pass in
         let room = known .1 in
         let fits = leb-true (length es) (r .first) (and-first (leb (length es) (r .first)) _ room) in
         let enough =
@@ -193,8 +193,8 @@ module _ (s : Settings) (ks : List ℕ) (ds ws : List Float) (cnt : ℕ) (r : Ro
         let long : length (groupsOf t ++ replicate (r .groups - length (groupsOf t)) 0) ≡ r .groups = padded-length 0 (r .groups) (groupsOf t) enough in
         let taken =
         and-eq (ap (λ (n : ℕ). leb n 1048576) long
-        ∙ and-first (leb (r .groups) 1048576) _ (fit Open s ks ds ws cnt r pass .rest))
-        (pairs s ks ds ws cnt (r .first) (r .second) _ (fit Open s ks ds ws cnt r pass) fits) in
+        ∙ and-first (leb (r .groups) 1048576) _ (rest-ok Open s ks ds ws cnt r pass))
+        (pairs Passed ks ds ws cnt (r .first) (r .second) (λ p. passing Open s ks ds ws cnt r pass) _ (fit Open s ks ds ws cnt r pass Passed refl) fits) in
         ap (λ (a : Meshed). cellEdges (heldIn 0 a (r .groups) (groupsOf t)) (heldIn 0 a (r .first) (firsts es)) (heldIn 0 a (r .second) (seconds es)) i cell) e
         ∙ ap (λ (n : ℕ).
         cellEdges (groupsOf t ++ replicate (r .groups - length (groupsOf t)) 0)

@@ -39,8 +39,7 @@ use Rattle.mesh.specs.declared.Rooms.{Rooms}
 use Rattle.mesh.specs.declared.Meshed.{Meshed}
 use Rattle.mesh.specs.declared.Meshed.the-variants.{Done, Refused}
 use Rattle.mesh.specs.Mesh.{meshCheck, meshedOn, meshAnswerOn, heldIn, IsClosedMesh}
-use Rattle.mesh.proofs.OpenLaws.{rise, few}
-use Rattle.mesh.proofs.MeshLaws.{fit}
+use Rattle.mesh.proofs.MeshLaws.{rise, few-rows}
 use Rattle.mesh.proofs.Calls.{done-on, refused-for-room-on}
 
 module _ (s : Settings) (ks : List ℕ) (ds ws : List Float) (cnt : ℕ) (r : Rooms) where
@@ -66,10 +65,10 @@ module _ (s : Settings) (ks : List ℕ) (ds ws : List Float) (cnt : ℕ) (r : Ro
 
   module _ (pass : meshCheck s t r ≡ Passed) where
     up : ascending (keysOf (rows t)) ≡ true
-    up = rise s ks ds ws cnt (r .first) (r .second) _ (fit Closed s ks ds ws cnt r pass)
+    up = rise Closed s ks ds ws cnt r pass
 
     most : length (rows t) ≤ 65536
-    most = few s ks ds ws cnt (r .first) (r .second) _ (fit Closed s ks ds ws cnt r pass)
+    most = few-rows Closed s ks ds ws cnt r pass
 
     -- Lists of 458,752 places for edges and vertices and of 786,432 for triangles always suffice.
     pub closed-room-enough : 458752 ≤ r .first → 458752 ≤ r .px → 786432 ≤ r .t0 → meshAnswerOn Closed s t r ≡ Done (length es) (length ts)

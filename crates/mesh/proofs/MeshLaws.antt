@@ -9,7 +9,7 @@ use mathlib.Core.Bool.{Bool, true, false, cond, _&&_}
 use mathlib.Core.List.{List, map, append-nil}
 use lib.Dec.{eqb, leb}
 use lib.Ieee.{Float}
-use lib.ListN.{length, take, replicate, length-map}
+use lib.ListN.{length, take, replicate, length-map, length-take}
 use lib.Seq.{sets, length-sets, take-all}
 use borrow.Author.Tests.{le-leb, leb-true, eqb-true}
 use Rattle.floats.specs.Floats.{zero32}
@@ -23,16 +23,19 @@ use Rattle.lists.proofs.PaddingLaws.{padded-front}
 use Rattle.lists.proofs.Writing.{sets-front, cleared-whole}
 use Rattle.refusals.specs.declared.Refusal.{Refusal}
 use Rattle.refusals.specs.declared.Refusal.the-variants.{NoPlace}
-use Rattle.table.specs.Table.{Table, table, rows, settingsOk, tableCheck}
+use Rattle.search.specs.Keys.{ascending}
+use Rattle.table.specs.Table.{Table, table, beside, rows, settingsOk, tableCheck}
+use Rattle.table.specs.Rows.{keysOf}
 use Rattle.table.specs.declared.Settings.{Settings}
 use Rattle.table.specs.declared.Checked.{Checked}
 use Rattle.table.specs.declared.Checked.the-variants.{Passed, Refused as Rejected}
 use Rattle.table.proofs.Checking.{sound, with-passed, with-fit}
 use Rattle.edges.specs.Edges.{Edge}
-use Rattle.edges.specs.Listing.{firsts, seconds, outputsOk, checkedFor, answerIf}
+use Rattle.edges.specs.Listing.{firsts, seconds, outputsOk, answerIf}
 use Rattle.edges.specs.Steps.{Accepted}
 use Rattle.edges.specs.declared.Surface.{Surface}
-use Rattle.edges.proofs.AnswerLaws.{accepted}
+use Rattle.edges.proofs.AnswerLaws.{accepted, outputs-same}
+use Rattle.edges.proofs.ListingLaws.{rows-rise}
 use Rattle.edges.proofs.Calls.{counted-only}
 use Rattle.slopes.specs.declared.Vertex.{Vertex}
 use Rattle.slopes.specs.declared.Normal.{Normal}
@@ -126,11 +129,18 @@ module _ (o : Surface) (s : Settings) (ks : List ℕ) (ds ws : List Float) (cnt 
     outputs : outputsOk (r .first) (r .second) ≡ true
     outputs = and-first (outputsOk (r .first) (r .second)) _ (tests .1)
 
-    edges-pass : checkedFor s own (r .first) (r .second) ≡ Passed
-    edges-pass = with-fit (outputsOk (r .first) (r .second)) s own outputs ∙ tests .2
+    pub passing : Accepted ks ds ws cnt × (outputsOk (r .first) (r .second) ≡ true)
+    passing =
+        accepted s ks ds ws cnt (r .first) (r .second) (with-fit (outputsOk (r .first) (r .second)) s own outputs ∙ tests .2)
 
-    acc : Accepted ks ds ws cnt × (r .second ≡ r .first)
-    acc = accepted s ks ds ws cnt (r .first) (r .second) edges-pass
+    pub acc : Accepted ks ds ws cnt × (r .second ≡ r .first)
+    acc = (passing .0, outputs-same (r .first) (r .second) (passing .1))
+
+    pub rise : ascending (keysOf (rows own)) ≡ true
+    rise = rows-rise ks ds ws cnt (acc .0)
+
+    pub few-rows : length (rows own) ≤ 65536
+    few-rows = omega (arith, length-take cnt (beside ks ds ws), acc .0 .fits, acc .0 .few)
 
     -- the vertices' lists are equally long
     six : ((r .py ≡ r .px) × (r .pz ≡ r .px)) × ((r .nx ≡ r .px) × (r .ny ≡ r .px) × (r .nz ≡ r .px))
@@ -151,15 +161,15 @@ module _ (o : Surface) (s : Settings) (ks : List ℕ) (ds ws : List Float) (cnt 
           ),
         )
 
-    rest-ok : leb (r .groups) 1048576 && ((eqb (r .t0) (r .t1) && eqb (r .t0) (r .t2)) && leb (r .t0) 1048576) ≡ true
+    pub rest-ok : leb (r .groups) 1048576 && ((eqb (r .t0) (r .t1) && eqb (r .t0) (r .t2)) && leb (r .t0) 1048576) ≡ true
     rest-ok =
         and-second
         (((eqb (r .px) (r .py) && eqb (r .px) (r .pz)) &&
         (eqb (r .px) (r .nx) && (eqb (r .px) (r .ny) && eqb (r .px) (r .nz)))) && leb (r .px) 1048576) _
         (and-second (outputsOk (r .first) (r .second)) _ (tests .1))
 
-    pub fit : Fit s own (r .first) (r .second) (lent r)
-    fit = record { edges = edges-pass; rest = rest-ok }
+    pub fit : (v : Checked) → v ≡ Passed → Fit v (lent r)
+    fit v told = record { passed = told; rest = rest-ok }
 
     -- ---- where the edges have room
 
@@ -192,7 +202,7 @@ module _ (o : Surface) (s : Settings) (ks : List ℕ) (ds ws : List Float) (cnt 
 
 pub record Run (o : Surface) (s : Settings) (t : Table) (r : Rooms) (v : Checked) (d : Drawn) (n : ℕ) (a : Meshed) (f' s' g' x' y' z' : List ℕ) : Type 0 where
   pub tested : v ≡ meshCheck s t r
-  pub drawn : Fit s t (r .first) (r .second) (lent r) → Drawing o t (r .first) (r .second) (lent r) d f' s' g' x' y' z'
+  pub drawn : Fit v (lent r) → Drawing o t (r .first) (r .second) (lent r) d f' s' g' x' y' z'
   pub count : n ≡ countOf (d .edges)
   pub answered : a ≡ answerFor v (d .edges) (r .px) (d .built)
 
@@ -207,7 +217,7 @@ module _ {o : Surface} {s : Settings} {ks : List ℕ} {ds ws : List Float} {cnt 
   -- where the tests pass and the edges have room
   module _ (pass : meshCheck s t r ≡ Passed) where
     drawing : Drawing o t (r .first) (r .second) (lent r) d f' s' g' x' y' z'
-    drawing = run .drawn (fit o s ks ds ws cnt r pass)
+    drawing = run .drawn (fit o s ks ds ws cnt r pass v (run .tested ∙ pass))
 
     module _ (fits : length es ≤ r .first) where
       e-count : d .edges ≡ listed.Count (length es)

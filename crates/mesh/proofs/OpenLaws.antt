@@ -20,18 +20,15 @@ use Rattle.lists.proofs.PaddingLaws.{padded-length}
 use Rattle.refusals.specs.declared.Refusal.the-variants.{Lengths}
 use Rattle.search.specs.Keys.{ascending}
 use Rattle.table.specs.Table.{Table, table, beside, rows}
-use Rattle.table.specs.declared.Settings.{Settings}
 use Rattle.table.specs.declared.Checked.{Checked}
 use Rattle.table.proofs.Laying.{columns}
 use Rattle.table.specs.Rows.{keysOf}
-use Rattle.table.proofs.Checking.{with-passed}
 use Rattle.edges.specs.Edges.{Edge}
-use Rattle.edges.specs.Listing.{firsts, seconds, outputsOk, checkedFor, answerIf, crossingsAnswer, edgesAnswer, firstsHeld, secondsHeld}
-use Rattle.edges.specs.Steps.{Accepted}
+use Rattle.edges.specs.Listing.{firsts, seconds, outputsOk, answerIf}
+use Rattle.edges.specs.Steps.{Accepted, Tested}
 use Rattle.edges.specs.declared.Surface.the-variants.{Open}
-use Rattle.edges.proofs.AnswerLaws.{accepted}
+use Rattle.edges.proofs.AnswerLaws.{outputs-same}
 use Rattle.edges.proofs.ListingLaws.{rows-rise}
-use Rattle.edges.proofs.Calls.{answered-with-edges}
 use Rattle.groups.specs.Groups.{groups}
 use Rattle.groups.specs.CellEdges.{pairsOk}
 use Rattle.triangles.specs.Triangles.{triangles}
@@ -40,7 +37,7 @@ use Rattle.triangles.proofs.Built.{groups-built, triangles-built}
 use Rattle.mesh.specs.Mesh.{edgesOf, groupsOf, trianglesOf}
 use Rattle.mesh.specs.Steps.{Fit, Drawing}
 
-module _ (s : Settings) (ks : List ℕ) (ds ws : List Float) (cnt a b : ℕ) (l : Lent) (fit : Fit s (table ks ds ws cnt) a b l) where
+module _ (v : Checked) (ks : List ℕ) (ds ws : List Float) (cnt a b : ℕ) (tested : Tested v ks ds ws cnt a b) (l : Lent) (fit : Fit v l) where
   abbrev t : Table
   t = table ks ds ws cnt
 
@@ -48,47 +45,44 @@ module _ (s : Settings) (ks : List ℕ) (ds ws : List Float) (cnt a b : ℕ) (l 
   es = edgesOf t
 
   acc : Accepted ks ds ws cnt × (b ≡ a)
-  acc = accepted s ks ds ws cnt a b (fit .edges)
+  acc = let h = tested (fit .passed) in (h .0, outputs-same a b (h .1))
 
-  pub rise : ascending (keysOf (rows t)) ≡ true
+  rise : ascending (keysOf (rows t)) ≡ true
   rise = rows-rise ks ds ws cnt (acc .0)
-
-  pub few : length (rows t) ≤ 65536
-  few = omega (arith, length-take cnt (beside ks ds ws), acc .0 .fits, acc .0 .few)
 
   keys-are : take cnt ks ≡ keysOf (rows t)
   keys-are = sym (columns ks ds ws cnt (acc .0 .distances) (acc .0 .weights) .0)
 
   outputs : outputsOk a b ≡ true
-  outputs = with-passed (outputsOk a b) s t (fit .edges) .0
+  outputs = tested (fit .passed) .1
 
-  edges-answer : edgesAnswer s t a b ≡ roomFor (length es) a
-  unfolding crossingsAnswer answerIf
-  edges-answer = ap (λ (c : Checked). answerIf c es a) (fit .edges)
+  edges-answer : answerIf v es a ≡ roomFor (length es) a
+  unfolding answerIf
+  edges-answer = ap (λ (c : Checked). answerIf c es a) (fit .passed)
 
   -- ---- where the edges have room
 
   module _ (fits : length es ≤ a) where
-    edges-count : edgesAnswer s t a (b) ≡ listed.Count (length es)
+    edges-count : answerIf v es a ≡ listed.Count (length es)
     edges-count = edges-answer ∙ rw (le-leb (length es) a fits)
 
     abbrev as' : List ℕ
     as' = padded 0 a (firsts es)
 
     abbrev bs : List ℕ
-    bs = padded 0 (b) (seconds es)
+    bs = padded 0 b (seconds es)
 
     first-long : length as' ≡ a
     first-long = padded-length 0 a (firsts es) (omega (arith, length-map es (λ (e : Edge). e .first)))
 
     second-long : length bs ≡ b
-    second-long = padded-length 0 (b) (seconds es) (omega (arith, length-map es (λ (e : Edge). e .second), acc .1))
+    second-long = padded-length 0 b (seconds es) (omega (arith, length-map es (λ (e : Edge). e .second), acc .1))
 
     pub pairs : pairsOk (length as') (length bs) (length es) ≡ true
     pairs =
         rw (first-long, second-long)
-        (and-eq (and-first (eqb a (b)) _ outputs)
-        (and-eq (and-second (eqb a (b)) _ outputs) (le-leb (length es) a fits)))
+        (and-eq (and-first (eqb a b) _ outputs)
+        (and-eq (and-second (eqb a b) _ outputs) (le-leb (length es) a fits)))
 
     abbrev src : Source
     src = source ks cnt as' bs (length es)
@@ -123,20 +117,25 @@ module _ (s : Settings) (ks : List ℕ) (ds ws : List Float) (cnt a b : ℕ) (l 
   -- ---- the calls for the edges, and for groups and triangles
 
   module _ (e : Listed) (n : ℕ) (c : Listed) (f' s' : List ℕ)
-      (edges : e ≡ edgesAnswer s t a b)
-      (f-is : f' ≡ firstsHeld s t a b)
-      (s-is : s' ≡ secondsHeld s t a b)
+      (edges : e ≡ answerIf v es a)
+      (f-is : f' ≡ heldFor 0 e a (firsts es))
+      (s-is : s' ≡ heldFor 0 e b (seconds es))
       (count : n ≡ countOf e)
       (built : c ≡ builtAnswer (source ks cnt f' s' n) l) where
     module _ (fits : length es ≤ a) where
+      e-count : e ≡ listed.Count (length es)
+      e-count = edges ∙ edges-count fits
+
       f-held : f' ≡ padded 0 a (firsts es)
-      f-held = f-is ∙ answered-with-edges s t a b (length es) (edges-count fits) .2
+      unfolding heldFor
+      f-held = f-is ∙ ap (λ (x : Listed). heldFor 0 x a (firsts es)) e-count
 
       s-held : s' ≡ padded 0 b (seconds es)
-      s-held = s-is ∙ answered-with-edges s t a b (length es) (edges-count fits) .3
+      unfolding heldFor
+      s-held = s-is ∙ ap (λ (x : Listed). heldFor 0 x b (seconds es)) e-count
 
       n-count : n ≡ length es
-      n-count = count ∙ ap countOf (edges ∙ edges-count fits)
+      n-count = count ∙ ap countOf e-count
 
       src-is : source ks cnt f' s' n ≡ src fits
       src-is = λ i. source ks cnt (f-held i) (s-held i) (n-count i)

@@ -18,10 +18,9 @@ use Rattle.lists.proofs.Bools.{and-second}
 use Rattle.lists.proofs.Writing.{cleared-whole}
 use Rattle.refusals.specs.declared.Refusal.the-variants.{Lengths}
 use Rattle.table.specs.Table.{Table, rows}
-use Rattle.table.specs.declared.Settings.{Settings}
 use Rattle.table.specs.declared.Checked.{Checked}
 use Rattle.edges.specs.Edges.{Edge}
-use Rattle.edges.specs.Listing.{firsts, seconds, checkedFor, answerIf}
+use Rattle.edges.specs.Listing.{firsts, seconds, answerIf}
 use Rattle.edges.specs.declared.Surface.{Surface}
 use Rattle.edges.specs.declared.Surface.the-variants as surface
 use Rattle.tetrahedra.specs.ClosedEdges.{closedEdges}
@@ -35,32 +34,32 @@ use Rattle.mesh.specs.declared.Meshed.the-variants.{Done, Refused}
 use Rattle.mesh.specs.Mesh.{heldIn}
 use Rattle.mesh.specs.Steps.{Fit, Drawing}
 
-module _ (s : Settings) (t : Table) (a b : ℕ) (l : Lent) (fit : Fit s t a b l) (c : ClosedListed) (f' s' x' y' z' : List ℕ)
-    (h : IsClosed s t a b (l .t0) (l .t1) (l .t2) c f' s' x' y' z') where
+module _ (v : Checked) (t : Table) (a b : ℕ) (l : Lent) (fit : Fit v l) (c : ClosedListed) (f' s' x' y' z' : List ℕ)
+    (h : IsClosed v t a b (l .t0) (l .t1) (l .t2) c f' s' x' y' z') where
   abbrev es : List Edge
   es = closedEdges (rows t)
 
   abbrev ts : List (Three ℕ)
   ts = closedTriangles (rows t)
 
-  answered : closedAnswer s t a b ≡ roomFor (length es) a
+  answered : closedAnswer v t a ≡ roomFor (length es) a
   unfolding closedAnswer answerIf
-  answered = ap (λ (v : Checked). answerIf v es a) (fit .edges)
+  answered = ap (λ (w : Checked). answerIf w es a) (fit .passed)
 
   three : threeOk (l .t0) (l .t1) (l .t2) ≡ true
   three = and-second (leb (l .groups) 1048576) _ (fit .rest)
 
   module _ (fits : length es ≤ a) where
-    count : closedAnswer s t a b ≡ listed.Count (length es)
+    count : closedAnswer v t a ≡ listed.Count (length es)
     count = answered ∙ rw (le-leb (length es) a fits)
 
-    cut : trianglesAnswer s t a b (l .t0) (l .t1) (l .t2) ≡ roomFor (length ts) (l .t0)
+    cut : trianglesAnswer v t a (l .t0) (l .t1) (l .t2) ≡ roomFor (length ts) (l .t0)
     unfolding trianglesAnswer
     cut = ap (λ (e : Listed). cutAnswer e ts (l .t0) (l .t1) (l .t2)) count ∙ rw three
 
     -- a list of triangles' numbers, where they have room
     held-as : (room : ℕ) (xs k : List ℕ)
-        → k ≡ heldFor 0 (trianglesAnswer s t a b (l .t0) (l .t1) (l .t2)) room xs
+        → k ≡ heldFor 0 (trianglesAnswer v t a (l .t0) (l .t1) (l .t2)) room xs
         → (j : ℕ)
         → c .triangles ≡ listed.Count j
         → k ≡ padded 0 room xs

@@ -12,10 +12,9 @@ use Rattle.lists.specs.declared.Listed.{Listed}
 use Rattle.lists.specs.declared.Listed.the-variants as listed
 use Rattle.refusals.specs.declared.Refusal.the-variants.{NoPlace}
 use Rattle.table.specs.Table.{Table}
-use Rattle.table.specs.declared.Settings.{Settings}
 use Rattle.table.specs.declared.Checked.{Checked}
 use Rattle.table.specs.declared.Checked.the-variants as checked
-use Rattle.edges.specs.Listing.{firsts, seconds, checkedFor}
+use Rattle.edges.specs.Listing.{firsts, seconds}
 use Rattle.edges.specs.declared.Surface.{Surface}
 use Rattle.triangles.specs.Building.{Rooms as Lent, roomForBoth}
 use Rattle.mesh.specs.declared.Drawn.{Drawn}
@@ -45,9 +44,9 @@ abbrev pub keptOf : Meshed → ℕ → ℕ
 keptOf (Done i j) n = n
 keptOf (Refused why) n = 0
 
--- a table and lists that refusals 1 to 3 let pass, for a surface's edges, groups and triangles
-pub record Fit (s : Settings) (t : Table) (a b : ℕ) (l : Lent) : Type 0 where
-  pub edges : checkedFor s t a b ≡ checked.Passed
+-- a verdict that passed, and lists for groups and triangles that fit
+pub record Fit (v : Checked) (l : Lent) : Type 0 where
+  pub passed : v ≡ checked.Passed
   pub rest : leb (l .groups) 1048576 && ((eqb (l .t0) (l .t1) && eqb (l .t0) (l .t2)) && leb (l .t0) 1048576) ≡ true
 
 -- a surface's edges, groups and triangles are drawn: what is answered, and what the lists hold where the edges have room

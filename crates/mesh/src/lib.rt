@@ -9,6 +9,7 @@ ghost use mathlib.Core.Path.{_≡_};
 ghost use lib.ListN.{length};
 ghost use Rattle.lists.specs.Places.{zeroF, clearedFrom};
 ghost use Rattle.table.specs.Table.{table};
+ghost use Rattle.edges.specs.Steps.{Tested};
 ghost use Rattle.edges.specs.declared.Surface.the-variants.{Open, Closed};
 ghost use Rattle.triangles.specs.Building.{rooms as lentOf};
 ghost use Rattle.mesh.specs.Mesh.{rooms as roomsOf, roomsOk, meshCheck, IsMeshOn, IsMesh, IsClosedMesh};
@@ -68,9 +69,9 @@ fn check(
     table::check_with(rooms_ok(rooms), settings, keys, distances, weights, count)
 }
 
-// The edges of document 01's surface, and from them the groups and the triangles.
+// The edges of document 01's surface by the verdict of the tests, and from them the groups and the triangles.
 fn draw_open(
-    settings: Settings,
+    verdict: Checked,
     keys: &[u64],
     distances: &[f32],
     weights: &[f32],
@@ -82,8 +83,8 @@ fn draw_open(
     t1: &mut [u32],
     t2: &mut [u32],
 ) -> Drawn
-    ensures { λ d. ⌜ (Fit settings (table (now (keys .entry)) (now (distances .entry)) (now (weights .entry)) count)
-        (length (now (first .entry))) (length (now (second .entry)))
+    requires { ⌜ Tested verdict (now keys) (now distances) (now weights) count (length (now first)) (length (now second)) ⌝ }
+    ensures { λ d. ⌜ (Fit verdict
         (lentOf (length (now (groups .entry))) (length (now (t0 .entry))) (length (now (t1 .entry)))
         (length (now (t2 .entry))))
         → Drawing Open (table (now (keys .entry)) (now (distances .entry)) (now (weights .entry)) count)
@@ -93,8 +94,9 @@ fn draw_open(
         d (now (first .exit)) (now (second .exit)) (now (groups .exit)) (now (t0 .exit)) (now (t1 .exit))
         (now (t2 .exit))) ⌝ }
 {
-    let edges = edges::get_zero_crossing_edges(
-        settings,
+    let edges = edges::list_tested(
+        Surface::Open,
+        verdict,
         keys,
         distances,
         weights,
@@ -109,7 +111,7 @@ fn draw_open(
 
 // The edges and the triangles of the surface that closes, which has no groups.
 fn draw_closed(
-    settings: Settings,
+    verdict: Checked,
     keys: &[u64],
     distances: &[f32],
     weights: &[f32],
@@ -121,8 +123,8 @@ fn draw_closed(
     t1: &mut [u32],
     t2: &mut [u32],
 ) -> Drawn
-    ensures { λ d. ⌜ (Fit settings (table (now (keys .entry)) (now (distances .entry)) (now (weights .entry)) count)
-        (length (now (first .entry))) (length (now (second .entry)))
+    requires { ⌜ Tested verdict (now keys) (now distances) (now weights) count (length (now first)) (length (now second)) ⌝ }
+    ensures { λ d. ⌜ (Fit verdict
         (lentOf (length (now (groups .entry))) (length (now (t0 .entry))) (length (now (t1 .entry)))
         (length (now (t2 .entry))))
         → Drawing Closed (table (now (keys .entry)) (now (distances .entry)) (now (weights .entry)) count)
@@ -133,7 +135,7 @@ fn draw_closed(
         (now (t2 .exit))) ⌝ }
 {
     let closed = cutting::list_closed(
-        settings,
+        verdict,
         keys,
         distances,
         weights,
@@ -153,7 +155,7 @@ fn draw_closed(
 // The edges of a surface, its groups and its triangles.
 fn draw(
     surface: Surface,
-    settings: Settings,
+    verdict: Checked,
     keys: &[u64],
     distances: &[f32],
     weights: &[f32],
@@ -165,8 +167,8 @@ fn draw(
     t1: &mut [u32],
     t2: &mut [u32],
 ) -> Drawn
-    ensures { λ d. ⌜ (Fit settings (table (now (keys .entry)) (now (distances .entry)) (now (weights .entry)) count)
-        (length (now (first .entry))) (length (now (second .entry)))
+    requires { ⌜ Tested verdict (now keys) (now distances) (now weights) count (length (now first)) (length (now second)) ⌝ }
+    ensures { λ d. ⌜ (Fit verdict
         (lentOf (length (now (groups .entry))) (length (now (t0 .entry))) (length (now (t1 .entry)))
         (length (now (t2 .entry))))
         → Drawing surface (table (now (keys .entry)) (now (distances .entry)) (now (weights .entry)) count)
@@ -178,7 +180,7 @@ fn draw(
 {
     match surface {
         Surface::Open => draw_open(
-            settings,
+            verdict,
             keys,
             distances,
             weights,
@@ -191,7 +193,7 @@ fn draw(
             t2,
         ),
         Surface::Closed => draw_closed(
-            settings,
+            verdict,
             keys,
             distances,
             weights,
@@ -350,7 +352,7 @@ fn extract(
     let verdict = check(settings, keys, distances, weights, count, rooms);
     let drawn = draw(
         surface,
-        settings,
+        verdict,
         keys,
         distances,
         weights,

@@ -50,8 +50,7 @@ use Rattle.mesh.specs.declared.Rooms.{Rooms}
 use Rattle.mesh.specs.declared.Meshed.{Meshed}
 use Rattle.mesh.specs.declared.Meshed.the-variants.{Done}
 use Rattle.mesh.specs.Mesh.{surfaceEdges, verticesOn, groupsOn, trianglesOn, roomsOk, meshCheck, haveRoomOn, meshAnswerOn, heldIn, IsMeshOn}
-use Rattle.mesh.proofs.OpenLaws.{rise}
-use Rattle.mesh.proofs.MeshLaws.{tests, fit}
+use Rattle.mesh.proofs.MeshLaws.{tests, rise, rest-ok}
 use Rattle.mesh.proofs.Calls.{done-on}
 use Rattle.winding.specs.Winding.{looksIn, turnIf, outwards, turnedTriangles}
 use Rattle.turned_mesh.specs.Turned.{IsTurnedMesh}
@@ -161,7 +160,7 @@ module _ (o : Surface) (s : Settings) (ks : List ℕ) (ds ws : List Float) (cnt 
     told = tests o s ks ds ws cnt r (known .0)
 
     up : ascending (keysOf (rows t)) ≡ true
-    up = rise s ks ds ws cnt (r .first) (r .second) _ (fit o s ks ds ws cnt r (known .0))
+    up = rise o s ks ds ws cnt r (known .0)
 
     -- the voxel size is in range, and what is stored is finite
     size-ok : positiveTo thousand (s .«voxel_size» .0) ≡ true
@@ -201,7 +200,7 @@ module _ (o : Surface) (s : Settings) (ks : List ℕ) (ds ws : List Float) (cnt 
     triangles-taken : (trianglesIn is js ls j ≡ map (λ (x : Three ℕ). triangle (x .a) (x .b) (x .c)) ts)
         × (setOk (length is) (length js) (length ls) j ≡ true)
     triangles-taken =
-        let three = and-second (leb (r .groups) 1048576) _ (fit o s ks ds ws cnt r (known .0) .rest) in
+        let three = and-second (leb (r .groups) 1048576) _ (rest-ok o s ks ds ws cnt r (known .0)) in
         let most =
         leb-true (length (trianglesOn o t)) (r .t0)
         (and-second (leb (length (groupsOn o t)) (r .groups)) _

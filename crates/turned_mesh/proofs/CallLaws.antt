@@ -22,7 +22,6 @@ use Rattle.edges.specs.Edges.{Edge}
 use Rattle.edges.specs.Listing.{firsts, seconds}
 use Rattle.edges.specs.Steps.{Accepted}
 use Rattle.edges.specs.declared.Surface.the-variants.{Closed}
-use Rattle.edges.proofs.AnswerLaws.{accepted}
 use Rattle.tetrahedra.specs.ClosedEdges.{closedEdges}
 use Rattle.tetrahedra.specs.ClosedTriangles.{closedTriangles}
 use Rattle.winding.specs.Winding.{looksIn, turnIf, outwards, turnedTriangles}
@@ -30,7 +29,7 @@ use Rattle.mesh.specs.declared.Rooms.{Rooms}
 use Rattle.mesh.specs.declared.Meshed.{Meshed}
 use Rattle.mesh.specs.declared.Meshed.the-variants.{Done, Refused}
 use Rattle.mesh.specs.Mesh.{meshCheck, haveRoomOn, meshAnswerOn, heldIn, IsClosedMesh}
-use Rattle.mesh.proofs.MeshLaws.{fit}
+use Rattle.mesh.proofs.MeshLaws.{acc as passed-mesh, rest-ok}
 use Rattle.mesh.proofs.Calls.{done-on}
 use Rattle.mesh.proofs.ClosedCalls.{lists-padded, edges-held, triangles-held}
 use Rattle.turned_mesh.specs.Turned.{IsTurnedMesh}
@@ -92,10 +91,10 @@ module _ (s : Settings) (ks : List ℕ) (ds ws : List Float) (cnt : ℕ) (r : Ro
     known = done-on Closed s t r i j (sym (m .answer) ∙ e)
 
     acc : Accepted ks ds ws cnt × (r .second ≡ r .first)
-    acc = accepted s ks ds ws cnt (r .first) (r .second) (fit Closed s ks ds ws cnt r (known .0) .edges)
+    acc = passed-mesh Closed s ks ds ws cnt r (known .0)
 
     three-rooms : (eqb (r .t0) (r .t1) && eqb (r .t0) (r .t2)) && leb (r .t0) 1048576 ≡ true
-    three-rooms = and-second (leb (r .groups) 1048576) _ (fit Closed s ks ds ws cnt r (known .0) .rest)
+    three-rooms = and-second (leb (r .groups) 1048576) _ (rest-ok Closed s ks ds ws cnt r (known .0))
 
     edges-fit : length es ≤ r .first
     edges-fit = leb-true (length es) (r .first) (and-first (leb (length es) (r .first)) _ (known .1))

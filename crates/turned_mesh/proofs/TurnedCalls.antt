@@ -28,8 +28,7 @@ use Rattle.mesh.specs.declared.Rooms.{Rooms}
 use Rattle.mesh.specs.declared.Meshed.{Meshed}
 use Rattle.mesh.specs.declared.Meshed.the-variants.{Done, Refused}
 use Rattle.mesh.specs.Mesh.{meshAnswerOn, heldIn, IsClosedMesh}
-use Rattle.mesh.proofs.OpenLaws.{rise}
-use Rattle.mesh.proofs.MeshLaws.{fit}
+use Rattle.mesh.proofs.MeshLaws.{rise}
 use Rattle.mesh.proofs.Calls.{done-on}
 use Rattle.mesh.proofs.ClosedCalls.{edges-held, lists-wiped}
 use Rattle.turned_mesh.specs.Turned.{IsTurnedMesh}
@@ -71,7 +70,7 @@ module _ (s : Settings) (ks : List ℕ) (ds ws : List Float) (cnt : ℕ) (r : Ro
     answered = sym (m .answer) ∙ e
 
     up : ascending (keysOf (rows t)) ≡ true
-    up = rise s ks ds ws cnt (r .first) (r .second) _ (fit Closed s ks ds ws cnt r (done-on Closed s t r i j answered .0))
+    up = rise Closed s ks ds ws cnt r (done-on Closed s t r i j answered .0)
 
     held : (room : ℕ) (found l : List ℕ) → l ≡ heldIn 0 (meshAnswerOn Closed s t r) room found → l ≡ padded 0 room found
     unfolding heldIn

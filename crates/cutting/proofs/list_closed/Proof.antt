@@ -1,22 +1,22 @@
 -- `cutting::list_closed` meets its contract: what is listed and cut stays, and the rest is cleared.
 -- Assumes nothing.
-use mathlib.Core.Path.{ap, _∙_}
-use mathlib.Core.List.{List}
-use Prim.Native.Nat.{ℕ}
+use mathlib.Core.Path.{_∙_}
 use Rattle.table.specs.Table.{table}
-use Rattle.cutting.proofs.ClosedLaws.{closed-answer, firsts-closed, seconds-closed, own-listed, cut-answered, cleared-to}
+use Rattle.edges.specs.Edges.{Edge}
+use Rattle.cutting.proofs.ClosedLaws.{closed-answer, held-closed, own-listed, cut-answered, cleared-to}
 use borrow.Author.Needs.{needs}
 use Rattle.cutting.proofs.list_closed.Statement.{statement}
 use Rattle.cutting.proofs.list_closed.Tie as tie
 
-list-crossings-requires : tie.Need-list-crossings-requires
-list-crossings-requires c κs = search needs
+list-tested-requires : tie.Need-list-tested-requires
+list-tested-requires c κs = search needs
 
 cut-checked-requires : tie.Need-cut-checked-requires
 cut-checked-requires c κs =
     let at-list = c .before .before .before .before .before .before .before .before .before in
-    let e = at-list .list-crossings .ensures in
-    own-listed _ _ _ _ _ _ _ _ _ _ (e .0) (e .1 .0) (e .1 .1)
+    let at-start = at-list .before .before .before .before .before .before .before .before .before .before .before in
+    let e = at-list .list-tested .ensures in
+    own-listed _ _ _ _ _ _ _ (at-start .pre) _ (e .0) _ _ (e .1 .0) (e .1 .1)
 
 count-of-requires : tie.Need-count-of-requires
 count-of-requires c κs = search needs
@@ -51,16 +51,20 @@ returns c =
     let at-count = cleared .before .before .before .before .before .before in
     let at-cut = at-count .before .before .before .before .before .before .before in
     let at-list = at-cut .before .before .before .before .before .before .before .before .before .before in
-    let a = at-list .before .before .before .before .before .before .before .before .before .before .before .args in
-    let e = at-list .list-crossings .ensures in
+    let at-start = at-list .before .before .before .before .before .before .before .before .before .before .before in
+    let a = at-start .args in
+    let t = table (a .keys .now) (a .distances .now) (a .weights .now) (a .count) in
+    let e = at-list .list-tested .ensures in
     let k = at-cut .cut-checked .ensures in
     let n = at-count .count-of .ensures in
-    let edges = e .0 ∙ closed-answer (a .settings) (a .keys .now) (a .distances .now) (a .weights .now) (a .count) _ _ in
-    let triangles = cut-answered (a .settings) (table (a .keys .now) (a .distances .now) (a .weights .now) (a .count)) _ _ _ _ _ _ _ edges (k .answer) in
+    let edges =
+    e .0 ∙ closed-answer (a .verdict) (a .keys .now) (a .distances .now) (a .weights .now) (a .count) _ _ (at-start .pre) in
+    let triangles = cut-answered (a .verdict) t _ _ _ _ _ _ edges (k .answer) in
+    let held = held-closed (a .verdict) (a .keys .now) (a .distances .now) (a .weights .now) (a .count) _ _ (at-start .pre) _ (e .0) in
     record {
       edges = edges;
-      first = e .1 .0 ∙ firsts-closed (a .settings) (a .keys .now) (a .distances .now) (a .weights .now) (a .count) _ _;
-      second = e .1 .1 ∙ seconds-closed (a .settings) (a .keys .now) (a .distances .now) (a .weights .now) (a .count) _ _;
+      first = held (λ (x : Edge). x .first) _ _ (e .1 .0);
+      second = held (λ (x : Edge). x .second) _ _ (e .1 .1);
       triangles = triangles;
       t0 = cleared-to _ _ triangles _ n _ _ _ _ (cleared .before .before .before .before .clear-from-u32 .ensures) (k .t0);
       t1 = cleared-to _ _ triangles _ n _ _ _ _ (cleared .clear-from-u322 .ensures) (k .t1);
@@ -71,7 +75,7 @@ pub list-closed-spec : {M : Type 1} → statement M
 list-closed-spec =
     tie.close
     (tie.spec
-    list-crossings-requires
+    list-tested-requires
     cut-checked-requires
     count-of-requires
     clear-from-u32-requires

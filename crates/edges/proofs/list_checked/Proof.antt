@@ -5,7 +5,7 @@ use Rattle.table.specs.Table.{rowsOf}
 use Rattle.edges.specs.Surfaces.{edgesOn}
 use Rattle.edges.specs.Listing.{answerIf, firsts, seconds}
 use Rattle.lists.proofs.Held.{refused-held}
-use Rattle.edges.proofs.AnswerLaws.{answer-room, firsts-held, seconds-held}
+use Rattle.edges.proofs.AnswerLaws.{outputs-same, answer-room, firsts-held, seconds-held}
 use borrow.Author.Needs.{needs}
 use Rattle.edges.proofs.list_checked.Statement.{statement}
 use Rattle.edges.proofs.list_checked.Tie as tie
@@ -27,7 +27,8 @@ enum-told c = search needs
 list-edges-requires : tie.Need-list-edges-requires
 list-edges-requires c κs =
     let at-start = c .before .before .before .before .before .before .before .before .before in
-    at-start .pre (c .before .before .enum-told .given .1)
+    let p = at-start .pre (c .before .before .enum-told .given .1) in
+    (p .0, outputs-same _ _ (p .1))
 
 room-for-requires : tie.Need-room-for-requires
 room-for-requires c κs = search needs
@@ -45,7 +46,7 @@ returns-2 c =
     let passed = at-enum-told .enum-told .given .1 in
     let w = c .before .before .before .before .before .list-edges .ensures in
     let e = c .room-for .ensures in
-    (rw passed (answer-room _ _ _ _ _ _ w _ e), (firsts-held _ _ _ _ _ _ w _ e, seconds-held _ _ _ _ _ _ w _ e (at-start .pre passed .1)))
+    (rw passed (answer-room _ _ _ _ _ _ w _ e), (firsts-held _ _ _ _ _ _ w _ e, seconds-held _ _ _ _ _ _ w _ e (outputs-same _ _ (at-start .pre passed .1))))
 
 pub list-checked-spec : {M : Type 1} → statement M
 list-checked-spec =

@@ -50,7 +50,7 @@ returns c =
     let at-clear = c .before .before in
     let at-list = at-clear .before .before .before .before .before .before .before .before .before .before .before .before in
     let a = at-list .before .before .before .before .before .before .before .before .before .before .before .before .before .before .before .args in
-    λ fit. drawn-closed (a .settings) _ _ _ _ fit _ _ _ _ _ _ (at-list .list-closed .ensures) (a .groups .now) _ refl (at-clear .clear-from-u32 .ensures)
+    λ fit. drawn-closed (a .verdict) _ _ _ _ fit _ _ _ _ _ _ (at-list .list-closed .ensures) (a .groups .now) _ refl (at-clear .clear-from-u32 .ensures)
 
 pub draw-closed-spec : {M : Type 1} → statement M
 draw-closed-spec =

@@ -1,12 +1,12 @@
 -- `mesh::extract` meets its contract: the surface is drawn, its vertices are worked out from the edges that the lists then hold, and each list is
 -- settled by the answer.
 -- Assumes nothing.
-use mathlib.Core.Path.{refl, _∙_}
+use mathlib.Core.Path.{refl, sym, _∙_}
 use lib.ListN.{length}
 use Rattle.table.specs.Table.{table}
 use Rattle.mesh.specs.declared.Rooms.{Rooms}
 use Rattle.mesh.specs.Mesh.{rooms as roomsOf}
-use Rattle.mesh.proofs.MeshLaws.{Run, answer-is, first-settled, second-settled, px-settled, py-settled, pz-settled, nx-settled, ny-settled, nz-settled, groups-settled, t0-settled, t1-settled, t2-settled}
+use Rattle.mesh.proofs.MeshLaws.{passing, Run, answer-is, first-settled, second-settled, px-settled, py-settled, pz-settled, nx-settled, ny-settled, nz-settled, groups-settled, t0-settled, t1-settled, t2-settled}
 use borrow.Author.Needs.{needs}
 use Rattle.mesh.proofs.extract.Statement.{statement}
 use Rattle.mesh.proofs.extract.Tie as tie
@@ -47,7 +47,18 @@ check-requires : tie.Need-check-requires
 check-requires c κs = search needs
 
 draw-requires : tie.Need-draw-requires
-draw-requires c κs = search needs
+draw-requires c κs =
+    let checked = c .before .before .before .before .before .before in
+    let start =
+    checked .before .before .before .before .before .before .before .before .before .before .before .before .before .before
+    .before .before .before in
+    let a = start .args in
+    λ told.
+    passing (a .surface) (a .settings) (a .keys .now) (a .distances .now) (a .weights .now) (a .count)
+    (roomsOf (length (a .first .now)) (length (a .second .now)) (length (a .px .now)) (length (a .py .now))
+    (length (a .pz .now)) (length (a .nx .now)) (length (a .ny .now)) (length (a .nz .now))
+    (length (a .groups .now)) (length (a .t0 .now)) (length (a .t1 .now)) (length (a .t2 .now)))
+    (sym (checked .check .ensures) ∙ told)
 
 count-of-requires : tie.Need-count-of-requires
 count-of-requires c κs = search needs
