@@ -4,9 +4,13 @@ use table::Settings;
 use table::settings_of;
 ghost use mathlib.Core.Path.{_≡_};
 ghost use mathlib.Core.Bool.{false};
-ghost use Prim.Native.Nat.{_≤_, _<_, _%_, _/_};
-ghost use lib.Dec.{eqb};
+ghost use Prim.Native.Nat.{_≤_, _<_};
+ghost use lib.IntN.{pos, negℤ};
 ghost use lib.ListN.{length};
+ghost use Rattle.floats.specs.Floats.{f32};
+ghost use Rattle.vectors.specs.Vectors.{digitOf, blankLine, withWord, withDigit, longerLine, takenFrom};
+ghost use Rattle.vectors.specs.Vectors.{low16Of, signedOf, notFinite, floatOf, sameFloat};
+ghost use Rattle.vectors.specs.Vectors.{emptyField, withRow, fieldAfter, noScore, countedIf, answeredScore, scoredLine};
 
 // A line as far as it was read: its letter, 0 before it, and its words.
 pub struct Line {
@@ -40,7 +44,9 @@ pub struct Score {
     pub changes: bool,
 }
 
-fn blank() -> Line {
+fn blank() -> Line
+    ensures { λ r. ⌜ r ≡ blankLine ⌝ }
+{
     Line {
         letter: 0,
         words: [0; 16],
@@ -49,24 +55,70 @@ fn blank() -> Line {
 }
 
 // A digit's value; 0 for another byte.
-fn digit(byte: u8) -> u64 {
-    if byte >= b'a' {
-        if byte <= b'f' {
-            return (byte - b'a') as u64 + 10;
-        }
+fn digit(byte: u8) -> u64
+    ensures { λ r. ⌜ r ≡ digitOf byte ⌝ }
+    ensures { λ r. ⌜ r < 16 ⌝ }
+{
+    if byte < b'0' {
+        return 0;
     }
-    if byte >= b'0' {
-        if byte <= b'9' {
-            return (byte - b'0') as u64;
-        }
+    if byte <= b'9' {
+        return (byte - b'0') as u64;
     }
-    0
+    if byte < b'a' {
+        return 0;
+    }
+    if byte <= b'f' {
+        (byte - b'a') as u64 + 10
+    } else {
+        0
+    }
+}
+
+// The line with one word more, 0 so far.
+fn with_word(line: Line) -> Line
+    ensures { λ r. ⌜ r ≡ withWord line ⌝ }
+{
+    let mut words = line.words;
+    let count = line.count;
+    if count < 16 {
+        words[count] = 0;
+        return Line {
+            letter: line.letter,
+            words: words,
+            count: count + 1,
+        };
+    }
+    line
+}
+
+// The line with one digit more in its last word.
+fn with_digit(line: Line, digit: u64) -> Line
+    requires { ⌜ digit < 16 ⌝ }
+    ensures { λ r. ⌜ r ≡ withDigit line digit ⌝ }
+{
+    let mut words = line.words;
+    let count = line.count;
+    if count == 0 {
+        return line;
+    }
+    if 16 < count {
+        return line;
+    }
+    let at = count - 1;
+    words[at] = (words[at] << 4) | digit;
+    Line {
+        letter: line.letter,
+        words: words,
+        count: count,
+    }
 }
 
 // The line with one byte more: its letter, a space before a word, or a digit.
-fn longer(line: Line, byte: u8) -> Line {
-    let mut words = line.words;
-    let count = line.count;
+fn longer(line: Line, byte: u8) -> Line
+    ensures { λ r. ⌜ r ≡ longerLine line byte ⌝ }
+{
+    let words = line.words;
     if line.letter == 0 {
         return Line {
             letter: byte,
@@ -75,31 +127,14 @@ fn longer(line: Line, byte: u8) -> Line {
         };
     }
     if byte == b' ' {
-        if count < 16 {
-            words[count] = 0;
-            return Line {
-                letter: line.letter,
-                words: words,
-                count: count + 1,
-            };
-        }
-        return line;
+        return with_word(line);
     }
-    if count > 0 {
-        if count <= 16 {
-            let at = count - 1;
-            words[at] = (words[at] << 4) | digit(byte);
-        }
-    }
-    Line {
-        letter: line.letter,
-        words: words,
-        count: count,
-    }
+    with_digit(line, digit(byte))
 }
 
 // The line that begins at a place.
 pub fn line_from(bytes: &[u8], start: usize) -> Taken
+    ensures { λ r. ⌜ r ≡ takenFrom (now (bytes .entry)) start ⌝ }
     ensures { λ r. ⌜ (start < length (now (bytes .entry)) → start < r .next) ⌝ }
 {
     let mut line = blank();
@@ -121,19 +156,25 @@ pub fn line_from(bytes: &[u8], start: usize) -> Taken
     }
 }
 
-pub fn low16(word: u64) -> u16 {
+// The low 16 bits.
+pub fn low16(word: u64) -> u16
+    ensures { λ r. ⌜ r ≡ low16Of word ⌝ }
+{
     (word % 0x1_0000) as u16
 }
 
 // -size
 fn minus(size: u64) -> i32
     requires { ⌜ size ≤ 0x8000_0000 ⌝ }
+    ensures { λ r. ⌜ r ≡ negℤ (pos size) ⌝ }
 {
     (0 - (size as i64)) as i32
 }
 
 // The i32 of 32 bits.
-pub fn signed(word: u64) -> i32 {
+pub fn signed(word: u64) -> i32
+    ensures { λ r. ⌜ r ≡ signedOf word ⌝ }
+{
     let low = word % 0x1_0000_0000;
     if low < 0x8000_0000 {
         low as i32
@@ -144,13 +185,16 @@ pub fn signed(word: u64) -> i32 {
 
 // The f32 of a pattern that is no NaN's.
 fn float_of(bits: u32) -> f32
-    requires { ⌜ eqb (bits % 0x8000_0000 / 0x80_0000) 255 ≡ false ⌝ }
+    requires { ⌜ notFinite bits ≡ false ⌝ }
+    ensures { λ r. ⌜ r ≡ f32 bits ⌝ }
 {
     f32::from_bits(bits)
 }
 
 // The f32 of 32 bits; 0 for those of an infinity or a NaN, of which no vector has one.
-pub fn float(word: u64) -> f32 {
+pub fn float(word: u64) -> f32
+    ensures { λ r. ⌜ r ≡ floatOf word ⌝ }
+{
     let bits = (word % 0x1_0000_0000) as u32;
     if bits % 0x8000_0000 / 0x80_0000 == 255 {
         0.0
@@ -160,12 +204,16 @@ pub fn float(word: u64) -> f32 {
 }
 
 // The same float, zeros by their sign too.
-pub fn same(a: f32, b: f32) -> bool {
+pub fn same(a: f32, b: f32) -> bool
+    ensures { λ r. ⌜ r ≡ sameFloat a b ⌝ }
+{
     (a == b) & (floats::sign(a) == floats::sign(b))
 }
 
 // A field without rows, under the settings of a line.
-pub fn empty(words: [u64; 16]) -> Field {
+pub fn empty(words: [u64; 16]) -> Field
+    ensures { λ r. ⌜ r ≡ emptyField words ⌝ }
+{
     let settings = settings_of(
         float(words[0]),
         float(words[1]),
@@ -182,7 +230,9 @@ pub fn empty(words: [u64; 16]) -> Field {
 }
 
 // One row more.
-fn with_row(field: Field, words: [u64; 16]) -> Field {
+fn with_row(field: Field, words: [u64; 16]) -> Field
+    ensures { λ r. ⌜ r ≡ withRow field words ⌝ }
+{
     let settings = field.settings;
     let mut keys = field.keys;
     let mut distances = field.distances;
@@ -204,17 +254,24 @@ fn with_row(field: Field, words: [u64; 16]) -> Field {
 }
 
 // The field after a line of settings or of a row; any other leaves it.
-pub fn field_after(field: Field, line: Line) -> Field {
+pub fn field_after(field: Field, line: Line) -> Field
+    ensures { λ r. ⌜ r ≡ fieldAfter field line ⌝ }
+{
     let words = line.words;
     let letter = line.letter;
-    match letter {
-        b'S' => empty(words),
-        b'R' => with_row(field, words),
-        _ => field,
+    if letter == b'S' {
+        return empty(words);
     }
+    if letter == b'R' {
+        return with_row(field, words);
+    }
+    field
 }
 
-pub fn unscored() -> Score {
+// No answers yet.
+pub fn unscored() -> Score
+    ensures { λ r. ⌜ r ≡ noScore ⌝ }
+{
     Score {
         asked: 0,
         again: 0,
@@ -224,33 +281,45 @@ pub fn unscored() -> Score {
     }
 }
 
+// A counter, one further if so.
+fn counted(count: u64, so: bool) -> u64
+    ensures { λ r. ⌜ r ≡ countedIf so count ⌝ }
+{
+    if so {
+        return std::num::wrapping_add_u64(count, 1);
+    }
+    count
+}
+
 // One answer more.
-fn answered(score: Score, good: bool) -> Score {
+fn answered(score: Score, good: bool) -> Score
+    ensures { λ r. ⌜ r ≡ answeredScore score good ⌝ }
+{
     let mut next = score;
     next.changes = false;
     if score.changes {
-        let one = if good { 0 } else { 1 };
-        next.changed = std::num::wrapping_add_u64(score.changed, 1);
-        next.seen = std::num::wrapping_add_u64(score.seen, one);
+        next.changed = counted(score.changed, true);
+        next.seen = counted(score.seen, !good);
         return next;
     }
-    let one = if good { 1 } else { 0 };
-    next.asked = std::num::wrapping_add_u64(score.asked, 1);
-    next.again = std::num::wrapping_add_u64(score.again, one);
+    next.asked = counted(score.asked, true);
+    next.again = counted(score.again, good);
     next
 }
 
 // The score after a line: settings and rows ask for nothing, and ! says that the next answer is changed.
-pub fn scored(score: Score, letter: u8, good: bool) -> Score {
+pub fn scored(score: Score, letter: u8, good: bool) -> Score
+    ensures { λ r. ⌜ r ≡ scoredLine score letter good ⌝ }
+{
     let mut next = score;
-    match letter {
-        b'S' | b'R' => next,
-        b'!' => {
-            next.changes = true;
-            next
-        }
-        _ => answered(score, good),
+    if (letter == b'S') | (letter == b'R') {
+        return next;
     }
+    if letter == b'!' {
+        next.changes = true;
+        return next;
+    }
+    answered(score, good)
 }
 
 // What a program prints.

@@ -28,7 +28,7 @@ scored-requires : tie.Need-scored-requires Inv-loop μ-loop
 scored-requires c κs = search needs
 
 loop-less : tie.Need-loop-less Inv-loop μ-loop
-loop-less c = omega (arith, c .before .before .before .line-from .ensures (omega arith))
+loop-less c = omega (arith, c .before .before .before .line-from .ensures .1 (omega arith))
 
 loop-again : tie.Need-loop-again Inv-loop μ-loop
 loop-again c = tt

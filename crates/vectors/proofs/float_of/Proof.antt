@@ -1,9 +1,8 @@
--- `vectors::float_of` is safe: a pattern whose exponent's field is not all ones is no NaN's. Assumes nothing.
+-- `vectors::float_of` meets its contract: a pattern whose exponent's field is not all ones is no NaN's. Assumes nothing.
 use mathlib.Core.Path.{_≡_, sym, subst}
 use mathlib.Core.Bool.{Bool, false, not, _&&_}
-use Prim.Native.Nat.{ℕ, _%_, _/_}
-use lib.Dec.{T, eqb}
-use lib.Ieee.{binary32, nanBits}
+use lib.Dec.{T}
+use lib.Ieee.{nanBits}
 use borrow.Author.Needs.{needs}
 use Rattle.vectors.proofs.float_of.Statement.{statement}
 use Rattle.vectors.proofs.float_of.Tie as tie

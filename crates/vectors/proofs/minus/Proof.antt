@@ -1,4 +1,4 @@
--- `vectors::minus` is safe: a size up to 2 ^ 31, negated, fits 64 bits and then 32. Assumes nothing.
+-- `vectors::minus` meets its contract: a size up to 2 ^ 31, negated, fits 64 bits and then 32. Assumes nothing.
 use mathlib.Core.Path.{_≡_, sym, ap, _∙_, subst}
 use Prim.Native.Nat.{ℕ, zero, suc, _^_, _≤_}
 use native.Mathlib.Omega.{arith}
@@ -34,7 +34,7 @@ cast-result-2 : tie.Need-cast-result-2
 cast-result-2 c = let w = c .args .size in subst (SFits w32) (sym (read w (c .pre))) (fits32 w (c .pre))
 
 returns : tie.Need-returns
-returns c = search needs
+returns c = let w = c .args .size in ap (λ (z : ℤ). toZ w32 (ofZ w32 z)) (read w (c .pre)) ∙ toZ-ofZ w32 (negℤ (pos w)) (fits32 w (c .pre))
 
 pub minus-spec : {M : Type 1} → statement M
 minus-spec = tie.close (tie.spec cast-result sub-result cast-result-2 returns)
