@@ -1,9 +1,10 @@
-// bench_last [quick] [stl] [ROWS]: synthetic lasts of 16,384, 32,768 and 65,536 rows, the most that a table holds: the
+// bench_last [quick] [marches] [stl] [ROWS]: synthetic lasts of 16,384, 32,768 and 65,536 rows, the most that a table holds: the
 // Rust with its own hash tables and the C face in one process on the same input. Prints the best of five runs of each,
 // their ratio, and how each grows when the rows double. The closed mesh, which the Rust does not have, stands beside
 // the mesh of the same run, face against face, and the turned one beside the closed; and both of odd fields beside those
 // of the last. Files of STL stand beside a plain writer and reader. The march goes to about five times the rows, and to about sixteen times, the most that a
-// marched list holds; `quick` leaves it out. ROWS leaves larger lasts out, `stl` everything but the files.
+// marched list holds; `quick` leaves it out. ROWS leaves larger lasts out, `marches` everything but odd marches, `stl` everything but the files.
+mod marches;
 mod stl;
 
 use compare::calls::ClosedMesh;
@@ -424,6 +425,9 @@ fn main() {
     if std::env::args().any(|a| a == "stl") {
         return files();
     }
+    if std::env::args().any(|a| a == "marches") {
+        return marches::tell();
+    }
     if !cfg!(rust) {
         println!("The Rust isn't at ../shared/docs/src beside this repository: only the C face is measured.");
     }
@@ -461,4 +465,8 @@ fn main() {
     }
     println!();
     files();
+    if landed("akf_compute_from_tsdf") && !quick() {
+        println!();
+        marches::tell();
+    }
 }

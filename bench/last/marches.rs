@@ -1,0 +1,100 @@
+// Odd marches beside an ordinary one of the same run, as nanoseconds a row of the result, or, where the march is refused,
+// a place of the list that had none left: what a workshop meets that types a maximum distance too large, lends short
+// lists or lists that are nearly full, scans under many heads, has seeds apart, or stands at key 0.
+use super::{best, last_settings, LONGEST};
+use compare::face::FACE;
+use compare::last::{rows_nearest, SIZE};
+use compare::plain::keys::key_of;
+use compare::shape::{Settings, Table};
+
+// A march: its table's keys and distances, how far it goes, the places of its lists, and the answer that it is to have.
+struct March {
+    name: &'static str,
+    keys: Vec<u64>,
+    distances: Vec<f32>,
+    far: f32,
+    places: usize,
+    waiting: usize,
+    answer: u32,
+}
+
+const DONE: u32 = 0;
+const NO_PLACE: u32 = 6;
+const NO_WAITING_PLACE: u32 = 8;
+const NO_LIMIT: f32 = 1_000_000.0;
+
+// A march whose rows and waiting cells all have a place.
+fn done(name: &'static str, (keys, distances): (Vec<u64>, Vec<f32>), cells: f32, places: usize) -> March {
+    March { name, keys, distances, far: cells * SIZE, places, waiting: LONGEST, answer: DONE }
+}
+
+// A march of the last without a limit on its way.
+fn refused(name: &'static str, places: usize, waiting: usize, answer: u32) -> March {
+    let (keys, distances) = rows_nearest(16_384);
+    March { name, keys, distances, far: NO_LIMIT, places, waiting, answer }
+}
+
+// Seeds at keys, all at distance 0.
+fn seeds(mut keys: Vec<u64>) -> (Vec<u64>, Vec<f32>) {
+    keys.sort_unstable();
+    let zeros = vec![0.0; keys.len()];
+    (keys, zeros)
+}
+
+// One cell under so many heads.
+fn heads(n: u16) -> (Vec<u64>, Vec<f32>) {
+    seeds((0..n).map(|head| key_of(head, 1000, 1000, 1000)).collect())
+}
+
+// So many seeds in a cube, eight cells from each to the next.
+fn apart(n: usize) -> (Vec<u64>, Vec<f32>) {
+    let side = (1..).find(|s| s * s * s >= n).unwrap();
+    seeds((0..n).map(|i| [i % side, i / side % side, i / side / side].map(|v| 1000 + 8 * v as u16)).map(|[x, y, z]| key_of(0x8000, x, y, z)).collect())
+}
+
+fn marches() -> Vec<March> {
+    vec![
+        done("an ordinary one", rows_nearest(16_384), 41.8, LONGEST),
+        refused("refused for room at 200,000 places", 200_000, LONGEST, NO_PLACE),
+        refused("refused for room at 1,048,576 places", LONGEST, LONGEST, NO_PLACE),
+        refused("refused for waiting room at 8 places", LONGEST, 8, NO_WAITING_PLACE),
+        refused("refused for waiting room at 50,000 places", LONGEST, 50_000, NO_WAITING_PLACE),
+        done("one cell under 1,024 heads", heads(1_024), 10.0, LONGEST),
+        done("one cell under 4,096 heads", heads(4_096), 6.5, LONGEST),
+        done("16,384 seeds apart", apart(16_384), 1.8, LONGEST),
+        done("65,536 seeds apart", apart(65_536), 1.8, LONGEST),
+        done("around the cell (0, 0, 0) under head 0", seeds(vec![0]), 110.0, LONGEST),
+        done("lists filled to 99.8 %", rows_nearest(65_536), 56.3, LONGEST),
+    ]
+}
+
+// Milliseconds, and the rows of the result or the places that were not enough.
+fn measured(m: &March) -> (f64, usize) {
+    let (mut keys, mut distances) = (vec![0; m.places], vec![0.0; m.places]);
+    let (mut estimates, mut cells) = (vec![0.0; m.waiting], vec![0; m.waiting]);
+    let ones = vec![1.0; m.keys.len()];
+    let table = Table { keys: &m.keys, distances: &m.distances, weights: &ones, count: m.keys.len() };
+    let settings = Settings { max_distance: m.far, ..last_settings() };
+    let (mut rows, mut takings) = (0, 0);
+    let ms = best(|| {
+        let answer = (FACE.compute_from_tsdf)(settings, table, SIZE, &mut keys, &mut distances, &mut estimates, &mut cells, &mut rows, &mut takings);
+        assert!(answer == m.answer, "{}: answer {answer}", m.name);
+    });
+    match m.answer {
+        NO_PLACE => (ms, m.places),
+        NO_WAITING_PLACE => (ms, m.waiting),
+        _ => (ms, rows),
+    }
+}
+
+pub fn tell() {
+    println!("| march | rows, or places that were not enough | ms | ns each | beside the ordinary one |");
+    println!("|---|---|---|---|---|");
+    let mut ordinary = None;
+    for m in marches() {
+        let (ms, each) = measured(&m);
+        let ns = ms * 1e6 / each as f64;
+        let beside = ns / *ordinary.get_or_insert(ns);
+        println!("| {} | {each} | {ms:.1} | {ns:.0} | {beside:.2} |", m.name);
+    }
+}
