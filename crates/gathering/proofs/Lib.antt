@@ -1,6 +1,7 @@
 pub mod PutLaws
+pub mod SeatLaws
 pub mod Placing
-pub mod Columns
+pub mod Seated
 pub mod Settling
-pub mod LoadLaws
-pub mod Turns
+pub mod Sliding
+pub mod Filling

@@ -3,7 +3,7 @@
 use mathlib.Core.Path.{_≡_, refl, sym, ap, _∙_}
 use mathlib.Core.Logic.{_⊎_, inl, inr}
 use mathlib.Core.Bool.{Bool, true, false, cond}
-use mathlib.Core.List.{List, [], _∷_, _++_}
+use mathlib.Core.List.{List, [], _∷_}
 use Prim.Native.Nat.{ℕ, zero, suc, _<_, _≤_, zero-le, suc-le-suc}
 use native.Mathlib.Nat.{not-suc-le-zero, le-of-suc-le-suc}
 use native.Mathlib.Omega.{arith}
@@ -12,7 +12,6 @@ use lib.Dec.{ltb, eqb}
 use lib.ListN.{length, getD, set, length-map}
 use lib.Ieee.{Float, nan}
 use Rattle.lists.proofs.Bools.{cases}
-use Rattle.lists.specs.Lists.{All}
 use Rattle.search.specs.declared.Found.the-variants.{At, Absent}
 use Rattle.search.specs.Keys.{ascending, find, next}
 use Rattle.table.specs.Table.{Row, put}
@@ -160,35 +159,6 @@ no-shorter r (x ∷ l) = go (no-shorter r l) (three (x .key) (r .key))
     go ih (inr (inl q)) = rw (here r x l q) (omega arith)
     go ih (inr (inr q)) = rw (front r x l q) (omega arith)
 
--- ---- at the end
-
--- every key is below k
-abbrev pub Under : ℕ → List Row → Type 0
-Under k l = All (λ (r : Row). r .key < k) l
-
-pub put-past : (r x : Row) (l : List Row) → r .key < x .key → put r (l ++ x ∷ []) ≡ put r l ++ x ∷ []
-unfolding put
-put-past r x [] h = front r x [] h
-put-past r x (y ∷ l) h = go (put-past r x l h) (three (y .key) (r .key))
-  where
-    go :
-        put r (l ++ x ∷ []) ≡ put r l ++ x ∷ []
-        → (y .key < r .key) ⊎ ((y .key ≡ r .key) ⊎ (r .key < y .key))
-        → put r (y ∷ (l ++ x ∷ [])) ≡ put r (y ∷ l) ++ x ∷ []
-    go ih (inl q) = rw (past r y (l ++ x ∷ []) q, past r y l q, ih)
-    go ih (inr (inl q)) = rw (here r y (l ++ x ∷ []) q, here r y l q)
-    go ih (inr (inr q)) = rw (front r y (l ++ x ∷ []) q, front r y l q)
-
-pub put-end : (r : Row) (l : List Row) → Under (r .key) l → put r l ≡ l ++ r ∷ []
-unfolding put All
-put-end r [] u = refl
-put-end r (x ∷ l) u = past r x l (u .0) ∙ ap {B = List Row} (λ t. x ∷ t) (put-end r l (u .1))
-
-pub put-last : (r x : Row) (l : List Row) → x .key ≡ r .key → Under (r .key) l → put r (l ++ x ∷ []) ≡ l ++ r ∷ []
-unfolding put All
-put-last r x [] e u = here r x [] e
-put-last r x (y ∷ l) e u = past r y (l ++ x ∷ []) (u .0) ∙ ap {B = List Row} (λ t. y ∷ t) (put-last r x l e (u .1))
-
 -- ---- several rows
 
 module _ (most : Float) where
@@ -245,43 +215,3 @@ module _ (most : Float) where
       by-first (λ t. find k (keysOf t) ≡ Absent) x own rs
       (λ w. absent-put k x (puts most own rs) (h 0 (suc-le-suc zero-le) w) (puts-absent own rs k (λ q l. h (suc q) (suc-le-suc l)) a))
       (λ w. puts-absent own rs k (λ q l. h (suc q) (suc-le-suc l)) a)
-
-  pub puts-no-shorter : (own rs : List Row) → length rs ≤ length (puts most own rs)
-  unfolding puts
-  puts-no-shorter [] rs = omega arith
-  puts-no-shorter (x ∷ own) rs =
-      by-first (λ t. length rs ≤ length t) x own rs
-      (λ w. omega (arith, no-shorter x (puts most own rs), puts-no-shorter own rs))
-      (λ w. puts-no-shorter own rs)
-
-  -- a row above all own rows stays last
-  pub puts-past : (own rs : List Row) (x : Row) → Under (x .key) own → puts most own (rs ++ x ∷ []) ≡ puts most own rs ++ x ∷ []
-  unfolding puts All
-  puts-past [] rs x u = refl
-  puts-past (r ∷ own) rs x u =
-      by-first (λ t. puts most (r ∷ own) (rs ++ x ∷ []) ≡ t ++ x ∷ []) r own rs
-      (λ w. puts-stands r own (rs ++ x ∷ []) w ∙ ap (put r) (puts-past own rs x (u .1)) ∙ put-past r x (puts most own rs) (u .0))
-      (λ w. puts-waits r own (rs ++ x ∷ []) w ∙ puts-past own rs x (u .1))
-
-  -- the last own row, which stands, goes to the end
-  pub puts-last :
-      (own rs qs : List Row) (r : Row)
-      → Under (r .key) own
-      → standing most (r .weight) ≡ true
-      → put r rs ≡ qs ++ r ∷ []
-      → puts most (own ++ r ∷ []) rs ≡ puts most own qs ++ r ∷ []
-  unfolding puts All
-  puts-last [] rs qs r u s e = puts-stands r [] rs s ∙ e
-  puts-last (x ∷ own) rs qs r u s e =
-      by-first (λ t. puts most (x ∷ (own ++ r ∷ [])) rs ≡ t ++ r ∷ []) x own qs
-      (λ w. puts-stands x (own ++ r ∷ []) rs w ∙ ap (put x) (puts-last own rs qs r (u .1) s e) ∙ put-past x r (puts most own qs) (u .0))
-      (λ w. puts-waits x (own ++ r ∷ []) rs w ∙ puts-last own rs qs r (u .1) s e)
-
-  -- the last own row waits
-  pub puts-drops : (own rs : List Row) (r : Row) → standing most (r .weight) ≡ false → puts most (own ++ r ∷ []) rs ≡ puts most own rs
-  unfolding puts
-  puts-drops [] rs r s = puts-waits r [] rs s
-  puts-drops (x ∷ own) rs r s =
-      by-first (λ t. puts most (x ∷ (own ++ r ∷ [])) rs ≡ t) x own rs
-      (λ w. puts-stands x (own ++ r ∷ []) rs w ∙ ap (put x) (puts-drops own rs r s))
-      (λ w. puts-waits x (own ++ r ∷ []) rs w ∙ puts-drops own rs r s)

@@ -1,16 +1,12 @@
 -- Own rows beside a table, and what settling them makes of it.
-use Prim.Native.Nat.{ℕ, _<_}
-use mathlib.Core.Path.{_≡_}
+use Prim.Native.Nat.{ℕ, _+_, _-_, _/_, _<_, _≤_}
 use mathlib.Core.Bool.{Bool, cond}
-use mathlib.Core.List.{List, [], _∷_}
-use lib.ListN.{getD, take}
-use lib.Ieee.{Float, nan}
-use Rattle.floats.specs.Floats.{f32, zero32, between}
-use Rattle.search.specs.declared.Found.{Found}
-use Rattle.search.specs.declared.Found.the-variants.{At, Absent}
-use Rattle.search.specs.Keys.{find}
-use Rattle.table.specs.Table.{Row, Table, put}
-use Rattle.gathering.specs.declared.Values.{Values}
+use mathlib.Core.List.{List, [], _∷_, _++_, map}
+use lib.Dec.{ltb, eqb}
+use lib.ListN.{getD, take, drop}
+use lib.Ieee.{Float}
+use Rattle.floats.specs.Floats.{zero32, between}
+use Rattle.table.specs.Table.{Row, put}
 
 -- a weight in range: its row stands
 abbrev pub standing : Float → Float → Bool
@@ -21,15 +17,52 @@ unfoldable pub puts : Float → List Row → List Row → List Row
 puts most [] rs = rs
 puts most (r ∷ own) rs = cond (standing most (r .weight)) (put r (puts most own rs)) (puts most own rs)
 
--- the values of a found row; those of a waiting one where it is not there
-unfoldable pub valuesAt : Found → List Float → List Float → Values
-valuesAt (At i) ds ws = record { distance = getD ds i nan; weight = getD ws i nan }
-valuesAt Absent ds ws = record { distance = zero32; weight = f32 0xBF80_0000 }
+-- ---- seats: 0 is that of a row that waits, 2p + 1 is before the row at p, and 2p + 2 over it
 
--- each of the first n own keys has the values of its row
-abbrev pub Loaded : Table → List ℕ → List Float → List Float → ℕ → Type 0
-Loaded t ks ds ws n =
-    (i : ℕ)
-    → i < n
-    → (record { distance = getD ds i nan; weight = getD ws i nan })
-    ≡ valuesAt (find (getD ks i 0) (take (t .count) (t .keys))) (t .distances) (t .weights)
+-- how many rows are below a seat
+abbrev pub below : ℕ → ℕ
+below s = (s - 1) / 2
+
+-- the place of the first row above a seat
+abbrev pub above : ℕ → ℕ
+above s = s / 2
+
+-- the seat of k: over the row with its key, or before the first with a larger key
+unfoldable pub seatOf : ℕ → List ℕ → ℕ
+seatOf k [] = 1
+seatOf k (l ∷ ls) = cond (ltb l k) (seatOf k ls + 2) (cond (eqb l k) 2 1)
+
+-- the seats of own keys among the keys ks
+abbrev pub seatsOf : List ℕ → List ℕ → List ℕ
+seatsOf ks own = map (λ (k : ℕ). seatOf k ks) own
+
+-- own rows whose weight is not in range wait
+unfoldable pub heldBack : Float → List Float → List ℕ → List ℕ
+heldBack most [] ss = ss
+heldBack most (w ∷ ws) [] = []
+heldBack most (w ∷ ws) (s ∷ ss) = cond (standing most w) s 0 ∷ heldBack most ws ss
+
+-- the first m seats are among n rows
+abbrev pub Within : ℕ → List ℕ → ℕ → Type 0
+Within n ss m = (i : ℕ) → i < m → above (getD ss i 0) ≤ n
+
+-- no earlier seat of the first m takes or passes a row above a later one
+abbrev pub InOrder : List ℕ → ℕ → Type 0
+InOrder ss m = (i j : ℕ) → i < j → j < m → 0 < getD ss j 0 → above (getD ss i 0) ≤ below (getD ss j 0)
+
+-- ---- a column, whatever it holds
+
+-- what a column holds at a seat that is over a row, and otherwise `absent`
+unfoldable pub valueAt : {A : Type 0} → List A → A → ℕ → A
+valueAt xs absent s = cond (ltb (below s) (above s)) (getD xs (below s) absent) absent
+
+abbrev pub loaded : {A : Type 0} → List A → A → List ℕ → List A
+loaded xs absent ss = map (λ (s : ℕ). valueAt xs absent s) ss
+
+-- a column with own values at their seats
+unfoldable pub seated : {A : Type 0} → List ℕ → List A → List A → List A
+seated [] vs xs = xs
+seated (s ∷ ss) [] xs = xs
+seated (s ∷ ss) (v ∷ vs) xs =
+    let ys = seated ss vs xs in
+    cond (eqb s 0) ys (take (below s) ys ++ v ∷ drop (above s) ys)

@@ -1,27 +1,32 @@
-// Own rows beside a table: the rows of a few ascending keys are loaded from it, changed apart, and settled into it in one walk.
-// A row whose weight is in range stands; the others wait, and are never settled.
+// Own rows beside a table, column by column: each own key gets a seat among the table's keys; by the seats a column's values
+// are loaded, and after they were changed apart they are settled into it in one walk. A row whose weight is in range stands;
+// the others wait, and are never settled. A further column takes one call of `load_` and one of `settle_` for its type of
+// element, and cites the same laws; one row alone is put into it by `set` or `inserted` (table/proofs/Laying: laid-set, laid-open).
 use floats::between;
-ghost use Prim.Native.Nat.{_≤_, _<_};
+ghost use Prim.Native.Nat.{_+_, _≤_};
 ghost use mathlib.Core.Path.{_≡_};
 ghost use mathlib.Core.Bool.{true};
-ghost use lib.ListN.{length, take, set};
-ghost use Rattle.search.specs.Keys.{ascending, find, placeOf};
-ghost use Rattle.table.specs.Table.{table, rowsOf, rows, lengthsOk, relaid};
-ghost use Rattle.gathering.specs.Gathering.{standing, puts, valuesAt, Loaded};
-ghost use Rattle.gathering.specs.Steps.{turnOf};
+ghost use lib.ListN.{length, take};
+ghost use Rattle.search.specs.Keys.{ascending, placeOf};
+ghost use Rattle.table.specs.Table.{laid};
+ghost use Rattle.gathering.specs.Gathering.{below, above, seatOf, seatsOf, valueAt, loaded, heldBack, seated, Within, InOrder};
+ghost use Rattle.gathering.specs.Steps.{slid};
 
-// A distance and a weight.
-pub struct Values {
-    pub distance: f32,
-    pub weight: f32,
+// How many rows are below a seat.
+fn rows_below(seat: usize) -> usize
+    ensures { λ r. ⌜ r ≡ below seat ⌝ }
+{
+    if seat == 0 {
+        return 0;
+    }
+    (seat - 1) / 2
 }
 
-// What the next turn of settling does: the table's last row moves, the last own row waits, or it is put, and the table
-// has that many rows left.
-enum Turn {
-    Move,
-    Skip,
-    Put(usize),
+// The place of the first row above a seat.
+fn first_above(seat: usize) -> usize
+    ensures { λ r. ⌜ r ≡ above seat ⌝ }
+{
+    seat / 2
 }
 
 // `start`, or 0 where the key before it is not below `key`.
@@ -57,168 +62,170 @@ fn place_from(keys: &[u64], count: usize, start: usize, key: u64) -> usize
     place
 }
 
-// What stands at `place`, where `key` has or would take its place; a waiting row's values where `key` is not there.
-fn values_at(
-    keys: &[u64],
-    distances: &[f32],
-    weights: &[f32],
-    count: usize,
-    place: usize,
-    key: u64,
-) -> Values
-    requires { ⌜ lengthsOk (length (now keys)) (length (now distances)) (length (now weights)) count ≡ true ⌝ }
-    requires { ⌜ ascending (take count (now keys)) ≡ true ⌝ }
-    requires { ⌜ place ≡ placeOf key (take count (now keys)) ⌝ }
-    ensures { λ r. ⌜ r ≡ valuesAt (find key (take count (now (keys .entry)))) (now (distances .entry)) (now (weights .entry)) ⌝ }
+// The seat of `key`, whose place is known.
+fn seat_at(keys: &[u64], count: usize, place: usize, key: u64) -> usize
+    requires { ⌜ (count ≤ length (now keys)) × (length (now keys) ≤ 65536) × (place ≡ placeOf key (take count (now keys))) ⌝ }
+    ensures { λ r. ⌜ r ≡ seatOf key (take count (now (keys .entry))) ⌝ }
 {
-    let waiting = Values {
-        distance: 0.0,
-        weight: f32::from_bits(0xBF80_0000),
-    };
+    let before = 2 * place + 1;
     if count <= place {
-        return waiting;
+        return before;
     }
     if keys[place] != key {
-        return waiting;
+        return before;
     }
-    Values {
-        distance: distances[place],
-        weight: weights[place],
-    }
+    before + 1
 }
 
-// The values of each own key.
-pub fn load(
-    keys: &[u64],
-    distances: &[f32],
-    weights: &[f32],
-    count: usize,
-    own_keys: &[u64],
-    own_distances: &mut [f32],
-    own_weights: &mut [f32],
-    own: usize,
-)
-    requires { ⌜ lengthsOk (length (now keys)) (length (now distances)) (length (now weights)) count ≡ true ⌝ }
-    requires { ⌜ ascending (take count (now keys)) ≡ true ⌝ }
-    requires { ⌜ lengthsOk (length (now «own_keys»)) (length (now «own_distances»)) (length (now «own_weights»)) own ≡ true ⌝ }
-    ensures { λ _. ⌜ Loaded (table (now (keys .entry)) (now (distances .entry)) (now (weights .entry)) count)
-        (now («own_keys» .entry)) (now («own_distances» .exit)) (now («own_weights» .exit)) own ⌝ }
+// The seat of each own key among the first `count` keys.
+pub fn locate(keys: &[u64], count: usize, own_keys: &[u64], seats: &mut [usize], own: usize)
+    requires { ⌜ (count ≤ length (now keys)) × (length (now keys) ≤ 65536) × (ascending (take count (now keys)) ≡ true) ⌝ }
+    requires { ⌜ (own ≤ length (now «own_keys»)) × (own ≤ length (now seats)) ⌝ }
+    ensures { λ _. ⌜ take own (now (seats .exit)) ≡ seatsOf (take count (now (keys .entry))) (take own (now («own_keys» .entry))) ⌝ }
 {
     let mut place = 0;
     let mut i = 0;
     while i < own {
         let key = own_keys[i];
         place = place_from(keys, count, place, key);
-        let values = values_at(keys, distances, weights, count, place, key);
-        own_distances[i] = values.distance;
-        own_weights[i] = values.weight;
+        seats[i] = seat_at(keys, count, place, key);
         i += 1;
     }
 }
 
-// What is next: the first `rows` rows of the table are left, and `key` is the last of the own keys.
-fn next_turn(most: f32, keys: &[u64], rows: usize, key: u64, weight: f32) -> Turn
-    requires { ⌜ rows ≤ length (now keys) ⌝ }
-    ensures { λ r. ⌜ r ≡ turnOf (standing most weight) (now (keys .entry)) rows key ⌝ }
+// A column's value at a seat that is over a row, and otherwise `absent`.
+fn value_f32(column: &[f32], seat: usize, absent: f32) -> f32
+    requires { ⌜ above seat ≤ length (now column) ⌝ }
+    ensures { λ r. ⌜ r ≡ valueAt (now (column .entry)) absent seat ⌝ }
 {
-    if 0 < rows {
-        let last = rows - 1;
-        if key < keys[last] {
-            return Turn::Move;
-        }
-        if !between(0.0, most, weight) {
-            return Turn::Skip;
-        }
-        if keys[last] == key {
-            return Turn::Put(last);
-        }
-        return Turn::Put(rows);
+    let place = rows_below(seat);
+    if place < first_above(seat) {
+        return column[place];
     }
-    if !between(0.0, most, weight) {
-        return Turn::Skip;
-    }
-    Turn::Put(rows)
+    absent
 }
 
-// A row into the three lists.
-fn write_row(
-    keys: &mut [u64],
-    distances: &mut [f32],
-    weights: &mut [f32],
-    place: usize,
-    key: u64,
-    distance: f32,
-    weight: f32,
+// The own values of a column, by the seats.
+pub fn load_f32(
+    column: &[f32],
+    seats: &[usize],
+    own_column: &mut [f32],
+    own: usize,
+    absent: f32,
 )
-    requires { ⌜ (place < length (now keys)) × (length (now distances) ≡ length (now keys)) × (length (now weights) ≡ length (now keys)) ⌝ }
-    ensures { λ _. ⌜ (now (keys .exit) ≡ set (now (keys .entry)) place key)
-        × (now (distances .exit) ≡ set (now (distances .entry)) place distance)
-        × (now (weights .exit) ≡ set (now (weights .entry)) place weight) ⌝ }
+    requires { ⌜ (own ≤ length (now seats)) × (own ≤ length (now «own_column»)) ⌝ }
+    requires { ⌜ Within (length (now column)) (now seats) own ⌝ }
+    ensures { λ _. ⌜ take own (now («own_column» .exit)) ≡ loaded (now (column .entry)) absent (take own (now (seats .entry))) ⌝ }
 {
-    keys[place] = key;
-    distances[place] = distance;
-    weights[place] = weight;
+    let mut i = 0;
+    while i < own {
+        own_column[i] = value_f32(column, seats[i], absent);
+        i += 1;
+    }
 }
 
-// The own rows that stand, settled among the table's first `count` rows, from the last down; `total` rows result.
-pub fn settle(
-    most: f32,
-    keys: &mut [u64],
-    distances: &mut [f32],
-    weights: &mut [f32],
+// The own rows whose weight is not in range wait.
+pub fn hold_back(most: f32, own_weights: &[f32], seats: &mut [usize], own: usize)
+    requires { ⌜ (own ≤ length (now «own_weights»)) × (own ≤ length (now seats)) ⌝ }
+    ensures { λ _. ⌜ now (seats .exit) ≡ heldBack most (take own (now («own_weights» .entry))) (now (seats .entry)) ⌝ }
+{
+    let mut i = 0;
+    while i < own {
+        if !between(0.0, most, own_weights[i]) {
+            seats[i] = 0;
+        }
+        i += 1;
+    }
+}
+
+// What stands from `from` up to `end`, moved up so that it ends at `to`; the answer is where it then begins.
+fn slide_u64(list: &mut [u64], from: usize, end: usize, to: usize) -> usize
+    requires { ⌜ (from ≤ end) × (end ≤ to) × (to ≤ length (now list)) ⌝ }
+    ensures { λ r. ⌜ (r + end ≡ to + from) × (now (list .exit) ≡ slid (now (list .entry)) r from end to) ⌝ }
+{
+    if end == to {
+        return from;
+    }
+    let mut i = end;
+    let mut place = to;
+    while from < i {
+        i -= 1;
+        place -= 1;
+        list[place] = list[i];
+    }
+    place
+}
+
+fn slide_f32(list: &mut [f32], from: usize, end: usize, to: usize) -> usize
+    requires { ⌜ (from ≤ end) × (end ≤ to) × (to ≤ length (now list)) ⌝ }
+    ensures { λ r. ⌜ (r + end ≡ to + from) × (now (list .exit) ≡ slid (now (list .entry)) r from end to) ⌝ }
+{
+    if end == to {
+        return from;
+    }
+    let mut i = end;
+    let mut place = to;
+    while from < i {
+        i -= 1;
+        place -= 1;
+        list[place] = list[i];
+    }
+    place
+}
+
+// The own values of a column, settled by the seats among its first `count`, from the last down; `total` result.
+pub fn settle_u64(
+    column: &mut [u64],
     count: usize,
-    own_keys: &[u64],
-    own_distances: &[f32],
-    own_weights: &[f32],
+    seats: &[usize],
+    own_column: &[u64],
     own: usize,
     total: usize,
 )
-    requires { ⌜ lengthsOk (length (now keys)) (length (now distances)) (length (now weights)) count ≡ true ⌝ }
-    requires { ⌜ lengthsOk (length (now «own_keys»)) (length (now «own_distances»)) (length (now «own_weights»)) own ≡ true ⌝ }
-    requires { ⌜ (ascending (take count (now keys)) ≡ true) × (ascending (take own (now «own_keys»)) ≡ true) ⌝ }
-    requires { ⌜ (total ≡ length (puts most (rowsOf (now «own_keys») (now «own_distances») (now «own_weights») own)
-        (rowsOf (now keys) (now distances) (now weights) count)))
-        × (total ≤ length (now keys)) ⌝ }
-    ensures { λ _. ⌜ table (now (keys .exit)) (now (distances .exit)) (now (weights .exit)) total
-        ≡ relaid (table (now (keys .entry)) (now (distances .entry)) (now (weights .entry)) count)
-        (puts most (rowsOf (now («own_keys» .entry)) (now («own_distances» .entry)) (now («own_weights» .entry)) own)
-        (rowsOf (now (keys .entry)) (now (distances .entry)) (now (weights .entry)) count)) ⌝ }
+    requires { ⌜ (count ≤ length (now column)) × (own ≤ length (now seats)) × (own ≤ length (now «own_column»)) ⌝ }
+    requires { ⌜ Within count (now seats) own × InOrder (now seats) own ⌝ }
+    requires { ⌜ (total ≡ length (seated (take own (now seats)) (take own (now «own_column»)) (take count (now column)))) × (total ≤ length (now column)) ⌝ }
+    ensures { λ _. ⌜ now (column .exit) ≡ laid (seated (take own (now (seats .entry))) (take own (now («own_column» .entry)))
+        (take count (now (column .entry)))) (now (column .entry)) ⌝ }
 {
     let mut rows = count;
     let mut left = own;
     let mut place = total;
     while 0 < left {
-        let last = left - 1;
-        let key = own_keys[last];
-        let weight = own_weights[last];
-        let next = next_turn(most, keys, rows, key, weight);
-        match next {
-            Turn::Move => {
-                rows -= 1;
-                place -= 1;
-                let moved_key = keys[rows];
-                let moved_distance = distances[rows];
-                let moved_weight = weights[rows];
-                write_row(
-                    keys,
-                    distances,
-                    weights,
-                    place,
-                    moved_key,
-                    moved_distance,
-                    moved_weight,
-                );
-            }
-            Turn::Skip => {
-                left = last;
-            }
-            Turn::Put(rest) => {
-                rows = rest;
-                left = last;
-                place -= 1;
-                let distance = own_distances[last];
-                write_row(keys, distances, weights, place, key, distance, weight);
-            }
+        left -= 1;
+        let seat = seats[left];
+        if seat != 0 {
+            place = slide_u64(column, first_above(seat), rows, place) - 1;
+            column[place] = own_column[left];
+            rows = rows_below(seat);
+        }
+    }
+}
+
+pub fn settle_f32(
+    column: &mut [f32],
+    count: usize,
+    seats: &[usize],
+    own_column: &[f32],
+    own: usize,
+    total: usize,
+)
+    requires { ⌜ (count ≤ length (now column)) × (own ≤ length (now seats)) × (own ≤ length (now «own_column»)) ⌝ }
+    requires { ⌜ Within count (now seats) own × InOrder (now seats) own ⌝ }
+    requires { ⌜ (total ≡ length (seated (take own (now seats)) (take own (now «own_column»)) (take count (now column)))) × (total ≤ length (now column)) ⌝ }
+    ensures { λ _. ⌜ now (column .exit) ≡ laid (seated (take own (now (seats .entry))) (take own (now («own_column» .entry)))
+        (take count (now (column .entry)))) (now (column .entry)) ⌝ }
+{
+    let mut rows = count;
+    let mut left = own;
+    let mut place = total;
+    while 0 < left {
+        left -= 1;
+        let seat = seats[left];
+        if seat != 0 {
+            place = slide_f32(column, first_above(seat), rows, place) - 1;
+            column[place] = own_column[left];
+            rows = rows_below(seat);
         }
     }
 }
