@@ -5,3 +5,5 @@ pub mod Seated
 pub mod Settling
 pub mod Sliding
 pub mod Filling
+pub mod LoadLaws
+pub mod Planning

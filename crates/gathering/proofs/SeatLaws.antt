@@ -2,7 +2,7 @@
 -- Assumes nothing.
 use mathlib.Core.Path.{_≡_, refl, sym, ap, _∙_}
 use mathlib.Core.Logic.{_⊎_, inl, inr}
-use mathlib.Core.Bool.{Bool, cond, _&&_, and-false}
+use mathlib.Core.Bool.{Bool, true, cond, _&&_, and-false}
 use mathlib.Core.List.{List, [], _∷_, _++_}
 use Prim.Native.Nat.{ℕ, zero, suc, _+_, _-_, _*_, _/_, _<_, _≤_, zero-le, suc-le-suc}
 use native.Mathlib.Omega.{arith}
@@ -12,8 +12,9 @@ use lib.ListN.{length, getD, take, drop}
 use lib.Seq.{length-take-le, getD-take}
 use lib.Ieee.{Float}
 use Rattle.lists.proofs.Bools.{cases}
-use Rattle.search.specs.Keys.{placeOf}
-use Rattle.search.proofs.KeyLaws.{place-length}
+use Rattle.search.specs.declared.Found.the-variants.{At, Absent}
+use Rattle.search.specs.Keys.{ascending, placeOf, find, findBy}
+use Rattle.search.proofs.KeyLaws.{place-length, halved-place, findBy-find}
 use Rattle.table.specs.Table.{Row, put}
 use Rattle.table.specs.Rows.{keysOf}
 use Rattle.gathering.specs.Gathering.{puts, below, above, seatOf}
@@ -136,6 +137,23 @@ seat-place k (l ∷ ls) =
     rw (leb·suc-suc (suc (placeOf k ls)) (length ls), seat-place k ls)
     (seat-next (ltb (placeOf k ls) (length ls) && eqb (getD ls (placeOf k ls) 0) k) (placeOf k ls)))
     (λ e. rw (lt-ltb 0 (suc (length ls)) (suc-le-suc zero-le)) refl)
+
+by-over :
+    (b : Bool) (p s : ℕ)
+    → s ≡ seatBy b p
+    → cond b (At p) Absent ≡ cond (ltb (below s) (above s)) (At (below s)) Absent
+by-over b p s =
+    cases (λ (t : Bool). s ≡ seatBy t p → cond t (At p) Absent ≡ cond (ltb (below s) (above s)) (At (below s)) Absent) b
+    (λ c e. let q : below s ≡ p = omega arith in rw (lt-ltb (below s) (above s) (omega arith), q) refl)
+    (λ c e. rw (le-ltb (below s) (above s) (omega arith)) refl)
+
+-- on ascending keys a seat over a row is where its key is found
+pub seat-find : (k : ℕ) (ks : List ℕ) → ascending ks ≡ true → find k ks ≡ cond (ltb (below (seatOf k ks)) (above (seatOf k ks))) (At (below (seatOf k ks))) Absent
+unfolding findBy
+seat-find k ks a =
+    sym (findBy-find k ks a)
+    ∙ rw (halved-place k ks a)
+    (by-over (ltb (placeOf k ks) (length ks) && eqb (getD ks (placeOf k ks) 0) k) (placeOf k ks) (seatOf k ks) (seat-place k ks))
 
 -- the same of the first n of a list
 module _ (k : ℕ) (ks : List ℕ) (n p : ℕ) (g : n ≤ length ks) (e : p ≡ placeOf k (take n ks)) where

@@ -1,12 +1,13 @@
 -- Own rows beside a table, and what settling them makes of it.
 use Prim.Native.Nat.{ℕ, _+_, _-_, _/_, _<_, _≤_}
+use mathlib.Core.Path.{_≡_}
 use mathlib.Core.Bool.{Bool, cond}
 use mathlib.Core.List.{List, [], _∷_, _++_, map}
 use lib.Dec.{ltb, eqb}
 use lib.ListN.{getD, take, drop}
 use lib.Ieee.{Float}
-use Rattle.floats.specs.Floats.{zero32, between}
-use Rattle.table.specs.Table.{Row, put}
+use Rattle.floats.specs.Floats.{f32, zero32, between}
+use Rattle.table.specs.Table.{Row, Table, put}
 
 -- a weight in range: its row stands
 abbrev pub standing : Float → Float → Bool
@@ -66,3 +67,11 @@ seated (s ∷ ss) [] xs = xs
 seated (s ∷ ss) (v ∷ vs) xs =
     let ys = seated ss vs xs in
     cond (eqb s 0) ys (take (below s) ys ++ v ∷ drop (above s) ys)
+
+-- ---- the rows of a table
+
+-- the first n own keys have their seats, and their own rows the values there: those of a waiting row where there is none
+pub record Loaded (t : Table) (ss ks : List ℕ) (ds ws : List Float) (n : ℕ) : Type 0 where
+  pub seats : take n ss ≡ seatsOf (take (t .count) (t .keys)) (take n ks)
+  pub distances : take n ds ≡ loaded (t .distances) zero32 (take n ss)
+  pub weights : take n ws ≡ loaded (t .weights) (f32 0xBF80_0000) (take n ss)

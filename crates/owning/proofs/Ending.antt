@@ -6,15 +6,15 @@ use mathlib.Core.List.{List}
 use Prim.Native.Nat.{ℕ, _+_, _≤_}
 use native.Mathlib.Nat.{add-zero}
 use borrow.Author.Tests.{le-leb}
-use lib.ListN.{length, take, take-append-drop}
+use lib.ListN.{length, take}
 use lib.Ieee.{Float}
 use Rattle.gathering.specs.Gathering.{puts, Loaded}
-use Rattle.gathering.proofs.Columns.{tables-laid}
 use Rattle.gathering.proofs.LoadLaws.{puts-loaded, waits-loaded}
+use Rattle.gathering.proofs.Planning.{relaid-same}
 use Rattle.table.specs.declared.Settings.{Settings}
 use Rattle.table.specs.declared.Checked.the-variants.{Passed}
 use Rattle.search.specs.Keys.{ascending}
-use Rattle.table.specs.Table.{Table, table, beside, rowsOf, rows, lengthsOk, tableCheck, relaid}
+use Rattle.table.specs.Table.{Table, table, rowsOf, rows, lengthsOk, tableCheck, relaid}
 use Rattle.table.proofs.RowLaws.{lengths-known}
 use Rattle.table.proofs.Checking.{sound}
 use Rattle.table.proofs.Putting.{rows-length}
@@ -36,18 +36,15 @@ module _ (s : Settings) (ks : List ℕ) (ds ws : List Float) (n : ℕ) (passed :
   fit : (n ≤ length ks) × (length ds ≡ length ks) × (length ws ≡ length ks) × (length ks ≤ 65536)
   fit = lengths-known (length ks) (length ds) (length ws) n known
 
-  -- a table's own rows
-  relaid-same : relaid t (rows t) ≡ t
-  relaid-same =
-      let l = rows-length ks ds ws n known in
-      sym (tables-laid ks ks ds ws ds ws n (rows t) (fit .1) (fit .2) (fit .1) (fit .2) (rw l (sym (take-append-drop n (beside ks ds ws)))))
-      ∙ ap (table ks ds ws) l
-
-  module _ (oks : List ℕ) (ods ows : List Float) (own : ℕ) (p : length oks ≡ 4096) (q : length ods ≡ 4096)
+  module _ (ss oks : List ℕ) (ods ows : List Float) (own : ℕ) (o : length ss ≡ 4096) (p : length oks ≡ 4096) (q : length ods ≡ 4096)
       (r : length ows ≡ 4096) (few : own ≤ 4096) (up : ascending (take own oks) ≡ true)
-      (loaded : Loaded t oks ods ows own) where
+      (loaded : Loaded t ss oks ods ows own) where
+    nothing-new : puts (s .«max_weight») (rowsOf oks ods ows own) (rows t) ≡ rows t
+    nothing-new =
+        puts-loaded (s .«max_weight») ks ds ws n known (sound s t passed .order) ss oks ods ows own (rw o few) (rw q few) (rw r few) loaded
+
     over-same : over s t oks ods ows own ≡ t
-    over-same = ap (relaid t) (puts-loaded (s .«max_weight») ks ds ws n known (sound s t passed .order) oks ods ows own loaded) ∙ relaid-same
+    over-same = ap (relaid t) nothing-new ∙ relaid-same ks ds ws n known
 
     pub ready : Ready s t oks ods ows own 0
     ready =
@@ -56,12 +53,10 @@ module _ (s : Settings) (ks : List ℕ) (ds ws : List Float) (n : ℕ) (passed :
           again = ap (tableCheck s) over-same ∙ passed;
           lengths = own-fits (length oks) (length ods) (length ows) own p q r few;
           order = up;
-          waits = waits-loaded (s .«max_weight») ks ds ws n known (sound s t passed .order) (sound s t passed .ranges) oks ods ows own loaded;
-          many =
-              ap length
-              (puts-loaded (s .«max_weight») ks ds ws n known (sound s t passed .order) oks ods ows own loaded)
-              ∙ rows-length ks ds ws n known
-              ∙ sym (add-zero n);
+          waits =
+              waits-loaded (s .«max_weight») ks ds ws n known (sound s t passed .order) ss oks ods ows own (rw o few) (rw q few) (rw r few) loaded
+              (sound s t passed .ranges);
+          many = ap length nothing-new ∙ rows-length ks ds ws n known ∙ sym (add-zero n);
           fits = rw (add-zero n) (fit .0);
         }
 

@@ -15,7 +15,7 @@ use lib.Ieee.{Float, nan, lt}
 use Rattle.floats.specs.Floats.{zero32, one32, million, within, between}
 use Rattle.gathering.specs.Gathering.{standing, puts}
 use Rattle.gathering.proofs.PutLaws.{HasRow, has-put, longer, no-shorter, puts-set, puts-absent}
-use Rattle.gathering.proofs.Columns.{beside-set}
+use Rattle.lists.proofs.BesideLaws.{by-set}
 use Rattle.lists.proofs.Bools.{cases}
 use Rattle.refusals.specs.declared.Refusal.the-variants.{TooLarge}
 use Rattle.table.specs.declared.Settings.{Settings}
@@ -139,7 +139,7 @@ module _ (s : Settings) (t : Table) (ks : List ℕ) (ds ws : List Float) (own ad
   row-set d w =
       let e : set ks p k ≡ ks = rw (← at) (set-getD ks p 0) in
       ap (λ (l : List ℕ). take own (beside l (set ds p d) (set ws p w))) (sym e)
-      ∙ ap (take own) (beside-set ks ds ws p k d w (fit .1) (fit .2))
+      ∙ ap (take own) (by-set row ks ds ws p k d w (fit .1) (fit .2))
       ∙ take-set-lt own (beside ks ds ws) p (row k d w) inside
 
   -- a standing row there is put into both

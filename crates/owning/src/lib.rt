@@ -6,8 +6,11 @@ use fusing::Averaging;
 use fusing::Voxel;
 use fusing::averaging_of;
 use fusing::fused_voxel;
-use gathering::load;
-use gathering::settle;
+use gathering::hold_back;
+use gathering::load_f32;
+use gathering::locate;
+use gathering::settle_f32;
+use gathering::settle_u64;
 use measuring::Admitted;
 use measuring::Measured;
 use measuring::Reading;
@@ -22,7 +25,8 @@ ghost use mathlib.Core.Bool.{true};
 ghost use Prim.Native.Nat.{_+_, _<_, _≤_};
 ghost use lib.ListN.{length, take};
 ghost use Rattle.search.specs.Keys.{ascending};
-ghost use Rattle.table.specs.Table.{table, lengthsOk, settingsOk, tableCheck};
+ghost use Rattle.table.specs.Table.{table, rowsOf, lengthsOk, settingsOk, tableCheck, relaid};
+ghost use Rattle.gathering.specs.Gathering.{puts, seatsOf, Loaded};
 ghost use Rattle.batching.specs.Batches.{entry, entries};
 ghost use Rattle.sorting.specs.Sorting.{Numbered};
 ghost use Rattle.owning.specs.Runs.{oldVoxel, Placed, Stepped, OwnSlots, RanTo, RunTo};
@@ -241,6 +245,61 @@ fn end_of(len: usize, from: usize) -> usize
     if len - from < 4096 { len } else { from + 4096 }
 }
 
+// The seats of the own keys in the table, and the values of their rows; the weight of a waiting row is -1.
+fn load_own(
+    keys: &[u64],
+    distances: &[f32],
+    weights: &[f32],
+    count: usize,
+    own_keys: &[u64],
+    own_distances: &mut [f32],
+    own_weights: &mut [f32],
+    seats: &mut [usize],
+    own: usize,
+)
+    requires { ⌜ lengthsOk (length (now keys)) (length (now distances)) (length (now weights)) count ≡ true ⌝ }
+    requires { ⌜ (ascending (take count (now keys)) ≡ true) × (own ≤ length (now seats)) ⌝ }
+    requires { ⌜ lengthsOk (length (now «own_keys»)) (length (now «own_distances»)) (length (now «own_weights»)) own ≡ true ⌝ }
+    ensures { λ _. ⌜ Loaded (table (now (keys .entry)) (now (distances .entry)) (now (weights .entry)) count)
+        (now (seats .exit)) (now («own_keys» .entry)) (now («own_distances» .exit)) (now («own_weights» .exit)) own ⌝ }
+{
+    locate(keys, count, own_keys, seats, own);
+    load_f32(distances, seats, own_distances, own, 0.0);
+    load_f32(weights, seats, own_weights, own, f32::from_bits(0xBF80_0000));
+}
+
+// The own rows that stand, settled among the table's first `count` rows by their seats; `total` rows result.
+fn settle_own(
+    most: f32,
+    keys: &mut [u64],
+    distances: &mut [f32],
+    weights: &mut [f32],
+    count: usize,
+    own_keys: &[u64],
+    own_distances: &[f32],
+    own_weights: &[f32],
+    seats: &mut [usize],
+    own: usize,
+    total: usize,
+)
+    requires { ⌜ lengthsOk (length (now keys)) (length (now distances)) (length (now weights)) count ≡ true ⌝ }
+    requires { ⌜ lengthsOk (length (now «own_keys»)) (length (now «own_distances»)) (length (now «own_weights»)) own ≡ true ⌝ }
+    requires { ⌜ (ascending (take own (now «own_keys»)) ≡ true) × (own ≤ length (now seats))
+        × (take own (now seats) ≡ seatsOf (take count (now keys)) (take own (now «own_keys»))) ⌝ }
+    requires { ⌜ (total ≡ length (puts most (rowsOf (now «own_keys») (now «own_distances») (now «own_weights») own)
+        (rowsOf (now keys) (now distances) (now weights) count)))
+        × (total ≤ length (now keys)) ⌝ }
+    ensures { λ _. ⌜ table (now (keys .exit)) (now (distances .exit)) (now (weights .exit)) total
+        ≡ relaid (table (now (keys .entry)) (now (distances .entry)) (now (weights .entry)) count)
+        (puts most (rowsOf (now («own_keys» .entry)) (now («own_distances» .entry)) (now («own_weights» .entry)) own)
+        (rowsOf (now (keys .entry)) (now (distances .entry)) (now (weights .entry)) count)) ⌝ }
+{
+    hold_back(most, own_weights, seats, own);
+    settle_u64(keys, count, seats, own_keys, own, total);
+    settle_f32(distances, count, seats, own_distances, own, total);
+    settle_f32(weights, count, seats, own_weights, own, total);
+}
+
 // Up to 4,096 readings from `from` on, through own rows that are settled into the table in one walk.
 pub fn batch_run(
     settings: Settings,
@@ -266,9 +325,10 @@ pub fn batch_run(
     let mut own_distances = [0.0f32; 4096];
     let mut own_weights = [0.0f32; 4096];
     let mut slots = [0u16; 4096];
+    let mut seats = [0usize; 4096];
     let n = *count;
     let own = own_rows(&mut own_keys, &mut slots, batch_keys, from, to);
-    load(
+    load_own(
         keys,
         distances,
         weights,
@@ -276,6 +336,7 @@ pub fn batch_run(
         &own_keys,
         &mut own_distances,
         &mut own_weights,
+        &mut seats,
         own,
     );
     let ran = fuse_run(
@@ -294,7 +355,7 @@ pub fn batch_run(
     );
     let run = ran.run;
     let total = n + ran.added;
-    settle(
+    settle_own(
         settings.max_weight,
         keys,
         distances,
@@ -303,6 +364,7 @@ pub fn batch_run(
         &own_keys,
         &own_distances,
         &own_weights,
+        &mut seats,
         own,
         total,
     );

@@ -1,5 +1,6 @@
 -- `owning::batch_run` meets its contract: the rows are loaded, the readings fused into them, and the rows settled.
 -- Assumes nothing.
+use Prim.Native.Nat.{ℕ}
 use native.Mathlib.Omega.{arith}
 use borrow.Author.Tests.{le-leb}
 use lib.ListN.{length, length-replicate}
@@ -30,24 +31,27 @@ own-rows-requires c κs = (
   search needs,
 )
 
-slice-aggregate-load : tie.Need-slice-aggregate-load
-slice-aggregate-load c = search needs
+slice-aggregate-load-own : tie.Need-slice-aggregate-load-own
+slice-aggregate-load-own c = search needs
 
-slice-aggregate-load-2 : tie.Need-slice-aggregate-load-2
-slice-aggregate-load-2 c = search needs
+slice-aggregate-load-own-2 : tie.Need-slice-aggregate-load-own-2
+slice-aggregate-load-own-2 c = search needs
 
-slice-aggregate-load-3 : tie.Need-slice-aggregate-load-3
-slice-aggregate-load-3 c = search needs
+slice-aggregate-load-own-3 : tie.Need-slice-aggregate-load-own-3
+slice-aggregate-load-own-3 c = search needs
 
-load-requires : tie.Need-load-requires
-load-requires c κs =
-    let at-own-rows = c .before .before .before .before .before .before .before .before in
+slice-aggregate-load-own-4 : tie.Need-slice-aggregate-load-own-4
+slice-aggregate-load-own-4 c = search needs
+
+load-own-requires : tie.Need-load-own-requires
+load-own-requires c κs =
+    let at-own-rows = c .before .before .before .before .before .before .before .before .before in
     let s = at-own-rows .before .before .before .before .before .before .before .before .before .before .before in
     let k = sound (s .args .settings) (table (s .args .keys .now) (s .args .distances .now) (s .args .weights .now) (s .args .count .now)) (s .pre .0) in
     let f =
     lengths-known (length (s .args .keys .now)) (length (s .args .distances .now)) (length (s .args .weights .now))
     (s .args .count .now) (k .lengths) in
-    (k .lengths, (k .order, simp (at-own-rows .own-rows .kept .0, length-replicate, le-leb _ _ (at-own-rows .own-rows .ensures .0 .0))))
+    (k .lengths, ((k .order, rw length-replicate (at-own-rows .own-rows .ensures .0 .0)), simp (at-own-rows .own-rows .kept .0, length-replicate, le-leb _ _ (at-own-rows .own-rows .ensures .0 .0))))
 
 slice-aggregate-fuse-run : tie.Need-slice-aggregate-fuse-run
 slice-aggregate-fuse-run c = search needs
@@ -63,7 +67,7 @@ slice-aggregate-fuse-run-4 c = search needs
 
 sub-fuse-run : tie.Need-sub-fuse-run
 sub-fuse-run c =
-    let s = c .before .before .before .before .before .before .before .before .before .before .before .before .before .before .before .before .before .before .before .before .before .before .before .before .before .before in
+    let s = c .before .before .before .before .before .before .before .before .before .before .before .before .before .before .before .before .before .before .before .before .before .before .before .before .before .before .before .before in
     let k = sound (s .args .settings) (table (s .args .keys .now) (s .args .distances .now) (s .args .weights .now) (s .args .count .now)) (s .pre .0) in
     let f =
     lengths-known (length (s .args .keys .now)) (length (s .args .distances .now)) (length (s .args .weights .now))
@@ -72,8 +76,8 @@ sub-fuse-run c =
 
 fuse-run-requires : tie.Need-fuse-run-requires
 fuse-run-requires c κs =
-    let at-load = c .before .before .before .before .before .before in
-    let at-own-rows = at-load .before .before .before .before .before .before .before .before .before in
+    let at-load = c .before .before .before .before .before .before .before in
+    let at-own-rows = at-load .before .before .before .before .before .before .before .before .before .before in
     let at-end-of = at-own-rows .before .before .before .before in
     let s = at-own-rows .before .before .before .before .before .before .before .before .before .before .before in
     let k = sound (s .args .settings) (table (s .args .keys .now) (s .args .distances .now) (s .args .weights .now) (s .args .count .now)) (s .pre .0) in
@@ -84,8 +88,8 @@ fuse-run-requires c κs =
       (
         simp (
           at-own-rows .own-rows .kept .0,
-          at-load .load .kept .1 .1 .1 .1 .1 .0,
-          at-load .load .kept .1 .1 .1 .1 .1 .1 .0,
+          at-load .load-own .kept .1 .1 .1 .1 .1 .0,
+          at-load .load-own .kept .1 .1 .1 .1 .1 .1 .0,
           length-replicate,
           le-leb _ _ (at-own-rows .own-rows .ensures .0 .0),
         ),
@@ -98,8 +102,8 @@ fuse-run-requires c κs =
 
 add-total : tie.Need-add-total
 add-total c =
-    let at-load = c .before .before .before .before .before .before .before .before .before .before in
-    let at-own-rows = at-load .before .before .before .before .before .before .before .before .before in
+    let at-load = c .before .before .before .before .before .before .before .before .before .before .before in
+    let at-own-rows = at-load .before .before .before .before .before .before .before .before .before .before in
     let s = at-own-rows .before .before .before .before .before .before .before .before .before .before .before in
     let k = sound (s .args .settings) (table (s .args .keys .now) (s .args .distances .now) (s .args .weights .now) (s .args .count .now)) (s .pre .0) in
     let f =
@@ -108,27 +112,30 @@ add-total c =
     omega (
       arith,
       counted (s .args .settings) (s .args .keys .now) (s .args .distances .now) (s .args .weights .now)
-          (s .args .count .now) (s .pre .0) _ _ _ _ (at-own-rows .own-rows .kept .0)
-          (at-load .load .kept .1 .1 .1 .1 .1 .0) (at-load .load .kept .1 .1 .1 .1 .1 .1 .0)
-          (at-own-rows .own-rows .ensures .0 .0) (at-own-rows .own-rows .ensures .0 .1) (at-load .load .ensures) _ _ _ _ _ _
+          (s .args .count .now) (s .pre .0) _ _ _ _ _ (at-load .load-own .kept .1 .1 .1 .1 .1 .1 .1 .0) (at-own-rows .own-rows .kept .0)
+          (at-load .load-own .kept .1 .1 .1 .1 .1 .0) (at-load .load-own .kept .1 .1 .1 .1 .1 .1 .0)
+          (at-own-rows .own-rows .ensures .0 .0) (at-own-rows .own-rows .ensures .0 .1) (at-load .load-own .ensures) _ _ _ _ _ _
           (c .before .before .before .fuse-run .ensures) (omega (arith, f)) .1,
       f,
     )
 
-slice-aggregate-settle : tie.Need-slice-aggregate-settle
-slice-aggregate-settle c = search needs
+slice-aggregate-settle-own : tie.Need-slice-aggregate-settle-own
+slice-aggregate-settle-own c = search needs
 
-slice-aggregate-settle-2 : tie.Need-slice-aggregate-settle-2
-slice-aggregate-settle-2 c = search needs
+slice-aggregate-settle-own-2 : tie.Need-slice-aggregate-settle-own-2
+slice-aggregate-settle-own-2 c = search needs
 
-slice-aggregate-settle-3 : tie.Need-slice-aggregate-settle-3
-slice-aggregate-settle-3 c = search needs
+slice-aggregate-settle-own-3 : tie.Need-slice-aggregate-settle-own-3
+slice-aggregate-settle-own-3 c = search needs
 
-settle-requires : tie.Need-settle-requires
-settle-requires c κs =
-    let at-fuse-run = c .before .before .before .before .before .before .before .before .before in
-    let at-load = at-fuse-run .before .before .before .before .before .before .before in
-    let at-own-rows = at-load .before .before .before .before .before .before .before .before .before in
+slice-aggregate-settle-own-4 : tie.Need-slice-aggregate-settle-own-4
+slice-aggregate-settle-own-4 c = search needs
+
+settle-own-requires : tie.Need-settle-own-requires
+settle-own-requires c κs =
+    let at-fuse-run = c .before .before .before .before .before .before .before .before .before .before in
+    let at-load = at-fuse-run .before .before .before .before .before .before .before .before in
+    let at-own-rows = at-load .before .before .before .before .before .before .before .before .before .before in
     let s = at-own-rows .before .before .before .before .before .before .before .before .before .before .before in
     let k = sound (s .args .settings) (table (s .args .keys .now) (s .args .distances .now) (s .args .weights .now) (s .args .count .now)) (s .pre .0) in
     let f =
@@ -140,17 +147,21 @@ settle-requires c κs =
           at-own-rows .own-rows .kept .0,
           at-fuse-run .fuse-run .kept .1 .1 .0,
           at-fuse-run .fuse-run .kept .1 .1 .1 .0,
-          at-load .load .kept .1 .1 .1 .1 .1 .0,
-          at-load .load .kept .1 .1 .1 .1 .1 .1 .0,
+          at-load .load-own .kept .1 .1 .1 .1 .1 .0,
+          at-load .load-own .kept .1 .1 .1 .1 .1 .1 .0,
           length-replicate,
           le-leb _ _ (at-own-rows .own-rows .ensures .0 .0),
         ),
         (
-          (k .order, at-own-rows .own-rows .ensures .0 .1),
+          (
+            at-own-rows .own-rows .ensures .0 .1,
+            omega (arith, at-load .load-own .kept .1 .1 .1 .1 .1 .1 .1 .0, length-replicate {A = ℕ} 4096 0, at-own-rows .own-rows .ensures .0 .0),
+            at-load .load-own .ensures .seats,
+          ),
           counted (s .args .settings) (s .args .keys .now) (s .args .distances .now) (s .args .weights .now)
-              (s .args .count .now) (s .pre .0) _ _ _ _ (at-own-rows .own-rows .kept .0)
-              (at-load .load .kept .1 .1 .1 .1 .1 .0) (at-load .load .kept .1 .1 .1 .1 .1 .1 .0)
-              (at-own-rows .own-rows .ensures .0 .0) (at-own-rows .own-rows .ensures .0 .1) (at-load .load .ensures) _ _ _ _ _ _
+              (s .args .count .now) (s .pre .0) _ _ _ _ _ (at-load .load-own .kept .1 .1 .1 .1 .1 .1 .1 .0) (at-own-rows .own-rows .kept .0)
+              (at-load .load-own .kept .1 .1 .1 .1 .1 .0) (at-load .load-own .kept .1 .1 .1 .1 .1 .1 .0)
+              (at-own-rows .own-rows .ensures .0 .0) (at-own-rows .own-rows .ensures .0 .1) (at-load .load-own .ensures) _ _ _ _ _ _
               (at-fuse-run .fuse-run .ensures) (omega (arith, f)),
         ),
       ),
@@ -167,20 +178,20 @@ same-length-3 c = search needs
 
 returns : tie.Need-returns
 returns c =
-    let at-settle = c .before .before .before .before .before .before in
-    let at-fuse-run = at-settle .before .before .before .before .before .before .before .before .before .before in
-    let at-load = at-fuse-run .before .before .before .before .before .before .before in
-    let at-own-rows = at-load .before .before .before .before .before .before .before .before .before in
+    let at-settle = c .before .before .before .before .before .before .before in
+    let at-fuse-run = at-settle .before .before .before .before .before .before .before .before .before .before .before in
+    let at-load = at-fuse-run .before .before .before .before .before .before .before .before in
+    let at-own-rows = at-load .before .before .before .before .before .before .before .before .before .before in
     let s = at-own-rows .before .before .before .before .before .before .before .before .before .before .before in
     let k = sound (s .args .settings) (table (s .args .keys .now) (s .args .distances .now) (s .args .weights .now) (s .args .count .now)) (s .pre .0) in
     let f =
     lengths-known (length (s .args .keys .now)) (length (s .args .distances .now)) (length (s .args .weights .now))
     (s .args .count .now) (k .lengths) in
     settled (s .args .settings) (s .args .keys .now) (s .args .distances .now) (s .args .weights .now)
-    (s .args .count .now) (s .pre .0) _ _ _ _ (at-own-rows .own-rows .kept .0) (at-load .load .kept .1 .1 .1 .1 .1 .0)
-    (at-load .load .kept .1 .1 .1 .1 .1 .1 .0) (at-own-rows .own-rows .ensures .0 .0) (at-own-rows .own-rows .ensures .0 .1)
-    (at-load .load .ensures) _ _ _ _ _ _ (at-fuse-run .fuse-run .ensures) (omega (arith, f)) _ _ _
-    (at-settle .settle .ensures)
+    (s .args .count .now) (s .pre .0) _ _ _ _ _ (at-load .load-own .kept .1 .1 .1 .1 .1 .1 .1 .0) (at-own-rows .own-rows .kept .0) (at-load .load-own .kept .1 .1 .1 .1 .1 .0)
+    (at-load .load-own .kept .1 .1 .1 .1 .1 .1 .0) (at-own-rows .own-rows .ensures .0 .0) (at-own-rows .own-rows .ensures .0 .1)
+    (at-load .load-own .ensures) _ _ _ _ _ _ (at-fuse-run .fuse-run .ensures) (omega (arith, f)) _ _ _
+    (at-settle .settle-own .ensures)
 
 pub batch-run-spec : {M : Type 1} → statement M
 batch-run-spec =
@@ -190,10 +201,11 @@ batch-run-spec =
     slice-aggregate-own-rows
     slice-aggregate-own-rows-2
     own-rows-requires
-    slice-aggregate-load
-    slice-aggregate-load-2
-    slice-aggregate-load-3
-    load-requires
+    slice-aggregate-load-own
+    slice-aggregate-load-own-2
+    slice-aggregate-load-own-3
+    slice-aggregate-load-own-4
+    load-own-requires
     slice-aggregate-fuse-run
     slice-aggregate-fuse-run-2
     slice-aggregate-fuse-run-3
@@ -201,10 +213,11 @@ batch-run-spec =
     sub-fuse-run
     fuse-run-requires
     add-total
-    slice-aggregate-settle
-    slice-aggregate-settle-2
-    slice-aggregate-settle-3
-    settle-requires
+    slice-aggregate-settle-own
+    slice-aggregate-settle-own-2
+    slice-aggregate-settle-own-3
+    slice-aggregate-settle-own-4
+    settle-own-requires
     same-length
     same-length-2
     same-length-3
