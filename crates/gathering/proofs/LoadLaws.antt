@@ -26,7 +26,7 @@ use Rattle.gathering.proofs.SeatLaws.{seat-find}
 use Rattle.gathering.proofs.Filling.{at-any, filled-at}
 
 -- the weight of a waiting row is below 0
-pub mark-waits : (most : Float) → standing most (f32 0xBF80_0000) ≡ false
+mark-waits : (most : Float) → standing most (f32 0xBF80_0000) ≡ false
 unfolding le lt eq ofBits ofFields odd
 mark-waits most = refl
 

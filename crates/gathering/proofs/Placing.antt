@@ -1,15 +1,14 @@
--- Where a walk over ascending keys ends, and what stands there.
+-- Where a walk over ascending keys ends.
 -- Assumes nothing.
-use mathlib.Core.Path.{_≡_, sym, _∙_}
+use mathlib.Core.Path.{_≡_}
 use mathlib.Core.Bool.{true}
 use mathlib.Core.List.{List}
 use Prim.Native.Nat.{ℕ, _-_, _<_, _≤_}
 use native.Mathlib.Omega.{arith}
 use lib.ListN.{length, getD, take}
 use lib.Seq.{length-take-le, getD-take}
-use Rattle.search.specs.declared.Found.the-variants.{At, Absent}
-use Rattle.search.specs.Keys.{ascending, find, placeOf}
-use Rattle.search.proofs.KeyLaws.{lt-place, place-le, place-length, halved-place, findBy-find, found-here, found-another, found-past-count}
+use Rattle.search.specs.Keys.{ascending, placeOf}
+use Rattle.search.proofs.KeyLaws.{lt-place, place-le, place-length}
 
 module _ (k : ℕ) (ks : List ℕ) (n : ℕ) (g : n ≤ length ks) (a : ascending (take n ks) ≡ true) where
   -- a key below k at p: the place is past it
@@ -26,13 +25,3 @@ module _ (k : ℕ) (ks : List ℕ) (n : ℕ) (g : n ≤ length ks) (a : ascendin
 
   pub ends : (p : ℕ) → n ≤ p → p ≤ placeOf k (take n ks) → p ≡ placeOf k (take n ks)
   ends p h q = omega (arith, place-length k (take n ks), length-take-le n ks g)
-
-  module _ (p : ℕ) (e : p ≡ placeOf k (take n ks)) where
-    pub found-at : p < n → getD ks p 0 ≡ k → At p ≡ find k (take n ks)
-    found-at h t = found-here k ks n p (e ∙ sym (halved-place k (take n ks) a)) h (omega arith) t ∙ findBy-find k (take n ks) a
-
-    pub found-other : p < n → (getD ks p 0 ≡ k → ⊥) → Absent ≡ find k (take n ks)
-    found-other h t = found-another k ks n p (e ∙ sym (halved-place k (take n ks) a)) h t ∙ findBy-find k (take n ks) a
-
-    pub found-past : n ≤ p → Absent ≡ find k (take n ks)
-    found-past h = found-past-count k ks n p (e ∙ sym (halved-place k (take n ks) a)) h ∙ findBy-find k (take n ks) a

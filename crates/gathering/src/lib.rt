@@ -13,20 +13,20 @@ ghost use Rattle.gathering.specs.Gathering.{below, above, seatOf, seatsO
 ghost use Rattle.gathering.specs.Steps.{slid};
 
 // How many rows are below a seat.
-fn rows_below(seat: usize) -> usize
+fn rows_below(seat: u32) -> usize
     ensures { λ r. ⌜ r ≡ below seat ⌝ }
 {
     if seat == 0 {
         return 0;
     }
-    (seat - 1) / 2
+    (seat as usize - 1) / 2
 }
 
 // The place of the first row above a seat.
-fn first_above(seat: usize) -> usize
+fn first_above(seat: u32) -> usize
     ensures { λ r. ⌜ r ≡ above seat ⌝ }
 {
-    seat / 2
+    seat as usize / 2
 }
 
 // `start`, or 0 where the key before it is not below `key`.
@@ -63,11 +63,11 @@ fn place_from(keys: &[u64], count: usize, start: usize, key: u64) -> usize
 }
 
 // The seat of `key`, whose place is known.
-fn seat_at(keys: &[u64], count: usize, place: usize, key: u64) -> usize
+fn seat_at(keys: &[u64], count: usize, place: usize, key: u64) -> u32
     requires { ⌜ (count ≤ length (now keys)) × (length (now keys) ≤ 65536) × (place ≡ placeOf key (take count (now keys))) ⌝ }
     ensures { λ r. ⌜ r ≡ seatOf key (take count (now (keys .entry))) ⌝ }
 {
-    let before = 2 * place + 1;
+    let before = (2 * place + 1) as u32;
     if count <= place {
         return before;
     }
@@ -78,7 +78,7 @@ fn seat_at(keys: &[u64], count: usize, place: usize, key: u64) -> usize
 }
 
 // The seat of each own key among the first `count` keys.
-pub fn locate(keys: &[u64], count: usize, own_keys: &[u64], seats: &mut [usize], own: usize)
+pub fn locate(keys: &[u64], count: usize, own_keys: &[u64], seats: &mut [u32], own: usize)
     requires { ⌜ (count ≤ length (now keys)) × (length (now keys) ≤ 65536) × (ascending (take count (now keys)) ≡ true) ⌝ }
     requires { ⌜ (own ≤ length (now «own_keys»)) × (own ≤ length (now seats)) ⌝ }
     ensures { λ _. ⌜ take own (now (seats .exit)) ≡ seatsOf (take count (now (keys .entry))) (take own (now («own_keys» .entry))) ⌝ }
@@ -94,7 +94,7 @@ pub fn locate(keys: &[u64], count: usize, own_keys: &[u64], seats: &mut [usize],
 }
 
 // A column's value at a seat that is over a row, and otherwise `absent`.
-fn value_f32(column: &[f32], seat: usize, absent: f32) -> f32
+fn value_f32(column: &[f32], seat: u32, absent: f32) -> f32
     requires { ⌜ above seat ≤ length (now column) ⌝ }
     ensures { λ r. ⌜ r ≡ valueAt (now (column .entry)) absent seat ⌝ }
 {
@@ -108,7 +108,7 @@ fn value_f32(column: &[f32], seat: usize, absent: f32) -> f32
 // The own values of a column, by the seats.
 pub fn load_f32(
     column: &[f32],
-    seats: &[usize],
+    seats: &[u32],
     own_column: &mut [f32],
     own: usize,
     absent: f32,
@@ -125,7 +125,7 @@ pub fn load_f32(
 }
 
 // The own rows whose weight is not in range wait.
-pub fn hold_back(most: f32, own_weights: &[f32], seats: &mut [usize], own: usize)
+pub fn hold_back(most: f32, own_weights: &[f32], seats: &mut [u32], own: usize)
     requires { ⌜ (own ≤ length (now «own_weights»)) × (own ≤ length (now seats)) ⌝ }
     ensures { λ _. ⌜ now (seats .exit) ≡ heldBack most (take own (now («own_weights» .entry))) (now (seats .entry)) ⌝ }
 {
@@ -177,7 +177,7 @@ fn slide_f32(list: &mut [f32], from: usize, end: usize, to: usize) -> usize
 pub fn settle_u64(
     column: &mut [u64],
     count: usize,
-    seats: &[usize],
+    seats: &[u32],
     own_column: &[u64],
     own: usize,
     total: usize,
@@ -205,7 +205,7 @@ pub fn settle_u64(
 pub fn settle_f32(
     column: &mut [f32],
     count: usize,
-    seats: &[usize],
+    seats: &[u32],
     own_column: &[f32],
     own: usize,
     total: usize,

@@ -254,7 +254,7 @@ fn load_own(
     own_keys: &[u64],
     own_distances: &mut [f32],
     own_weights: &mut [f32],
-    seats: &mut [usize],
+    seats: &mut [u32],
     own: usize,
 )
     requires { ⌜ lengthsOk (length (now keys)) (length (now distances)) (length (now weights)) count ≡ true ⌝ }
@@ -278,7 +278,7 @@ fn settle_own(
     own_keys: &[u64],
     own_distances: &[f32],
     own_weights: &[f32],
-    seats: &mut [usize],
+    seats: &mut [u32],
     own: usize,
     total: usize,
 )
@@ -325,7 +325,7 @@ pub fn batch_run(
     let mut own_distances = [0.0f32; 4096];
     let mut own_weights = [0.0f32; 4096];
     let mut slots = [0u16; 4096];
-    let mut seats = [0usize; 4096];
+    let mut seats = [0u32; 4096];
     let n = *count;
     let own = own_rows(&mut own_keys, &mut slots, batch_keys, from, to);
     load_own(

@@ -17,6 +17,9 @@ mul-before c = omega (arith, in-place c)
 add-before : tie.Need-add-before
 add-before c = omega (arith, in-place c)
 
+cast-before : tie.Need-cast-before
+cast-before c = omega (arith, in-place c)
+
 returns : tie.Need-returns
 returns c =
     let s = c .before in
@@ -47,6 +50,7 @@ seat-at-spec =
     (tie.spec
     mul-before
     add-before
+    cast-before
     returns
     mul-if2
     shared-slice-read-if2
