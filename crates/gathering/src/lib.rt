@@ -106,13 +106,7 @@ fn value_f32(column: &[f32], seat: u32, absent: f32) -> f32
 }
 
 // The own values of a column, by the seats.
-pub fn load_f32(
-    column: &[f32],
-    seats: &[u32],
-    own_column: &mut [f32],
-    own: usize,
-    absent: f32,
-)
+pub fn load_f32(column: &[f32], seats: &[u32], own_column: &mut [f32], own: usize, absent: f32)
     requires { ⌜ (own ≤ length (now seats)) × (own ≤ length (now «own_column»)) ⌝ }
     requires { ⌜ Within (length (now column)) (now seats) own ⌝ }
     ensures { λ _. ⌜ take own (now («own_column» .exit)) ≡ loaded (now (column .entry)) absent (take own (now (seats .entry))) ⌝ }

@@ -265,7 +265,13 @@ fn load_own(
 {
     locate(keys, count, own_keys, seats, own);
     load_f32(distances, seats, own_distances, own, 0.0);
-    load_f32(weights, seats, own_weights, own, f32::from_bits(0xBF80_0000));
+    load_f32(
+        weights,
+        seats,
+        own_weights,
+        own,
+        f32::from_bits(0xBF80_0000),
+    );
 }
 
 // The own rows that stand, settled among the table's first `count` rows by their seats; `total` rows result.

@@ -1,12 +1,19 @@
 -- `batches::batch_update` meets its contract: the tests of a call, then `batch_sound`.
 -- Assumes nothing.
-use mathlib.Core.Path.{_∙_, sym}
-use Rattle.batching.specs.Batches.{batch, batchIf}
+use mathlib.Core.Path.{_≡_, _∙_, ap, sym}
+use Rattle.table.specs.Table.{Table}
+use Rattle.batching.specs.declared.Batched.{Batched}
+use Rattle.batching.specs.declared.Ending.{Ending}
+use Rattle.batching.specs.Batches.{BatchEnd, batchOutcome, batchEnd, batchedOf, answerOf, batch, batchIf}
 use Rattle.table.proofs.RowLaws.{lengths-known}
 use Rattle.table.proofs.Checking.{with-passed}
 use borrow.Author.Needs.{needs}
 use Rattle.batches.proofs.batch_update.Statement.{statement}
 use Rattle.batches.proofs.batch_update.Tie as tie
+
+-- an ending is answered
+answered : {a : Batched} {e : Ending} {t : Table} {b : BatchEnd} → a ≡ batchedOf e → batchEnd e t ≡ b → batchOutcome a t ≡ answerOf b
+answered p q = rw p (ap answerOf q)
 
 lengths-ok-requires : tie.Need-lengths-ok-requires
 lengths-ok-requires c κs = search needs
@@ -53,14 +60,17 @@ same-length-5 c = search needs
 same-length-6 : tie.Need-same-length-6
 same-length-6 c = search needs
 
+batched-of-requires : tie.Need-batched-of-requires
+batched-of-requires c κs = search needs
+
 returns-2 : tie.Need-returns-2
 unfolding batch batchIf
 returns-2 c =
-    let at-sound = c .before .before .before .before .before .before in
+    let at-sound = c .before .before .before .before .before .before .before in
     let at-told = at-sound .before .before .before .before .before in
     let at-check = at-told .before .before in
     rw (← at-check .before .before .before .before .before .lengths-ok .ensures, ← at-check .check-with .ensures, at-told .enum-told .given .1)
-    (at-sound .batch-sound .ensures)
+    (answered (c .batched-of .ensures) (at-sound .batch-sound .ensures))
 
 pub batch-update-spec : {M : Type 1} → statement M
 batch-update-spec =
@@ -71,6 +81,7 @@ batch-update-spec =
     enum-known-why
     enum-told
     batch-sound-requires
+    batched-of-requires
     same-length
     same-length-2
     same-length-3
