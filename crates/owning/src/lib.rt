@@ -1,4 +1,4 @@
-// A part of a batch: up to 4,096 readings are fused into own rows, which are settled into the table in one walk.
+// A part of a batch: up to 4,096 readings are fused into own rows, which are settled into the table column by column.
 use floats::Metres;
 use floats::between;
 use floats::within;
@@ -306,7 +306,7 @@ fn settle_own(
     settle_f32(weights, count, seats, own_weights, own, total);
 }
 
-// Up to 4,096 readings from `from` on, through own rows that are settled into the table in one walk.
+// Up to 4,096 readings from `from` on, through own rows that are settled into the table column by column.
 pub fn batch_run(
     settings: Settings,
     keys: &mut [u64],
