@@ -80,7 +80,7 @@ unfolding lengthAt ofBits
 length-small p = cases (λ (b : Bool). Small 2 (cond b diagonal axial)) (ltb p 8) (λ e. lit≤ tt) (λ e. lit≤ tt)
 
 -- a neighbour's neighbour is the cell itself
-back : (k l : ℕ) → l ∈ neighbours k → k ∈ neighbours l
+pub back : (k l : ℕ) → l ∈ neighbours k → k ∈ neighbours l
 back k l i = adjacent-neighbour l k (adjacent-sym l k ∙ neighbour-adjacent k l i)
 
 module _ (size most : Float) (p : positiveTo thousand size ≡ true) where

@@ -11,3 +11,6 @@ pub mod Small
 pub mod Hearing
 pub mod Facts
 pub mod Samples
+pub mod Spreading
+pub mod Unmarked
+pub mod Numbers

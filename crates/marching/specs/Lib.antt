@@ -1,3 +1,5 @@
 pub mod March
 pub mod Lattice
 pub mod Promises
+pub mod Spreading
+pub mod Unmarked
