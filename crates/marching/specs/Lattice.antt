@@ -7,6 +7,7 @@ use lib.Ieee.{Float}
 use Rattle.floats.specs.Floats.{f32}
 use Rattle.neighbors.specs.Neighbors.{neighbours}
 use Rattle.table.specs.Table.{Row}
+use Rattle.marching.specs.declared.Course.{Course}
 use Rattle.marching.specs.March.{Field, Rooms, Going, diagonal, seeds, march}
 
 -- 2
@@ -20,6 +21,10 @@ lengthAt p = cond (ltb p 8) diagonal axial
 -- the lattice with a voxel size and a maximum distance
 abbrev pub lattice : Float → Float → Field
 lattice size most = record { near = neighbours; reach = λ k p. lengthAt p; size = size; most = most }
+
+-- the lattice of a course
+abbrev pub latticeOf : Course → Field
+latticeOf c = lattice (c .size) (c .most)
 
 -- a march over a fused table's rows
 abbrev pub marchFrom : Float → Float → Rooms → Float → List Row → Going

@@ -1,11 +1,11 @@
--- `fronts::step_length` meets its contract, by its test.
+-- `marching::step_length` meets its contract, by its test.
 -- Assumes nothing.
 use borrow.Author.Tests.{lt-ltb, le-ltb}
 use lib.Ieee.{nanBits, ofBits}
 use Rattle.marching.specs.Lattice.{lengthAt}
 use borrow.Author.Needs.{needs}
-use Rattle.fronts.proofs.step_length.Statement.{statement}
-use Rattle.fronts.proofs.step_length.Tie as tie
+use Rattle.marching.proofs.step_length.Statement.{statement}
+use Rattle.marching.proofs.step_length.Tie as tie
 
 float-from-bits-result : tie.Need-float-from-bits-result
 unfolding nanBits

@@ -1,9 +1,9 @@
--- `fronts::candidate` meets its contract.
+-- `marching::candidate` meets its contract.
 -- Assumes nothing.
 use Rattle.marching.specs.March.{candidate}
 use borrow.Author.Needs.{needs}
-use Rattle.fronts.proofs.candidate.Statement.{statement}
-use Rattle.fronts.proofs.candidate.Tie as tie
+use Rattle.marching.proofs.candidate.Statement.{statement}
+use Rattle.marching.proofs.candidate.Tie as tie
 
 sign-requires : tie.Need-sign-requires
 sign-requires c κs = search needs
@@ -13,7 +13,7 @@ size-requires c κs = search needs
 
 returns : tie.Need-returns
 unfolding candidate
-returns c = rw (c .size .ensures, c .before .sign .ensures)
+returns c = rw (c .before .size .ensures, c .before .before .sign .ensures)
 
 pub candidate-spec : {M : Type 1} → statement M
 candidate-spec = tie.close (tie.spec sign-requires size-requires returns)

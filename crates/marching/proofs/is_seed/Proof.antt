@@ -1,9 +1,9 @@
--- `fronts::is_seed` meets its contract, by its tests.
+-- `marching::is_seed` meets its contract, by its tests.
 -- Assumes nothing.
 use lib.Ieee.{ofBits}
 use borrow.Author.Needs.{needs}
-use Rattle.fronts.proofs.is_seed.Statement.{statement}
-use Rattle.fronts.proofs.is_seed.Tie as tie
+use Rattle.marching.proofs.is_seed.Statement.{statement}
+use Rattle.marching.proofs.is_seed.Tie as tie
 
 size-requires : tie.Need-size-requires
 size-requires c κs = search needs
