@@ -1,4 +1,4 @@
--- Every public contract settles its outcome: two answers that meet it are equal.
+-- Every public contract of a search settles its outcome: two answers that meet it are equal.
 -- Assumes nothing.
 use mathlib.Core.Path.{_≡_, sym, _∙_}
 use Rattle.marks.proofs.home.Reads as home

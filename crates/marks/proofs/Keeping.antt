@@ -1,56 +1,145 @@
--- Keys that are found where they stand, and the values beside them. Assumes nothing.
-use mathlib.Core.Path.{_≡_, refl, sym, ap, subst, _∙_}
-use mathlib.Core.Bool.{Bool, true, false, true≢false}
-use mathlib.Core.List.{List, [], _∷_}
+-- Labels that stand on their paths, and the values beside them. Assumes nothing.
+use mathlib.Core.Path.{_≡_, refl, sym, ap, _∙_}
+use mathlib.Core.Bool.{Bool, cond}
+use mathlib.Core.List.{List}
 use mathlib.Core.Option.{Option, none, some}
-use Prim.Native.Nat.{ℕ, zero, suc, _<_}
+use Prim.Native.Nat.{ℕ, zero, suc, _<_, _≤_}
 use native.Mathlib.Omega.{arith}
-use borrow.Author.Tests.{eqb-true, eqb-false}
-use lib.Dec.{eqb}
-use lib.ListN.{length, getD, set, replicate}
+use borrow.Author.Tests.{eqb-true, eqb-false, eq-eqb, ne-eqb, ltb-true, ltb-false}
+use lib.Dec.{eqb, ltb}
+use lib.ListN.{length, getD, set, replicate, List·getD-eq-default}
 use lib.Seq.{getD-set-same, getD-set-other}
 use lib.Ieee.{Float, nan}
 use Rattle.lists.proofs.Bools.{cases}
 use Rattle.marks.specs.declared.Spot.{Spot}
-use Rattle.marks.specs.declared.Spot.the-variants.{At, Free, Full}
-use Rattle.marks.specs.Marks.{spotOf, valueAt, look, Kept}
-use Rattle.marks.proofs.Seeking.{Right, spot-right, solid, spot-stays, spot-filled}
+use Rattle.marks.specs.declared.Spot.the-variants.{At, Absent}
+use Rattle.marks.specs.Marks.{label, Kept, halt, spotAt, standing, spotOf, valueAt, look, occupied}
+use Rattle.marks.proofs.Seeking.{halted-once}
 
--- ---- what a place says
+-- ---- labels
 
-pub at-right : (k : ℕ) (ks : List ℕ) (i : ℕ) → spotOf k ks ≡ At i → (i < length ks) × (getD ks i 0 ≡ k) × (k ≡ 0 → ⊥)
-unfolding Right
-at-right k ks i e = subst (Right k ks) e (spot-right k ks)
+pub label-real : (k : ℕ) → label k ≡ 0 → ⊥
+unfolding label
+label-real k =
+    cases (λ (b : Bool). eqb k 0 ≡ b → cond b 1 k ≡ 0 → ⊥) (eqb k 0) (λ _ e f. omega arith) (λ _ e f. eqb-false k 0 e f) refl
 
-pub free-right : (k : ℕ) (ks : List ℕ) (i : ℕ) → spotOf k ks ≡ Free i → (i < length ks) × (getD ks i 0 ≡ 0)
-unfolding Right
-free-right k ks i e = subst (Right k ks) e (spot-right k ks)
+-- keys that are not 1 have labels of their own
+pub label-own : (j k : ℕ) → (j ≡ 1 → ⊥) → (k ≡ 1 → ⊥) → label j ≡ label k → j ≡ k
+unfolding label
+label-own j k m n =
+    cases (λ (b : Bool). eqb j 0 ≡ b → cond b 1 j ≡ cond (eqb k 0) 1 k → j ≡ k) (eqb j 0)
+    (λ _ e.
+    cases (λ (b : Bool). eqb k 0 ≡ b → 1 ≡ cond b 1 k → j ≡ k) (eqb k 0) (λ _ f g. eqb-true j 0 e ∙ sym (eqb-true k 0 f))
+    (λ _ f g. absurd (n (sym g))) refl)
+    (λ _ e.
+    cases (λ (b : Bool). eqb k 0 ≡ b → j ≡ cond b 1 k → j ≡ k) (eqb k 0) (λ _ f g. absurd (m g)) (λ _ f g. g) refl)
+    refl
 
-pub look-at : (k : ℕ) (ks : List ℕ) (ds : List Float) (i : ℕ) → spotOf k ks ≡ At i → look k ks ds ≡ some (getD ds i nan)
+-- ---- where a label stands
+
+pub within : (ks : List ℕ) (i : ℕ) → (getD ks i 0 ≡ 0 → ⊥) → i < length ks
+within ks i n =
+    cases (λ (b : Bool). ltb i (length ks) ≡ b → i < length ks) (ltb i (length ks)) (λ _ e. ltb-true i (length ks) e)
+    (λ _ e. absurd (n (List·getD-eq-default ks 0 (ltb-false i (length ks) e)))) refl
+
+pub spot-at : (k : ℕ) (ks : List ℕ) (p : ℕ) → getD ks p 0 ≡ k → spotAt k ks p ≡ At p
+unfolding spotAt
+spot-at k ks p e = rw (eq-eqb (getD ks p 0) k e)
+
+pub spot-absent : (k : ℕ) (ks : List ℕ) (p : ℕ) → (getD ks p 0 ≡ k → ⊥) → spotAt k ks p ≡ Absent p
+unfolding spotAt
+spot-absent k ks p e = rw (ne-eqb (getD ks p 0) k e)
+
+spot-holds : (k : ℕ) (ks : List ℕ) (p i : ℕ) → spotAt k ks p ≡ At i → getD ks i 0 ≡ k
+unfolding spotAt
+spot-holds k ks p i =
+    cases (λ (b : Bool). eqb (getD ks p 0) k ≡ b → cond b (At p) (Absent p) ≡ At i → getD ks i 0 ≡ k) (eqb (getD ks p 0) k)
+    (λ _ e f. let z : p ≡ i = cc in rw z at (eqb-true (getD ks p 0) k e))
+    (λ _ e f. absurd (let o : _≡_ {A = ℕ} 0 1 = cc in omega arith)) refl
+
+spot-ended : (k : ℕ) (ks : List ℕ) (p i : ℕ) → spotAt k ks p ≡ Absent i → p ≡ i
+unfolding spotAt
+spot-ended k ks p i =
+    cases (λ (b : Bool). cond b (At p) (Absent p) ≡ Absent i → p ≡ i) (eqb (getD ks p 0) k)
+    (λ e f. absurd (let o : _≡_ {A = ℕ} 0 1 = cc in omega arith)) (λ e f. cc)
+
+pub standing-at : (k : ℕ) (ks : List ℕ) (i : ℕ) → standing k ks ≡ At i → getD ks i 0 ≡ k
+standing-at k ks i e = spot-holds k ks (halt k ks) i e
+
+pub standing-ended : (k : ℕ) (ks : List ℕ) (i : ℕ) → standing k ks ≡ Absent i → halt k ks ≡ i
+standing-ended k ks i e = spot-ended k ks (halt k ks) i e
+
+module _ (ks : List ℕ) (h : Kept ks) where
+  -- what stands somewhere is found there
+  pub kept-at : (i : ℕ) → (getD ks i 0 ≡ 0 → ⊥) → standing (getD ks i 0) ks ≡ At i
+  kept-at i n =
+      rw (halted-once (getD ks i 0) ks i (within ks i n) (let l : getD ks i 0 ≤ getD ks i 0 = omega arith in l) (h i n))
+      (spot-at (getD ks i 0) ks i refl)
+
+  -- no label stands twice
+  pub kept-once : (i j : ℕ) → (getD ks i 0 ≡ 0 → ⊥) → getD ks i 0 ≡ getD ks j 0 → i ≡ j
+  kept-once i j n e =
+      let a = kept-at i n in let b = kept-at j (λ z. n (e ∙ z)) in let c : standing (getD ks i 0) ks ≡ At j = rw e b in cc
+
+  module _ (k : ℕ) (n : k ≡ 0 → ⊥) where
+    pub kept-found : (i : ℕ) → getD ks i 0 ≡ k → standing k ks ≡ At i
+    kept-found i e = rw e at (kept-at i (λ z. n (sym e ∙ z)))
+
+    -- an absent one stands nowhere
+    pub kept-absent : (p : ℕ) → standing k ks ≡ Absent p → (i : ℕ) → getD ks i 0 ≡ k → ⊥
+    kept-absent p e i f = let a = kept-found i f in let o : _≡_ {A = ℕ} 0 1 = cc in omega arith
+
+-- ---- values
+
+-- the value of a label
+abbrev pub valueOf : ℕ → List ℕ → List Float → Option Float
+valueOf k ks ds = valueAt (standing k ks) ds
+
+pub value-at : (k : ℕ) (ks : List ℕ) (ds : List Float) (i : ℕ) → standing k ks ≡ At i → valueOf k ks ds ≡ some (getD ds i nan)
 unfolding valueAt
-look-at k ks ds i e = rw e
+value-at k ks ds i e = rw e
 
-pub look-free : (k : ℕ) (ks : List ℕ) (ds : List Float) (i : ℕ) → spotOf k ks ≡ Free i → look k ks ds ≡ none
+pub value-absent : (k : ℕ) (ks : List ℕ) (ds : List Float) (p : ℕ) → standing k ks ≡ Absent p → valueOf k ks ds ≡ none
 unfolding valueAt
-look-free k ks ds i e = rw e
+value-absent k ks ds p e = rw e
 
-pub look-full : (k : ℕ) (ks : List ℕ) (ds : List Float) → spotOf k ks ≡ Full → look k ks ds ≡ none
+-- a label that has a value stands somewhere
+pub looked : (k : ℕ) (ks : List ℕ) (ds : List Float) (d : Float) → valueOf k ks ds ≡ some d → (i : ℕ) × ((standing k ks ≡ At i) × (getD ds i nan ≡ d))
 unfolding valueAt
-look-full k ks ds e = rw e
-
--- a key that has a value stands somewhere
-pub looked : (k : ℕ) (ks : List ℕ) (ds : List Float) (d : Float) → look k ks ds ≡ some d → (i : ℕ) × ((spotOf k ks ≡ At i) × (getD ds i nan ≡ d))
-unfolding valueAt
-looked k ks ds d e = go (spotOf k ks) refl e
+looked k ks ds d e = go (standing k ks) refl e
   where
-    go : (s : Spot) → spotOf k ks ≡ s → valueAt s ds ≡ some d → (i : ℕ) × ((spotOf k ks ≡ At i) × (getD ds i nan ≡ d))
+    go : (s : Spot) → standing k ks ≡ s → valueAt s ds ≡ some d → (i : ℕ) × ((standing k ks ≡ At i) × (getD ds i nan ≡ d))
     go (At i) f e = (i, (f, cc))
-    go (Free i) f e = absurd (let o : _≡_ {A = ℕ} 0 1 = cc in omega arith)
-    go Full f e = absurd (let o : _≡_ {A = ℕ} 0 1 = cc in omega arith)
+    go (Absent i) f e = absurd (let o : _≡_ {A = ℕ} 0 1 = cc in omega arith)
 
--- no key stands twice
-pub kept-once : (ks : List ℕ) → Kept ks → (i j : ℕ) → (getD ks i 0 ≡ 0 → ⊥) → getD ks i 0 ≡ getD ks j 0 → i ≡ j
-kept-once ks h i j n e = let a = h i n in let b = h j (λ z. n (e ∙ z)) in let c : spotOf (getD ks i 0) ks ≡ At j = rw e b in cc
+-- one that stands nowhere has none
+value-none : (k : ℕ) (ks : List ℕ) (ds : List Float) → ((i : ℕ) → getD ks i 0 ≡ k → ⊥) → valueOf k ks ds ≡ none
+unfolding valueAt
+value-none k ks ds n = go (standing k ks) refl
+  where
+    go : (s : Spot) → standing k ks ≡ s → valueAt s ds ≡ none
+    go (At i) f = absurd (n i (standing-at k ks i f))
+    go (Absent i) f = refl
+
+-- one that stands where it stood, with the value that it had
+pub value-same :
+    (k : ℕ)
+    → (k ≡ 0 → ⊥)
+    → (ks : List ℕ) (ds : List Float) (ks' : List ℕ) (ds' : List Float)
+    → Kept ks
+    → Kept ks'
+    → ((i : ℕ) → getD ks i 0 ≡ k → (getD ks' i 0 ≡ k) × (getD ds' i nan ≡ getD ds i nan))
+    → ((i : ℕ) → getD ks' i 0 ≡ k → getD ks i 0 ≡ k)
+    → valueOf k ks' ds' ≡ valueOf k ks ds
+value-same k n ks ds ks' ds' h h' f g = go (standing k ks) refl
+  where
+    go : (s : Spot) → standing k ks ≡ s → valueOf k ks' ds' ≡ valueOf k ks ds
+    go (At i) e =
+        let b = f i (standing-at k ks i e) in
+        value-at k ks' ds' i (kept-found ks' h' k n i (b .0)) ∙ ap some (b .1) ∙ sym (value-at k ks ds i e)
+    go (Absent p) e =
+        let o = kept-absent ks h k n p e in
+        value-none k ks' ds' (λ i x. o i (g i x)) ∙ sym (value-none k ks ds o)
 
 -- ---- nothing stands there
 
@@ -59,85 +148,47 @@ blank zero i = refl
 blank (suc n) zero = refl
 blank (suc n) (suc i) = blank n i
 
-pub kept-none : (n : ℕ) (ks : List ℕ) → ks ≡ replicate n 0 → Kept ks
-kept-none n ks e i h = absurd (h (ap (λ (l : List ℕ). getD l i 0) e ∙ blank n i))
+module _ (n : ℕ) (ks : List ℕ) (e : ks ≡ replicate n 0) where
+  pub kept-none : Kept ks
+  kept-none i h = absurd (h (ap (λ (l : List ℕ). getD l i 0) e ∙ blank n i))
 
-pub look-none : (n k : ℕ) (ks : List ℕ) (ds : List Float) → ks ≡ replicate n 0 → look k ks ds ≡ none
-unfolding valueAt
-look-none n k ks ds e = go (spotOf k ks) refl
-  where
-    go : (s : Spot) → spotOf k ks ≡ s → valueAt s ds ≡ none
-    go (At i) f = let r = at-right k ks i f in absurd (r .2 (sym (r .1) ∙ ap (λ (l : List ℕ). getD l i 0) e ∙ blank n i))
-    go (Free i) f = refl
-    go Full f = refl
+  pub look-none : (k : ℕ) (ds : List Float) → look k ks ds ≡ none
+  look-none k ds = value-none (label k) ks ds (λ i f. label-real k (sym f ∙ ap (λ (l : List ℕ). getD l i 0) e ∙ blank n i))
+
+  pub occupied-none : occupied ks ≡ 0
+  unfolding occupied
+  occupied-none = rw e (go n)
+    where
+      go : (m : ℕ) → occupied (replicate m 0) ≡ 0
+      go zero = refl
+      go (suc m) = go m
 
 -- ---- another value
 
 module _ (k : ℕ) (ks : List ℕ) (ds : List Float) (i : ℕ) (e : spotOf k ks ≡ At i) (same : length ds ≡ length ks) (v : Float) where
   pub look-set : look k ks (set ds i v) ≡ some v
-  look-set = look-at k ks (set ds i v) i e ∙ ap some (getD-set-same ds i v nan (rw same (at-right k ks i e .0)))
+  look-set =
+      let l = within ks i (λ z. label-real k (sym (standing-at (label k) ks i e) ∙ z)) in
+      value-at (label k) ks (set ds i v) i e ∙ ap some (getD-set-same ds i v nan (rw same l))
 
-  pub look-set-other : (j : ℕ) → (j ≡ k → ⊥) → look j ks (set ds i v) ≡ look j ks ds
+  pub look-set-other : (j : ℕ) → (label j ≡ label k → ⊥) → look j ks (set ds i v) ≡ look j ks ds
   unfolding valueAt
   look-set-other j n = go (spotOf j ks) refl
     where
       go : (s : Spot) → spotOf j ks ≡ s → valueAt s (set ds i v) ≡ valueAt s ds
-      go (At m) f = ap some (getD-set-other ds i m v nan (λ q. n (sym (at-right j ks m f .1) ∙ ap (λ (x : ℕ). getD ks x 0) q ∙ at-right k ks i e .1)))
-      go (Free m) f = refl
-      go Full f = refl
+      go (At m) f =
+          ap some (getD-set-other ds i m v nan
+          (λ q. n (sym (standing-at (label j) ks m f) ∙ ap (λ (x : ℕ). getD ks x 0) q ∙ standing-at (label k) ks i e)))
+      go (Absent m) f = refl
 
--- ---- another key
+-- ---- the code's search
 
-module _ (k : ℕ) (ks : List ℕ) (ds : List Float) (f : ℕ) (e : spotOf k ks ≡ Free f) (n : k ≡ 0 → ⊥) (same : length ds ≡ length ks) (v : Float) where
-  pub look-put : look k (set ks f k) (set ds f v) ≡ some v
-  look-put =
-      let r = free-right k ks f e in
-      look-at k (set ks f k) (set ds f v) f (spot-filled k ks f (r .0) (r .1) n e) ∙ ap some (getD-set-same ds f v nan (rw same (r .0)))
+module _ (k x p : ℕ) (ks : List ℕ) (a : x ≡ label k) (b : p ≡ halt x ks) where
+  pub found-at : getD ks p 0 ≡ x → At p ≡ spotOf k ks
+  found-at e = rw (← a, ← b) (sym (spot-at x ks p e))
 
-  pub look-put-other : Kept ks → (j : ℕ) → (j ≡ k → ⊥) → look j (set ks f k) (set ds f v) ≡ look j ks ds
-  unfolding valueAt solid
-  look-put-other h j d = go (spotOf j ks) refl (spotOf j (set ks f k)) refl
-    where
-      -- a key that is found afterwards stood there before
-      stood : (i : ℕ) → spotOf j (set ks f k) ≡ At i → spotOf j ks ≡ At i
-      stood i q =
-          let r = free-right k ks f e in
-          let a = at-right j (set ks f k) i q in
-          let o : getD ks i 0 ≡ j =
-          sym (getD-set-other ks f i k 0
-          (λ z. d (sym (a .1) ∙ ap (λ (x : ℕ). getD (set ks f k) x 0) z ∙ getD-set-same ks f k 0 (r .0))))
-          ∙ a .1 in
-          rw o at (h i (λ z. a .2 (sym o ∙ z)))
+  pub found-absent : (getD ks p 0 ≡ x → ⊥) → Absent p ≡ spotOf k ks
+  found-absent n = rw (← a, ← b) (sym (spot-absent x ks p n))
 
-      missed : (m i : ℕ) → spotOf j ks ≡ Free m → spotOf j (set ks f k) ≡ At i → ⊥
-      missed m i p q = let u = stood i q in let o : _≡_ {A = ℕ} 0 1 = cc in omega arith
-
-      lost : (i : ℕ) → spotOf j ks ≡ Full → spotOf j (set ks f k) ≡ At i → ⊥
-      lost i p q = let u = stood i q in let o : _≡_ {A = ℕ} 0 1 = cc in omega arith
-
-      go : (s : Spot) → spotOf j ks ≡ s → (t : Spot) → spotOf j (set ks f k) ≡ t → valueAt t (set ds f v) ≡ valueAt s ds
-      go (At m) p t q =
-          let r = free-right k ks f e in
-          let a = at-right j ks m p in
-          let w : t ≡ At m = sym q ∙ spot-stays k ks f (r .0) (r .1) j (ap solid p) ∙ p in
-          rw w (ap some (getD-set-other ds f m v nan (λ z. a .2 (sym (a .1) ∙ ap (λ (x : ℕ). getD ks x 0) z ∙ r .1))))
-      go (Free m) p (At i) q = absurd (missed m i p q)
-      go (Free m) p (Free i) q = refl
-      go (Free m) p Full q = refl
-      go Full p (At i) q = absurd (lost i p q)
-      go Full p (Free i) q = refl
-      go Full p Full q = refl
-
-  pub kept-put : Kept ks → Kept (set ks f k)
-  unfolding solid
-  kept-put h i m =
-      let r = free-right k ks f e in
-      cases (λ (b : Bool). eqb i f ≡ b → spotOf (getD (set ks f k) i 0) (set ks f k) ≡ At i) (eqb i f)
-      (λ _ c.
-      let q = eqb-true i f c in
-      rw (q, getD-set-same ks f k 0 (r .0)) (spot-filled k ks f (r .0) (r .1) n e))
-      (λ _ c.
-      let o = getD-set-other ks f i k 0 (eqb-false i f c) in
-      let a = h i (λ z. m (o ∙ z)) in
-      rw o (spot-stays k ks f (r .0) (r .1) (getD ks i 0) (ap solid a) ∙ a))
-      refl
+  pub found-outside : length ks ≤ p → Absent p ≡ spotOf k ks
+  found-outside l = found-absent (λ e. label-real k (sym a ∙ sym e ∙ List·getD-eq-default ks 0 l))

@@ -1,4 +1,6 @@
+pub mod Pathing
 pub mod Seeking
 pub mod Keeping
+pub mod Entering
 pub mod Samples
 pub mod Determined

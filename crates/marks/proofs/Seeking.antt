@@ -1,199 +1,162 @@
--- The search for a place: what it finds, and what a key that is put into an empty place changes of it. Assumes nothing.
-use mathlib.Core.Path.{_≡_, refl, sym, ap, subst, _∙_}
-use mathlib.Core.Bool.{Bool, true, false, cond, true≢false, false≢true}
-use mathlib.Core.List.{List, [], _∷_}
-use Prim.Native.Nat.{ℕ, zero, suc, _+_, _<_, _≤_, suc-le-suc}
-use native.Mathlib.Nat.{not-suc-le-zero, le-of-suc-le-suc}
-use native.Mathlib.Numerals.{add-one}
+-- The search for a label: it ends at the first place of its path whose label is not larger. Assumes nothing.
+use mathlib.Core.Path.{_≡_, refl, ap, _∙_}
+use mathlib.Core.Bool.{Bool, true, cond}
+use mathlib.Core.List.{List}
+use mathlib.Core.Logic.{inl, inr}
+use Prim.Native.Nat.{ℕ, zero, suc, _+_, _-_, _<_, _≤_}
 use native.Mathlib.Omega.{arith}
-use borrow.Author.Tests.{eqb-true, eqb-false, eq-eqb, ne-eqb}
-use lib.Dec.{eqb}
-use lib.ListN.{length, getD, set, length-set}
+use native.Mathlib.Numerals.{add-one}
+use borrow.Author.Tests.{ltb-true, ltb-false, lt-ltb, le-ltb}
+use lib.Dec.{ltb}
+use lib.ListN.{length, getD}
 use Rattle.lists.proofs.Bools.{cases}
-use Rattle.marks.specs.declared.Spot.{Spot}
-use Rattle.marks.specs.declared.Spot.the-variants.{At, Free, Full}
-use Rattle.marks.specs.Marks.{home, further, seek, orElse, spotOf}
+use Rattle.marks.specs.Marks.{home, along, Outranked, seek, orAgain, halt}
+use Rattle.marks.proofs.Pathing.{home-within, Side, along-either, along-once}
 
--- ---- the loop's steps
+module _ (k : ℕ) (ks : List ℕ) where
+  -- ---- the loop's steps
 
-pub seek-free : (i k : ℕ) (ks : List ℕ) → i < length ks → getD ks i 0 ≡ 0 → seek i k ks ≡ Free i
-unfolding seek further
-seek-free i k [] l e = absurd (not-suc-le-zero l)
-seek-free zero k (x ∷ xs) l e = rw (eq-eqb x 0 e)
-seek-free (suc i) k (x ∷ xs) l e = ap further (seek-free i k xs (le-of-suc-le-suc l) e)
+  seek-turn : (i to : ℕ) → i < to → seek k ks i (to - i) ≡ cond (ltb k (getD ks i 0)) (seek k ks (i + 1) (to - (i + 1))) i
+  unfolding seek
+  seek-turn i to l = let e : to - i ≡ suc (to - (i + 1)) = omega arith in rw (e, add-one i)
 
-pub seek-at : (i k : ℕ) (ks : List ℕ) → i < length ks → (getD ks i 0 ≡ 0 → ⊥) → getD ks i 0 ≡ k → seek i k ks ≡ At i
-unfolding seek further
-seek-at i k [] l n e = absurd (not-suc-le-zero l)
-seek-at zero k (x ∷ xs) l n e = rw (ne-eqb x 0 n, eq-eqb x k e)
-seek-at (suc i) k (x ∷ xs) l n e = ap further (seek-at i k xs (le-of-suc-le-suc l) n e)
+  pub seek-here : (i to : ℕ) → i < to → getD ks i 0 ≤ k → i ≡ seek k ks i (to - i)
+  seek-here i to l e = rw (seek-turn i to l, le-ltb k (getD ks i 0) e)
 
-pub seek-later : (i k : ℕ) (ks : List ℕ) → i < length ks → (getD ks i 0 ≡ 0 → ⊥) → (getD ks i 0 ≡ k → ⊥) → seek i k ks ≡ seek (i + 1) k ks
-unfolding seek further
-seek-later i k ks l n d = go i ks l n d ∙ ap (λ (j : ℕ). seek j k ks) (sym (add-one i))
-  where
-    go : (i : ℕ) (ks : List ℕ) → i < length ks → (getD ks i 0 ≡ 0 → ⊥) → (getD ks i 0 ≡ k → ⊥) → seek i k ks ≡ seek (suc i) k ks
-    go i [] l n d = absurd (not-suc-le-zero l)
-    go zero (x ∷ xs) l n d = rw (ne-eqb x 0 n, ne-eqb x k d)
-    go (suc i) (x ∷ xs) l n d = ap further (go i xs (le-of-suc-le-suc l) n d)
+  pub seek-on : (i to : ℕ) → i < to → k < getD ks i 0 → seek k ks i (to - i) ≡ seek k ks (i + 1) (to - (i + 1))
+  seek-on i to l e = rw (seek-turn i to l, lt-ltb k (getD ks i 0) e)
 
-pub seek-full : (i k : ℕ) (ks : List ℕ) → length ks ≤ i → seek i k ks ≡ Full
-unfolding seek further
-seek-full zero k [] l = refl
-seek-full (suc i) k [] l = refl
-seek-full zero k (x ∷ xs) l = absurd (not-suc-le-zero l)
-seek-full (suc i) k (x ∷ xs) l = ap further (seek-full i k xs (le-of-suc-le-suc l))
+  pub seek-end : (i to : ℕ) → to ≤ i → i ≡ seek k ks i (to - i)
+  unfolding seek
+  seek-end i to l = let e : to - i ≡ 0 = omega arith in rw e
 
--- ---- what is found
+  -- ---- what is found
 
--- a place that holds the key, or an empty one
-unfoldable pub Right : ℕ → List ℕ → Spot → Type 0
-Right k ks (At i) = (i < length ks) × (getD ks i 0 ≡ k) × (k ≡ 0 → ⊥)
-Right k ks (Free i) = (i < length ks) × (getD ks i 0 ≡ 0)
-Right k ks Full = Unit
+  -- s is the first of m places from i on whose label is at most k, or the place after them
+  record First (i m s : ℕ) : Type 0 where
+    low : i ≤ s
+    high : s ≤ i + m
+    larger : (q : ℕ) → i ≤ q → q < s → k < getD ks q 0
+    here : s < i + m → getD ks s 0 ≤ k
 
-further-right : (k x : ℕ) (xs : List ℕ) (s : Spot) → Right k xs s → Right k (x ∷ xs) (further s)
-unfolding Right further
-further-right k x xs (At i) h = (suc-le-suc (h .0), h .1, h .2)
-further-right k x xs (Free i) h = (suc-le-suc (h .0), h .1)
-further-right k x xs Full h = tt
+  seek-first : (i m : ℕ) → First i m (seek k ks i m)
+  unfolding seek
+  seek-first i zero = record {
+    low = omega arith;
+    high = omega arith;
+    larger = λ q a b. absurd (omega arith);
+    here = λ l. absurd (omega arith);
+  }
+  seek-first i (suc m) =
+      cases (λ (b : Bool). First i (suc m) (cond b (seek k ks (suc i) m) i)) (ltb k (getD ks i 0))
+      (λ e.
+      let f = seek-first (suc i) m in
+      record {
+        low = omega arith;
+        high = omega arith;
+        larger = λ q a b. past e q a (λ c. f .larger q c b);
+        here = λ l. f .here (omega arith);
+      })
+      (λ e. record {
+        low = omega arith;
+        high = omega arith;
+        larger = λ q a b. absurd (omega arith);
+        here = λ l. ltb-false k (getD ks i 0) e;
+      })
+    where
+      past : ltb k (getD ks i 0) ≡ true → (q : ℕ) → i ≤ q → (suc i ≤ q → k < getD ks q 0) → k < getD ks q 0
+      past e q a f =
+          cases (λ (b : Bool). ltb i q ≡ b → k < getD ks q 0) (ltb i q) (λ _ b. f (ltb-true i q b))
+          (λ _ b.
+          let z : i ≡ q = let y = ltb-false i q b in omega arith in
+          rw z at (ltb-true k (getD ks i 0) e)) refl
 
-seek-right : (h k : ℕ) (ks : List ℕ) → Right k ks (seek h k ks)
-unfolding seek Right
-seek-right zero k [] = tt
-seek-right (suc h) k [] = tt
-seek-right zero k (x ∷ xs) =
-    cases (λ (b : Bool). Right k (x ∷ xs) (cond b (Free 0) (cond (eqb x k) (At 0) (further (seek zero k xs))))) (eqb x 0)
-    (λ e. (omega arith, eqb-true x 0 e))
-    (λ e. cases (λ (b : Bool). Right k (x ∷ xs) (cond b (At 0) (further (seek zero k xs)))) (eqb x k)
-    (λ f. let q = eqb-true x k f in (omega arith, q, λ z. eqb-false x 0 e (q ∙ z)))
-    (λ f. further-right k x xs (seek zero k xs) (seek-right zero k xs)))
-seek-right (suc h) k (x ∷ xs) = further-right k x xs (seek h k xs) (seek-right h k xs)
+  -- ---- the whole path
 
-or-right : (k : ℕ) (ks : List ℕ) (s t : Spot) → Right k ks s → Right k ks t → Right k ks (orElse s t)
-unfolding orElse
-or-right k ks (At i) t a b = a
-or-right k ks (Free i) t a b = a
-or-right k ks Full t a b = b
+  abbrev late : ℕ → ℕ
+  late q = along (home k (length ks)) (length ks) q
 
-pub spot-right : (k : ℕ) (ks : List ℕ) → Right k ks (spotOf k ks)
-unfolding spotOf
-spot-right k ks = or-right k ks _ _ (seek-right (home k (length ks)) k ks) (seek-right 0 k ks)
+  -- only larger labels stand before p on the path, and one that is not larger stands at p if it stands anywhere
+  pub record Halted (p : ℕ) : Type 0 where
+    pub before : Outranked k ks p
+    pub here : (q : ℕ) → q < length ks → getD ks q 0 ≤ k → (p < length ks) × (getD ks p 0 ≤ k)
 
--- ---- a key is put into an empty place
+  module _ (h a b : ℕ) (z : h ≡ home k (length ks)) (l : h ≤ length ks) (f : First h (length ks - h) a) (g : First 0 h b) where
+    straight : a < length ks → (q : ℕ) → along h (length ks) q < along h (length ks) a → Side h (length ks) q → Side h (length ks) a → k < getD ks q 0
+    straight m q o (inl x) (inl y) = absurd (let w = f .low in omega arith)
+    straight m q o (inl x) (inr y) = absurd (omega arith)
+    straight m q o (inr x) (inl y) = absurd (let w = f .low in omega arith)
+    straight m q o (inr x) (inr y) = f .larger q (x .0) (omega arith)
 
--- no empty place was found
-unfoldable pub solid : Spot → Bool
-solid (At i) = true
-solid (Free i) = false
-solid Full = true
+    around :
+        length ks ≤ a
+        → (q : ℕ)
+        → q < length ks
+        → along h (length ks) q < along h (length ks) b
+        → Side h (length ks) q
+        → Side h (length ks) b
+        → k < getD ks q 0
+    around m q v o (inl x) (inl y) = g .larger q (omega arith) (omega arith)
+    around m q v o (inl x) (inr y) = absurd (let w = g .high in omega arith)
+    around m q v o (inr x) (inl y) = f .larger q (x .0) (omega arith)
+    around m q v o (inr x) (inr y) = f .larger q (x .0) (omega arith)
 
-further-solid : (s : Spot) → solid (further s) ≡ solid s
-unfolding solid further
-further-solid (At i) = refl
-further-solid (Free i) = refl
-further-solid Full = refl
+    somewhere :
+        length ks ≤ a
+        → (q : ℕ)
+        → q < length ks
+        → getD ks q 0 ≤ k
+        → Side h (length ks) q
+        → Side h (length ks) b
+        → (b < length ks) × (getD ks b 0 ≤ k)
+    somewhere m q v o (inl x) (inl y) = (omega arith, g .here (omega arith))
+    somewhere m q v o (inl x) (inr y) = absurd (let w = g .larger q (omega arith) (omega arith) in omega arith)
+    somewhere m q v o (inr x) (inl y) = (omega arith, g .here (omega arith))
+    somewhere m q v o (inr x) (inr y) = absurd (let w = f .larger q (x .0) (omega arith) in omega arith)
 
-module _ (k : ℕ) where
-  -- where the search met no empty place, it goes as it went
-  seek-stays : (h j : ℕ) (ks : List ℕ) (f : ℕ) → f < length ks → getD ks f 0 ≡ 0 → solid (seek h j ks) ≡ true → seek h j (set ks f k) ≡ seek h j ks
-  unfolding seek solid
-  seek-stays h j [] f l e s = absurd (not-suc-le-zero l)
-  seek-stays zero j (x ∷ xs) zero l e s =
-      absurd (false≢true
-      (sym (ap (λ (b : Bool). solid (cond b (Free 0) (cond (eqb x j) (At 0) (further (seek zero j xs)))))
-      (eq-eqb x 0 e))
-      ∙ s))
-  seek-stays zero j (x ∷ xs) (suc f) l e s =
-      cases (λ (b : Bool).
-      solid (cond b (Free 0) (cond (eqb x j) (At 0) (further (seek zero j xs)))) ≡ true
-      → cond b (Free 0) (cond (eqb x j) (At 0) (further (seek zero j (set xs f k))))
-      ≡ cond b (Free 0) (cond (eqb x j) (At 0) (further (seek zero j xs)))) (eqb x 0)
-      (λ a t. refl)
-      (λ a.
-      cases (λ (b : Bool).
-      solid (cond b (At 0) (further (seek zero j xs))) ≡ true
-      → cond b (At 0) (further (seek zero j (set xs f k))) ≡ cond b (At 0) (further (seek zero j xs))) (eqb x j)
-      (λ c t. refl)
-      (λ c t. ap further (seek-stays zero j xs f (le-of-suc-le-suc l) e (sym (further-solid (seek zero j xs)) ∙ t))))
-      s
-  seek-stays (suc h) j (x ∷ xs) zero l e s = refl
-  seek-stays (suc h) j (x ∷ xs) (suc f) l e s = ap further (seek-stays h j xs f (le-of-suc-le-suc l) e (sym (further-solid (seek h j xs)) ∙ s))
+    halted : Halted (cond (ltb a (length ks)) a b)
+    halted =
+        cases (λ (t : Bool). Halted (cond t a b)) (ltb a (length ks))
+        (λ e.
+        let m = ltb-true a (length ks) e in
+        record {
+          before = λ q v. rw (← z) (λ o. straight m q o (along-either h (length ks) q) (along-either h (length ks) a));
+          here = λ q v o. (m, f .here (omega arith));
+        })
+        (λ e.
+        let m = ltb-false a (length ks) e in
+        record {
+          before = λ q v. rw (← z) (λ o. around m q v o (along-either h (length ks) q) (along-either h (length ks) b));
+          here = λ q v o. somewhere m q v o (along-either h (length ks) q) (along-either h (length ks) b);
+        })
 
-  -- put into the empty place that was found, the key is found there
-  unfoldable Filled : ℕ → List ℕ → Spot → Type 0
-  Filled h ks (At i) = Unit
-  Filled h ks (Free f) = seek h k (set ks f k) ≡ At f
-  Filled h ks Full = Unit
+  pub halt-right : Halted (halt k ks)
+  unfolding halt orAgain
+  halt-right = halted (home k (length ks)) _ _ refl (home-within k (length ks)) (seek-first _ _) (seek-first _ _)
 
-  module _ (n : k ≡ 0 → ⊥) where
-    past : (x : ℕ) (xs : List ℕ) → eqb x 0 ≡ false → eqb x k ≡ false → (s : Spot) → Filled zero xs s → Filled zero (x ∷ xs) (further s)
-    unfolding Filled further seek
-    past x xs a b (At i) h = tt
-    past x xs a b (Free f) h = rw (a, b) (ap further h)
-    past x xs a b Full h = tt
+  -- it is the only such place
+  pub halted-once : (p : ℕ) → p < length ks → getD ks p 0 ≤ k → Outranked k ks p → halt k ks ≡ p
+  halted-once p l e o =
+      let r = halt-right in
+      let s = r .here p l e in
+      cases (λ (t : Bool). ltb (late (halt k ks)) (late p) ≡ t → halt k ks ≡ p) (ltb (late (halt k ks)) (late p))
+      (λ _ t. absurd (let w = o (halt k ks) (s .0) (ltb-true (late (halt k ks)) (late p) t) in omega arith))
+      (λ _ t.
+      cases (λ (u : Bool). ltb (late p) (late (halt k ks)) ≡ u → halt k ks ≡ p) (ltb (late p) (late (halt k ks)))
+      (λ _ u. absurd (let w = r .before p l (ltb-true (late p) (late (halt k ks)) u) in omega arith))
+      (λ _ u.
+      let v = ltb-false (late p) (late (halt k ks)) u in
+      let w = ltb-false (late (halt k ks)) (late p) t in
+      along-once (home k (length ks)) (length ks) (halt k ks) p (s .0) l (omega arith)) refl)
+      refl
 
-    skipped : (g x : ℕ) (xs : List ℕ) (s : Spot) → Filled g xs s → Filled (suc g) (x ∷ xs) (further s)
-    unfolding Filled further seek
-    skipped g x xs (At i) h = tt
-    skipped g x xs (Free f) h = ap further h
-    skipped g x xs Full h = tt
+  -- ---- the code's searches
 
-    seek-filled : (h : ℕ) (ks : List ℕ) → Filled h ks (seek h k ks)
-    unfolding Filled seek
-    seek-filled zero [] = tt
-    seek-filled (suc h) [] = tt
-    seek-filled zero (x ∷ xs) =
-        cases (λ (b : Bool). Filled zero (x ∷ xs) (cond b (Free 0) (cond (eqb x k) (At 0) (further (seek zero k xs))))) (eqb x 0)
-        (λ e. rw (ne-eqb k 0 n, eq-eqb k k refl))
-        (λ e. cases (λ (b : Bool). Filled zero (x ∷ xs) (cond b (At 0) (further (seek zero k xs)))) (eqb x k)
-        (λ c. tt)
-        (λ c. past x xs e c (seek zero k xs) (seek-filled zero xs)))
-    seek-filled (suc h) (x ∷ xs) = skipped h x xs (seek h k xs) (seek-filled h xs)
+  module _ (h a : ℕ) (z : h ≡ home k (length ks)) (e : a ≡ seek k ks h (length ks - h)) where
+    pub halt-straight : a < length ks → a ≡ halt k ks
+    unfolding halt orAgain
+    halt-straight l = rw (← z, ← e, lt-ltb a (length ks) l)
 
-    filled-at : (h : ℕ) (ks : List ℕ) (f : ℕ) → seek h k ks ≡ Free f → seek h k (set ks f k) ≡ At f
-    unfolding Filled
-    filled-at h ks f e = subst (Filled h ks) e (seek-filled h ks)
-
-  module _ (ks : List ℕ) (f : ℕ) (l : f < length ks) (z : getD ks f 0 ≡ 0) where
-    -- the same of a key's place
-    pub spot-stays : (j : ℕ) → solid (spotOf j ks) ≡ true → spotOf j (set ks f k) ≡ spotOf j ks
-    unfolding spotOf orElse solid
-    spot-stays j s =
-        rw (length-set ks f k)
-        (go (seek (home j (length ks)) j ks) (seek 0 j ks) _ _ (seek-stays (home j (length ks)) j ks f l z) (seek-stays 0 j ks f l z) s)
-      where
-        go : (a b a' b' : Spot) → (solid a ≡ true → a' ≡ a) → (solid b ≡ true → b' ≡ b) → solid (orElse a b) ≡ true → orElse a' b' ≡ orElse a b
-        go (At i) b a' b' p q s = rw (p refl)
-        go (Free i) b a' b' p q s = absurd (false≢true s)
-        go Full b a' b' p q s = rw (p refl, q s)
-
-    pub spot-filled : (k ≡ 0 → ⊥) → spotOf k ks ≡ Free f → spotOf k (set ks f k) ≡ At f
-    unfolding spotOf orElse solid
-    spot-filled n e =
-        rw (length-set ks f k)
-        (go (seek (home k (length ks)) k ks) (seek 0 k ks) _ _ (seek-stays (home k (length ks)) k ks f l z)
-        (filled-at n (home k (length ks)) ks f) (filled-at n 0 ks f) e)
-      where
-        go : (a b a' b' : Spot) → (solid a ≡ true → a' ≡ a) → (a ≡ Free f → a' ≡ At f) → (b ≡ Free f → b' ≡ At f) → orElse a b ≡ Free f → orElse a' b' ≡ At f
-        go (At i) b a' b' p q r e = absurd (let o : _≡_ {A = ℕ} 0 1 = cc in omega arith)
-        go (Free i) b a' b' p q r e = rw (q e)
-        go Full b a' b' p q r e = rw (p refl, r e)
-
--- ---- the code's search
-
-module _ (h k : ℕ) (ks : List ℕ) (s : Spot) (a : h ≡ home k (length ks)) (b : s ≡ seek h k ks) where
-  first : seek (home k (length ks)) k ks ≡ s
-  first = ap (λ (j : ℕ). seek j k ks) (sym a) ∙ sym b
-
-  pub spot-at : (i : ℕ) → s ≡ At i → At i ≡ spotOf k ks
-  unfolding spotOf orElse
-  spot-at i e = rw (first ∙ e)
-
-  pub spot-free : (i : ℕ) → s ≡ Free i → Free i ≡ spotOf k ks
-  unfolding spotOf orElse
-  spot-free i e = rw (first ∙ e)
-
-  pub spot-again : (t : Spot) → s ≡ Full → t ≡ seek 0 k ks → t ≡ spotOf k ks
-  unfolding spotOf orElse
-  spot-again t e f = rw (first ∙ e) f
+    pub halt-around : (b : ℕ) → length ks ≤ a → b ≡ seek k ks 0 (h - 0) → b ≡ halt k ks
+    unfolding halt orAgain
+    halt-around b l f = rw (← z, ← e, le-ltb a (length ks) l) (f ∙ ap (λ (m : ℕ). seek k ks 0 m) (omega arith))

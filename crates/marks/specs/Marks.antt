@@ -1,57 +1,109 @@
--- A list of keys as a table with open addressing: a place is empty where its key is 0, a key stands at the first such place or its own from its home on.
-use Prim.Native.Nat.{ℕ, zero, suc, _+_, _*_, _/_, _%_, _^_}
+-- A list of keys as a table with open addressing. A key's label stands for it: 1 for key 0, else the key itself; key 1 is on no lattice.
+-- 0 is an empty place. A label's path goes from its home to the end of the list, and then from the first place to its home; before a label
+-- stand only larger ones on its path.
+use Prim.Native.Nat.{ℕ, zero, suc, _+_, _*_, _/_, _%_, _^_, _-_, _<_}
 use mathlib.Core.Path.{_≡_}
 use mathlib.Core.Bool.{cond}
 use mathlib.Core.List.{List, [], _∷_}
 use mathlib.Core.Option.{Option, none, some}
-use lib.Dec.{eqb}
+use lib.Dec.{eqb, ltb}
 use lib.ListN.{length, getD}
 use lib.Ieee.{Float, nan}
 use Rattle.marks.specs.declared.Spot.{Spot}
-use Rattle.marks.specs.declared.Spot.the-variants.{At, Free, Full}
+use Rattle.marks.specs.declared.Spot.the-variants.{At, Absent}
+
+-- what stands in the list for the key k
+unfoldable pub label : ℕ → ℕ
+label k = cond (eqb k 0) 1 k
+
+-- ---- the path of a label
 
 -- the low three bits of a lattice key agree, so one says all
 abbrev pub packed : ℕ → ℕ
 packed k = k / 8 * 2 + k % 2
 
--- where the search for k begins among n places: eight near cells share eight places, whose number is scattered
+-- a number scattered below 2 ^ 32; all its bits count
+abbrev pub mixed : ℕ → ℕ
+mixed x = (x % 2 ^ 32 * 2654435769 + x / 2 ^ 32 * 2246822519) % 2 ^ 32
+
+-- where the path of k begins among n places: eight near cells share eight places, whose number is scattered
 unfoldable pub home : ℕ → ℕ → ℕ
-home k n = packed k / 8 % 2 ^ 32 * 2654435769 % 2 ^ 32 * (n / 8 % 2 ^ 32) / 2 ^ 32 * 8 + packed k % 8
+home k n = cond (ltb n 8) 0 (mixed (packed k / 8) * (n / 8 % 2 ^ 32) / 2 ^ 32 * 8 + packed k % 8)
 
--- one place further on
-unfoldable pub further : Spot → Spot
-further (At i) = At (suc i)
-further (Free i) = Free (suc i)
-further Full = Full
+-- how late the place q comes on a path that begins at h among n places: those below h come after all others
+unfoldable pub along : ℕ → ℕ → ℕ → ℕ
+along h n q = cond (ltb q h) (q + n) q
 
--- the first place from a place on that is empty or holds k
-unfoldable pub seek : ℕ → ℕ → List ℕ → Spot
-unfolding further
-seek zero k [] = Full
-seek (suc h) k [] = Full
-seek zero k (x ∷ xs) = cond (eqb x 0) (Free 0) (cond (eqb x k) (At 0) (further (seek zero k xs)))
-seek (suc h) k (x ∷ xs) = further (seek h k xs)
+-- all labels are larger than k before the place p on the path of k
+abbrev pub Outranked : ℕ → List ℕ → ℕ → Type 0
+Outranked k ks p =
+    (q : ℕ) → q < length ks → along (home k (length ks)) (length ks) q < along (home k (length ks)) (length ks) p → k < getD ks q 0
 
--- the second where the first found nothing
-unfoldable pub orElse : Spot → Spot → Spot
-orElse (At i) s = At i
-orElse (Free i) s = Free i
-orElse Full s = s
+-- each label that stands somewhere has only larger ones before it on its path
+abbrev pub Kept : List ℕ → Type 0
+Kept ks = (p : ℕ) → (getD ks p 0 ≡ 0 → ⊥) → Outranked (getD ks p 0) ks p
 
--- from k's home on; where nothing is found, from the first place on
-unfoldable pub spotOf : ℕ → List ℕ → Spot
-spotOf k ks = orElse (seek (home k (length ks)) k ks) (seek 0 k ks)
+-- ---- the search
+
+-- the first of m places from i on whose label is at most k, or the place after them
+unfoldable pub seek : ℕ → List ℕ → ℕ → ℕ → ℕ
+seek k ks i zero = i
+seek k ks i (suc m) = cond (ltb k (getD ks i 0)) (seek k ks (suc i) m) i
+
+-- a where it is one of n places, else b
+unfoldable pub orAgain : ℕ → ℕ → ℕ → ℕ
+orAgain n a b = cond (ltb a n) a b
+
+-- where the search for the label k ends: at the first place of its path whose label is at most k; at its home where there is none
+unfoldable pub halt : ℕ → List ℕ → ℕ
+halt k ks = orAgain (length ks) (seek k ks (home k (length ks)) (length ks - home k (length ks))) (seek k ks 0 (home k (length ks)))
+
+-- the label k stands at the place p, or it is absent and its search ended there
+unfoldable pub spotAt : ℕ → List ℕ → ℕ → Spot
+spotAt k ks p = cond (eqb (getD ks p 0) k) (At p) (Absent p)
+
+-- where the label k stands, or where its search ended
+abbrev pub standing : ℕ → List ℕ → Spot
+standing k ks = spotAt k ks (halt k ks)
+
+-- where the key k stands, or where its search ended
+abbrev pub spotOf : ℕ → List ℕ → Spot
+spotOf k ks = standing (label k) ks
+
+-- ---- values
 
 -- the value at a key's place
 unfoldable pub valueAt : Spot → List Float → Option Float
 valueAt (At i) ds = some (getD ds i nan)
-valueAt (Free i) ds = none
-valueAt Full ds = none
+valueAt (Absent i) ds = none
 
--- the value of k, where it stands
+-- the value of the key k, where it stands
 abbrev pub look : ℕ → List ℕ → List Float → Option Float
 look k ks ds = valueAt (spotOf k ks) ds
 
--- every key is found where it stands
-abbrev pub Kept : List ℕ → Type 0
-Kept ks = (i : ℕ) → (getD ks i 0 ≡ 0 → ⊥) → spotOf (getD ks i 0) ks ≡ At i
+-- how many places are not empty
+unfoldable pub occupied : List ℕ → ℕ
+occupied [] = 0
+occupied (x ∷ xs) = cond (eqb x 0) (occupied xs) (suc (occupied xs))
+
+-- ---- a key that was absent
+
+-- the place after i among n, the first after the last
+unfoldable pub following : ℕ → ℕ → ℕ
+following i n = cond (ltb (i + 1) n) (i + 1) 0
+
+-- k is absent, its search ended at p, and a place is empty
+pub record MayEnter (k p : ℕ) (ks : List ℕ) (ds : List Float) : Type 0 where
+  pub kept : Kept ks
+  pub long : length ds ≡ length ks
+  pub absent : spotOf k ks ≡ Absent p
+  pub room : occupied ks < length ks
+
+-- k has the value v now; every other key has the value that it had
+pub record Entered (k : ℕ) (v : Float) (ks : List ℕ) (ds : List Float) (ks' : List ℕ) (ds' : List Float) : Type 0 where
+  pub kept : Kept ks'
+  pub places : length ks' ≡ length ks
+  pub values : length ds' ≡ length ks
+  pub value : look k ks' ds' ≡ some v
+  pub others : (j : ℕ) → (label j ≡ label k → ⊥) → look j ks' ds' ≡ look j ks ds
+  pub fuller : occupied ks' ≡ suc (occupied ks)

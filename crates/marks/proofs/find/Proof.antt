@@ -1,49 +1,39 @@
--- `marks::find` meets its contract: it is the first search, or the second where the first found nothing.
+-- `marks::find` meets its contract: the key stands where its search ended, or nowhere.
 -- Assumes nothing.
-use Rattle.marks.proofs.Seeking.{spot-at, spot-free, spot-again}
+use Rattle.marks.proofs.Keeping.{found-at, found-absent, found-outside}
 use borrow.Author.Needs.{needs}
 use Rattle.marks.proofs.find.Statement.{statement}
 use Rattle.marks.proofs.find.Tie as tie
 
-home-requires : tie.Need-home-requires
-home-requires c κs = search needs
+label-requires : tie.Need-label-requires
+label-requires c κs = search needs
 
-seek-requires : tie.Need-seek-requires
-seek-requires c κs = search needs
+halt-requires : tie.Need-halt-requires
+halt-requires c κs = search needs
 
-enum-known-i : tie.Need-enum-known-i
-enum-known-i c = search needs
+mul-if2 : tie.Need-mul-if2
+mul-if2 c = search needs
 
-enum-known-i-2 : tie.Need-enum-known-i-2
-enum-known-i-2 c = search needs
-
-enum-told : tie.Need-enum-told
-enum-told c = search needs
-
-seek-requires-2 : tie.Need-seek-requires-2
-seek-requires-2 c κs = search needs
+shared-slice-read-if2 : tie.Need-shared-slice-read-if2
+shared-slice-read-if2 c = search needs
 
 returns : tie.Need-returns
-returns c = spot-at _ _ _ _ (c .before .before .before .before .home .ensures) (c .before .before .before .seek .ensures) _ (c .before .i .given .1)
+returns c = found-at _ _ _ _ (c .before .before .before .before .label .ensures) (c .before .before .before .halt .ensures) (c .if2 .taken)
 
 returns-2 : tie.Need-returns-2
-returns-2 c = spot-free _ _ _ _ (c .before .before .before .before .home .ensures) (c .before .before .before .seek .ensures) _ (c .before .i2 .given .1)
+returns-2 c = found-absent _ _ _ _ (c .before .before .before .before .label .ensures) (c .before .before .before .halt .ensures) (c .if2 .left)
 
 returns-3 : tie.Need-returns-3
-returns-3 c =
-    spot-again _ _ _ _ (c .before .before .before .before .home .ensures) (c .before .before .before .seek .ensures) _
-    (c .before .enum-told .given .1) (c .seek2 .ensures)
+returns-3 c = found-outside _ _ _ _ (c .before .before .label .ensures) (c .before .halt .ensures) (c .if1 .left)
 
 pub find-spec : {M : Type 1} → statement M
 find-spec =
     tie.close
     (tie.spec
-    home-requires
-    seek-requires
-    enum-known-i
-    enum-known-i-2
-    enum-told
-    seek-requires-2
+    label-requires
+    halt-requires
+    mul-if2
+    shared-slice-read-if2
     returns
     returns-2
     returns-3)

@@ -2,37 +2,29 @@
 -- Assumes nothing.
 use Prim.Native.Nat.{_-_}
 use mathlib.Core.Path.{_≡_, refl, sym, _∙_}
-use lib.ListN.{length}
 use borrow.Author.Needs.{needs}
 use Rattle.marks.specs.Marks.{seek}
-use Rattle.marks.proofs.Seeking.{seek-free, seek-at, seek-later, seek-full}
+use Rattle.marks.proofs.Seeking.{seek-here, seek-on, seek-end}
 use Rattle.marks.proofs.seek.Statement.{statement}
 use Rattle.marks.proofs.seek.Tie as tie
 
 abbrev Inv-loop : tie.InvT-loop
-Inv-loop keys from key i₀ i = seek from key keys ≡ seek i key keys
+Inv-loop keys from to key i₀ i = seek key keys from (to - from) ≡ seek key keys i (to - i)
 
 abbrev μ-loop : tie.MeasureT-loop
-μ-loop keys from key i₀ i = length keys - i
+μ-loop keys from to key i₀ i = to - i
 
 loop-holds : tie.Need-loop-holds Inv-loop μ-loop
 loop-holds c = refl
 
-mul-here : tie.Need-mul-here Inv-loop μ-loop
-mul-here c = search needs
+mul-if1 : tie.Need-mul-if1 Inv-loop μ-loop
+mul-if1 c = search needs
 
-shared-slice-read-here : tie.Need-shared-slice-read-here Inv-loop μ-loop
-shared-slice-read-here c = search needs
+shared-slice-read-if1 : tie.Need-shared-slice-read-if1 Inv-loop μ-loop
+shared-slice-read-if1 c = search needs
 
 returns : tie.Need-returns Inv-loop μ-loop
-returns c =
-    let l = c .before .before .before in
-    sym (l .loop .inv ∙ seek-free _ _ _ (c .before .before .loop-test .taken) (c .if1 .taken))
-
-returns-2 : tie.Need-returns-2 Inv-loop μ-loop
-returns-2 c =
-    let l = c .before .before .before .before in
-    sym (l .loop .inv ∙ seek-at _ _ _ (c .before .before .before .loop-test .taken) (c .before .if1 .left) (c .if2 .taken))
+returns c = seek-here _ _ _ _ (c .before .before .loop-test .taken) (c .if1 .taken) ∙ sym (c .before .before .before .loop .inv)
 
 add-i : tie.Need-add-i Inv-loop μ-loop
 add-i c = search needs
@@ -41,12 +33,10 @@ loop-less : tie.Need-loop-less Inv-loop μ-loop
 loop-less c = search needs
 
 loop-again : tie.Need-loop-again Inv-loop μ-loop
-loop-again c =
-    let l = c .before .before .before .before in
-    l .loop .inv ∙ seek-later _ _ _ (c .before .before .before .loop-test .taken) (c .before .if1 .left) (c .if2 .left)
+loop-again c = c .before .before .before .loop .inv ∙ seek-on _ _ _ _ (c .before .before .loop-test .taken) (c .if1 .left)
 
-returns-3 : tie.Need-returns-3 Inv-loop μ-loop
-returns-3 c = sym (c .before .loop .inv ∙ seek-full _ _ _ (c .loop-test .left))
+returns-2 : tie.Need-returns-2 Inv-loop μ-loop
+returns-2 c = seek-end _ _ _ _ (c .loop-test .left) ∙ sym (c .before .loop .inv)
 
 pub seek-spec : {M : Type 1} → statement M
 seek-spec =
@@ -55,11 +45,10 @@ seek-spec =
     Inv-loop
     μ-loop
     loop-holds
-    mul-here
-    shared-slice-read-here
+    mul-if1
+    shared-slice-read-if1
     returns
-    returns-2
     add-i
     loop-less
     loop-again
-    returns-3)
+    returns-2)

@@ -1,0 +1,114 @@
+-- The path of a label: it begins among the places, meets each once, and goes on to the following place. Assumes nothing.
+use mathlib.Core.Path.{_≡_, refl}
+use mathlib.Core.Bool.{Bool, cond}
+use mathlib.Core.Logic.{_⊎_, inl, inr}
+use Prim.Native.Nat.{ℕ, _+_, _-_, _*_, _/_, _%_, _<_, _≤_}
+use native.Mathlib.Nat.{mul-le-mul}
+use native.Mathlib.Omega.{arith}
+use borrow.Author.Tests.{ltb-true, ltb-false}
+use lib.Dec.{ltb}
+use Rattle.lists.proofs.Bools.{cases}
+use Rattle.marks.specs.Marks.{packed, mixed, home, along, following}
+
+-- ---- its home
+
+pub product : (a b : ℕ) → a < 4294967296 → a * b ≤ 4294967295 * b
+product a b p = let q : a ≤ 4294967295 = omega arith in mul-le-mul q (let r : b ≤ b = omega arith in r)
+
+pub home-within : (k n : ℕ) → home k n ≤ n
+unfolding home
+home-within k n =
+    cases (λ (b : Bool). cond b 0 (mixed (packed k / 8) * (n / 8 % 4294967296) / 4294967296 * 8 + packed k % 8) ≤ n) (ltb n 8)
+    (λ e. omega arith)
+    (λ e. go (mixed (packed k / 8)) (omega arith) (packed k) (ltb-false n 8 e))
+  where
+    go : (m : ℕ) → m < 4294967296 → (c : ℕ) → 8 ≤ n → m * (n / 8 % 4294967296) / 4294967296 * 8 + c % 8 ≤ n
+    go m l c e = let p = product m (n / 8 % 4294967296) l in omega arith
+
+-- ---- its places
+
+-- the place q comes after the others, or it is not below h
+abbrev pub Side : ℕ → ℕ → ℕ → Type 0
+Side h n q = ((q < h) × (along h n q ≡ q + n)) ⊎ ((h ≤ q) × (along h n q ≡ q))
+
+pub along-either : (h n q : ℕ) → Side h n q
+unfolding along
+along-either h n q =
+    cases (λ (b : Bool). ((q < h) × (cond b (q + n) q ≡ q + n)) ⊎ ((h ≤ q) × (cond b (q + n) q ≡ q))) (ltb q h)
+    (λ e. inl (ltb-true q h e, refl))
+    (λ e. inr (ltb-false q h e, refl))
+
+-- the place i is followed by the one after it, or it is the last
+abbrev Next : ℕ → ℕ → Type 0
+Next i n = ((i + 1 < n) × (following i n ≡ i + 1)) ⊎ ((n ≤ i + 1) × (following i n ≡ 0))
+
+following-either : (i n : ℕ) → Next i n
+unfolding following
+following-either i n =
+    cases (λ (b : Bool). ((i + 1 < n) × (cond b (i + 1) 0 ≡ i + 1)) ⊎ ((n ≤ i + 1) × (cond b (i + 1) 0 ≡ 0))) (ltb (i + 1) n)
+    (λ e. inl (ltb-true (i + 1) n e, refl))
+    (λ e. inr (ltb-false (i + 1) n e, refl))
+
+module _ (h n : ℕ) where
+  -- each place comes once
+  pub along-once : (p q : ℕ) → p < n → q < n → along h n p ≡ along h n q → p ≡ q
+  along-once p q a b e = go (along-either h n p) (along-either h n q)
+    where
+      go : Side h n p → Side h n q → p ≡ q
+      go (inl x) (inl y) = omega arith
+      go (inl x) (inr y) = omega arith
+      go (inr x) (inl y) = omega arith
+      go (inr x) (inr y) = omega arith
+
+  -- nothing comes before the first place
+  pub along-first : h ≤ n → (q : ℕ) → along h n q < along h n h → ⊥
+  along-first l q e = go (along-either h n q) (along-either h n h)
+    where
+      go : Side h n q → Side h n h → ⊥
+      go (inl x) (inl y) = omega arith
+      go (inl x) (inr y) = omega arith
+      go (inr x) (inl y) = omega arith
+      go (inr x) (inr y) = omega arith
+
+  -- what comes before the following place is this one or comes before it
+  pub along-following : h ≤ n → (q i : ℕ) → q < n → i < n → (q ≡ i → ⊥) → along h n q < along h n (following i n) → along h n q < along h n i
+  along-following l q i a b d e = go (along-either h n q) (along-either h n i) (following-either i n) (along-either h n (following i n))
+    where
+      go : Side h n q → Side h n i → Next i n → Side h n (following i n) → along h n q < along h n i
+      go (inl x) (inl y) (inl z) (inl w) = omega arith
+      go (inl x) (inl y) (inl z) (inr w) = omega arith
+      go (inl x) (inl y) (inr z) (inl w) = omega arith
+      go (inl x) (inl y) (inr z) (inr w) = omega arith
+      go (inl x) (inr y) (inl z) (inl w) = omega arith
+      go (inl x) (inr y) (inl z) (inr w) = omega arith
+      go (inl x) (inr y) (inr z) (inl w) = omega arith
+      go (inl x) (inr y) (inr z) (inr w) = omega arith
+      go (inr x) (inl y) (inl z) (inl w) = omega arith
+      go (inr x) (inl y) (inl z) (inr w) = omega arith
+      go (inr x) (inl y) (inr z) (inl w) = omega arith
+      go (inr x) (inl y) (inr z) (inr w) = omega arith
+      go (inr x) (inr y) (inl z) (inl w) = omega arith
+      go (inr x) (inr y) (inl z) (inr w) = omega arith
+      go (inr x) (inr y) (inr z) (inl w) = omega arith
+      go (inr x) (inr y) (inr z) (inr w) = omega arith
+
+pub following-within : (i n : ℕ) → i < n → following i n < n
+following-within i n l = go (following-either i n)
+  where
+    go : Next i n → following i n < n
+    go (inl x) = omega arith
+    go (inr x) = omega arith
+
+-- another place e is nearer to the following one
+pub along-nearer : (i n e : ℕ) → i < n → e < n → (e ≡ i → ⊥) → along (following i n) n e - following i n < along i n e - i
+along-nearer i n e l m d = go (along-either i n e) (following-either i n) (along-either (following i n) n e)
+  where
+    go : Side i n e → Next i n → Side (following i n) n e → along (following i n) n e - following i n < along i n e - i
+    go (inl x) (inl y) (inl z) = omega arith
+    go (inl x) (inl y) (inr z) = omega arith
+    go (inl x) (inr y) (inl z) = omega arith
+    go (inl x) (inr y) (inr z) = omega arith
+    go (inr x) (inl y) (inl z) = omega arith
+    go (inr x) (inl y) (inr z) = omega arith
+    go (inr x) (inr y) (inl z) = omega arith
+    go (inr x) (inr y) (inr z) = omega arith
