@@ -5,13 +5,14 @@ use mathlib.Core.List.{List, [], _∷_}
 use Prim.Native.Nat.{ℕ, suc, _+_, _<_, _≤_}
 use native.Mathlib.Numerals.{add-one}
 use native.Mathlib.Omega.{arith}
-use borrow.Author.Tests.{eq-eqb, ne-eqb}
 use lib.Dec.{eqb}
 use lib.ListN.{length, drop, getD, drop-of-length-le}
 use lib.Seq.{drop-cons}
 use lib.Ieee.{Float}
 use Rattle.ids.specs.Key.{onLattice}
+use Rattle.ids.proofs.KeyLaws.{lattice-by-low-bits}
 use Rattle.lists.specs.Padding.{padded}
+use Rattle.lists.proofs.ListLaws.{at-in}
 use Rattle.lists.proofs.PaddingLaws.{padded-at}
 use Rattle.neighbors.specs.Neighbors.{neighbours}
 use Rattle.neighbors.specs.declared.Near.{Near}
@@ -61,39 +62,24 @@ module _ (ns list : List ℕ) (listed : list ≡ padded 0 14 ns) where
     unfolding otherSpread
     other-one i l = rw (drop-cons ns i 0 l, listed-at i l, add-one i)
 
-    pub other-self : (i : ℕ) → i < length ns → getD list i 0 ≡ k → otherSpread seed f k rs (drop i ns) ≡ otherSpread seed f k rs (drop (i + 1) ns)
-    other-self i l e = other-one i l ∙ rw (eq-eqb (getD list i 0) k e)
+    module _ (i : ℕ) (l : i < length ns) (b : Bool)
+        (told : b ≡ not (eqb (getD list i 0) k) && hasSpread seed f (getD list i 0) (distanceOf (getD list i 0) rs)) where
+      pub other-more : b ≡ false → otherSpread seed f k rs (drop i ns) ≡ otherSpread seed f k rs (drop (i + 1) ns)
+      other-more e = other-one i l ∙ rw (← told, e)
 
-    pub other-not : (i : ℕ)
-        → i < length ns
-        → hasSpread seed f (getD list i 0) (distanceOf (getD list i 0) rs) ≡ false
-        → otherSpread seed f k rs (drop i ns) ≡ otherSpread seed f k rs (drop (i + 1) ns)
-    other-not i l e = other-one i l ∙ rw e (no (not (eqb (getD list i 0) k)) _)
-      where
-        no : (a b : Bool) → (a && false) || b ≡ b
-        no true b = refl
-        no false b = refl
+      pub other-here : b ≡ true → true ≡ otherSpread seed f k rs (drop i ns)
+      other-here e = sym (other-one i l ∙ rw (← told, e))
 
-    pub other-here : (i : ℕ)
-        → i < length ns
-        → (getD list i 0 ≡ k → ⊥)
-        → hasSpread seed f (getD list i 0) (distanceOf (getD list i 0) rs) ≡ true
-        → otherSpread seed f k rs (drop i ns) ≡ true
-    other-here i l n e = other-one i l ∙ rw (ne-eqb (getD list i 0) k n, e)
-
-    pub other-none : (i : ℕ) → length ns ≤ i → otherSpread seed f k rs (drop i ns) ≡ false
+    pub other-none : (i : ℕ) → length ns ≤ i → false ≡ otherSpread seed f k rs (drop i ns)
     unfolding otherSpread
     other-none i l = rw (drop-of-length-le ns {i = i} l)
 
 -- ---- no neighbour of a cell has key 1
 
-off-lattice : onLattice 1 ≡ false
-off-lattice = refl
-
 pub real-key : (k : ℕ) → onLattice k ≡ true → k ≡ 1 → ⊥
-real-key k on e = true≢false (sym on ∙ ap onLattice e ∙ off-lattice)
+real-key k on e = true≢false (sym on ∙ ap onLattice e ∙ lattice-by-low-bits 1)
 
 pub real-near : (k : ℕ) → onLattice k ≡ true → (list : List ℕ) → list ≡ padded 0 14 (neighbours k) → (i : ℕ) → i < length (neighbours k) → getD list i 0 ≡ 1 → ⊥
 real-near k on list listed i l =
     real-key (getD list i 0)
-    (rw (listed-at (neighbours k) list listed i l) (neighbour-on-lattice k (getD (neighbours k) i 0) on (mem-getD (neighbours k) i 0 l)))
+    (rw (listed-at (neighbours k) list listed i l) (neighbour-on-lattice k (getD (neighbours k) i 0) on (at-in (neighbours k) 0 i l)))

@@ -13,10 +13,11 @@ use marks::find;
 use search::Found;
 use search::find_row;
 ghost use mathlib.Core.Path.{_≡_};
-ghost use mathlib.Core.Bool.{true};
+ghost use mathlib.Core.Bool.{true, not, _&&_};
 ghost use mathlib.Core.List.{List};
 ghost use mathlib.Core.Option.{some};
 ghost use Prim.Native.Nat.{ℕ};
+ghost use lib.Dec.{eqb};
 ghost use lib.ListN.{length};
 ghost use Rattle.ids.specs.Key.{onLattice};
 ghost use Rattle.neighbors.specs.Neighbors.{neighbours};
@@ -120,7 +121,7 @@ fn has_spread(
     )
 }
 
-// Whether a cell is stored and has spread.
+// Whether a cell, but for the one that it is asked from, is stored and has spread.
 fn spread_at(
     fused_keys: &[u64],
     fused_distances: &[f32],
@@ -130,16 +131,20 @@ fn spread_at(
     course: Course,
     keys: &[u64],
     distances: &[f32],
+    from: u64,
     key: u64,
 ) -> bool
     requires { ⌜ Lent (now «fused_keys») (now «fused_distances») (now «fused_weights») «fused_count»
         × ((length (now distances) ≡ length (now keys)) × (key ≡ 1 → ⊥)) ⌝ }
     ensures { λ r. ⌜ ((rs : List MarchedRow) (ws : List ℕ)
         → Marked rs ws (now (keys .entry)) (now (distances .entry))
-        → r ≡ hasSpread (seedIn threshold
+        → r ≡ not (eqb key from) && hasSpread (seedIn threshold
         (rowsOf (now («fused_keys» .entry)) (now («fused_distances» .entry)) (now («fused_weights» .entry)) «fused_count»))
         (latticeOf course) key (distanceOf key rs)) ⌝ }
 {
+    if key == from {
+        return false;
+    }
     let distance = known(keys, distances, key);
     if !floats::is_finite(distance) {
         return false;
@@ -182,21 +187,19 @@ pub fn other_spread(
     let n = near.count;
     let mut i = 0;
     while i < n {
-        let cell = list[i];
-        if cell != from {
-            if spread_at(
-                fused_keys,
-                fused_distances,
-                fused_weights,
-                fused_count,
-                threshold,
-                course,
-                keys,
-                distances,
-                cell,
-            ) {
-                return true;
-            }
+        if spread_at(
+            fused_keys,
+            fused_distances,
+            fused_weights,
+            fused_count,
+            threshold,
+            course,
+            keys,
+            distances,
+            from,
+            list[i],
+        ) {
+            return true;
         }
         i += 1;
     }
