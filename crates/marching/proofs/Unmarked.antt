@@ -22,7 +22,7 @@ use Rattle.table.proofs.Laying.{distancesOf as tableDistances, weightsOf as tab
 use Rattle.marching.specs.March.{MarchedRow, marchedRow, Cell, cell, State, state, Field, Rooms, Going, on, refused, andThen, rowBefore, keysOf, isStored, store, waits, wait, waitAll, isSeed, seeds, sow, sowAll, settled, onward, spread, settle, visit, taking, takeUpTo, nothing, march}
 use Rattle.marching.specs.Lattice.{lattice, marchFrom}
 use Rattle.marching.specs.Spreading.{seedIn, hasSpread, anySpread, otherSpread, WaitsExactly}
-use Rattle.marching.specs.Unmarked.{seedAt, Test, byWaiting, bySpread, waitUnless, waitAround, sowBy, sowAllBy, spreadBy, settleBy, visitBy, takingBy, takeUpToBy, marchBy}
+use Rattle.marching.specs.Unmarked.{seedAt, Test, byWaiting, bySpread, testOf, waitUnless, waitAround, sowBy, sowAllBy, spreadBy, settleBy, visitBy, takingBy, takeUpToBy, marchBy}
 use Rattle.marching.proofs.KeysOnce.{Once, ascending-once}
 use Rattle.marching.proofs.Sound.{After, after-then, after-cond, after-weaken}
 use Rattle.marching.proofs.Facts.{back}
@@ -168,6 +168,21 @@ module _ (f : Field) (m : Rooms) where
   pub marked-march : (rs : List MarchedRow) → marchBy byWaiting f m rs ≡ march f m rs
   unfolding marchBy march
   marked-march rs = λ i. andThen (waiting-sow-all rs nothing i) (λ t. waiting-takings (suc (m .rows)) t i)
+
+-- ---- by either test
+
+module _ (f : Field) (m : Rooms) (back : (k l : ℕ) → l ∈ f .near k → k ∈ f .near l) (once : (k : ℕ) → Once (f .near k)) (seed : ℕ → Bool) where
+  pub sow-tested : (lean : Bool) (r : MarchedRow) (rs : List MarchedRow) (s : State)
+      → Sowing f seed (r ∷ rs) s
+      → sowBy (testOf lean seed f) f m r s ≡ sow (f .near) m r s
+  unfolding testOf
+  sow-tested true r rs s h = sowBy-is seed f m back once r rs s h
+  sow-tested false r rs s h = waiting-sow f m r s
+
+  pub taking-tested : (lean : Bool) (s : State) → Known f seed s → takingBy (testOf lean seed f) f m (s .waiting) s ≡ taking f m (s .waiting) s
+  unfolding testOf
+  taking-tested true s h = takingBy-is seed f m back once (s .waiting) s refl h
+  taking-tested false s h = waiting-taking f m (s .waiting) s
 
 -- ---- seeds are looked up in the fused table
 

@@ -1,7 +1,7 @@
 -- The march by any test of who waits already: by the waiting cells themselves, or without them, read off a cell's stored neighbours. Both are the march
 -- (proofs/Unmarked: marked-march, lattice-unmarked).
 use Prim.Native.Nat.{ℕ, zero, suc}
-use mathlib.Core.Bool.{Bool, cond, not, _||_, _&&_, false}
+use mathlib.Core.Bool.{Bool, cond, not, _||_, _&&_, true, false}
 use mathlib.Core.List.{List, [], _∷_}
 use lib.Dec.{ltb, eqb}
 use lib.ListN.{length, getD}
@@ -43,6 +43,11 @@ byWaiting k s n = waits n (s .waiting)
 -- another stored neighbour of it than k has spread
 abbrev pub bySpread : (ℕ → Bool) → Field → Test
 bySpread seed f k s n = otherSpread seed f k (s .stored) (f .near n)
+
+-- a lean march does without marks of waiting cells
+unfoldable pub testOf : Bool → (ℕ → Bool) → Field → Test
+testOf true seed f = bySpread seed f
+testOf false seed f = byWaiting
 
 module _ (already : Test) (f : Field) where
   -- neighbours of k, which is stored
