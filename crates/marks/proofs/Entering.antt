@@ -3,7 +3,7 @@ use mathlib.Core.Path.{_≡_, refl, sym, ap, _∙_}
 use mathlib.Core.Bool.{Bool, cond}
 use mathlib.Core.List.{List, [], _∷_}
 use mathlib.Core.Option.{Option, some}
-use Prim.Native.Nat.{ℕ, zero, suc, _-_, _<_, _≤_, suc-le-suc}
+use Prim.Native.Nat.{ℕ, zero, suc, _+_, _-_, _<_, _≤_, suc-le-suc}
 use native.Mathlib.Nat.{not-suc-le-zero, le-of-suc-le-suc}
 use native.Mathlib.Omega.{arith}
 use borrow.Author.Tests.{eqb-true, eqb-false, eq-eqb, ne-eqb}
@@ -13,28 +13,16 @@ use lib.Seq.{getD-set-same, getD-set-other}
 use lib.Ieee.{Float, nan}
 use Rattle.lists.proofs.Bools.{cases}
 use Rattle.marks.specs.Marks.{label, home, along, Outranked, Kept, look, occupied, following, MayEnter, Entered}
-use Rattle.marks.proofs.Pathing.{home-within, along-following, along-nearer, following-within}
+use Rattle.marks.proofs.Pathing.{home-within, along-first, along-following, along-later, along-last, along-most, following-within}
 use Rattle.marks.proofs.Seeking.{halt-right}
 use Rattle.marks.proofs.Keeping.{label-real, standing-ended, kept-once, kept-found, kept-absent, valueOf, value-at, value-same}
 
 -- ---- empty places
 
--- the first empty place
-unfoldable pub vacant : List ℕ → ℕ
-vacant [] = 0
-vacant (x ∷ xs) = cond (eqb x 0) 0 (suc (vacant xs))
-
-pub vacant-right : (ks : List ℕ) → occupied ks < length ks → (vacant ks < length ks) × (getD ks (vacant ks) 0 ≡ 0)
-unfolding vacant occupied
-vacant-right [] l = absurd (not-suc-le-zero l)
-vacant-right (x ∷ xs) l =
-    cases (λ (b : Bool).
-    eqb x 0 ≡ b
-    → cond b (occupied xs) (suc (occupied xs)) < suc (length xs)
-    → (cond b 0 (suc (vacant xs)) < suc (length xs)) × (getD (x ∷ xs) (cond b 0 (suc (vacant xs))) 0 ≡ 0)) (eqb x 0)
-    (λ _ e m. (omega arith, eqb-true x 0 e))
-    (λ _ e m. let r = vacant-right xs (le-of-suc-le-suc m) in (suc-le-suc (r .0), r .1))
-    refl l
+occupied-full : (ks : List ℕ) → ((q : ℕ) → q < length ks → getD ks q 0 ≡ 0 → ⊥) → length ks ≤ occupied ks
+unfolding occupied
+occupied-full [] f = omega arith
+occupied-full (x ∷ xs) f = rw (ne-eqb x 0 (f zero (omega arith))) (suc-le-suc (occupied-full xs (λ q l. f (suc q) (suc-le-suc l))))
 
 occupied-same : (ks : List ℕ) (i x : ℕ) → (getD ks i 0 ≡ 0 → ⊥) → (x ≡ 0 → ⊥) → occupied (set ks i x) ≡ occupied ks
 unfolding occupied
@@ -104,8 +92,8 @@ module _ (ks : List ℕ) (i x : ℕ) (l : i < length ks) where
 
 -- ---- the loop
 
--- the label x with the value d is in hand at the place i; it came from entering w with the value v
-pub record Carrying (w : ℕ) (v : Float) (ks₀ : List ℕ) (ds₀ : List Float) (x : ℕ) (d : Float) (i : ℕ) (ks : List ℕ) (ds : List Float) : Type 0 where
+-- the label x with the value d is in hand at the place i; it came from entering w with the value v at the place p
+pub record Carrying (w : ℕ) (v : Float) (p : ℕ) (ks₀ : List ℕ) (ds₀ : List Float) (x : ℕ) (d : Float) (i : ℕ) (ks : List ℕ) (ds : List Float) : Type 0 where
   pub places : length ks ≡ length ks₀
   pub values : length ds ≡ length ks
   pub inside : i < length ks
@@ -114,29 +102,30 @@ pub record Carrying (w : ℕ) (v : Float) (ks₀ : List ℕ) (ds₀ : List Float
   pub new : (q : ℕ) → getD ks q 0 ≡ x → ⊥
   pub passed : Outranked x ks i
   pub same : (j : ℕ) → (j ≡ 0 → ⊥) → inHand x d j ks ds ≡ inHand w v j ks₀ ds₀
-  pub room : (vacant ks₀ < length ks) × (getD ks (vacant ks₀) 0 ≡ 0)
+  pub taken : (q : ℕ) → q < length ks → along p (length ks) q < along p (length ks) i → getD ks q 0 ≡ 0 → ⊥
   pub count : occupied ks ≡ occupied ks₀
 
-pub begun : (k : ℕ) (v : Float) (p : ℕ) (ks : List ℕ) (ds : List Float) → MayEnter k p ks ds → Carrying (label k) v ks ds (label k) v p ks ds
-begun k v p ks ds h =
-    let r = halt-right (label k) ks in
-    let z = standing-ended (label k) ks p (h .absent) in
-    let e = vacant-right ks (h .room) in
+pub begun :
+    (k : ℕ) (v : Float) (p : ℕ) (ks : List ℕ) (ds : List Float)
+    → p < length ks
+    → MayEnter k p ks ds
+    → Carrying (label k) v p ks ds (label k) v p ks ds
+begun k v p ks ds l h =
     record {
       places = refl;
       values = h .long;
-      inside = rw z at (r .here (vacant ks) (e .0) (rw (e .1) (omega arith)) .0);
+      inside = l;
       kept = h .kept;
       real = label-real k;
       new = kept-absent ks (h .kept) (label k) (label-real k) p (h .absent);
-      passed = rw z at (r .before);
+      passed = rw (standing-ended (label k) ks p (h .absent)) at (halt-right (label k) ks .before);
       same = λ j n. refl;
-      room = e;
+      taken = λ q m a. absurd (along-first p (length ks) (omega arith) q a);
       count = refl;
     }
 
-module _ (w : ℕ) (v : Float) (ks₀ : List ℕ) (ds₀ : List Float) (x : ℕ) (d : Float) (i : ℕ) (ks : List ℕ) (ds : List Float)
-    (h : Carrying w v ks₀ ds₀ x d i ks ds) where
+module _ (w : ℕ) (v : Float) (p : ℕ) (ks₀ : List ℕ) (ds₀ : List Float) (x : ℕ) (d : Float) (i : ℕ) (ks : List ℕ) (ds : List Float)
+    (l : p < length ks₀) (n : getD ks i 0 ≡ 0 → ⊥) (h : Carrying w v p ks₀ ds₀ x d i ks ds) where
   -- what comes before the following place is this one, or it comes before it
   before : (k : ℕ) (us : List ℕ) → length us ≡ length ks → k < getD us i 0 → Outranked k us i → Outranked k us (following i (length ks))
   before k us e m o q a =
@@ -146,9 +135,18 @@ module _ (w : ℕ) (v : Float) (ks₀ : List ℕ) (ds₀ : List Float) (x : ℕ)
       o q a (rw e (along-following (home k (length ks)) (length ks) (home-within k (length ks)) q i (rw e at a) (h .inside) (eqb-false q i f) b)))
       refl)
 
+  -- this place is taken too
+  further : (us : List ℕ) → length us ≡ length ks → (getD us i 0 ≡ 0 → ⊥)
+      → ((q : ℕ) → q < length ks → along p (length ks) q < along p (length ks) i → getD us q 0 ≡ 0 → ⊥)
+      → (q : ℕ) → q < length us → along p (length us) q < along p (length us) (following i (length ks)) → getD us q 0 ≡ 0 → ⊥
+  further us e m o q =
+      rw e (λ a b.
+      cases (λ (t : Bool). eqb q i ≡ t → getD us q 0 ≡ 0 → ⊥) (eqb q i) (λ _ f. let z = eqb-true q i f in rw z m)
+      (λ _ f. o q a (along-following p (length ks) (let y = h .places in omega arith) q i a (h .inside) (eqb-false q i f) b)) refl)
+
   -- a larger label keeps its place
-  pub goes-on : x ≤ getD ks i 0 → Carrying w v ks₀ ds₀ x d (following i (length ks)) ks ds
-  goes-on l =
+  pub goes-on : x ≤ getD ks i 0 → Carrying w v p ks₀ ds₀ x d (following i (length ks)) ks ds
+  goes-on m =
       record {
         places = h .places;
         values = h .values;
@@ -156,59 +154,74 @@ module _ (w : ℕ) (v : Float) (ks₀ : List ℕ) (ds₀ : List Float) (x : ℕ)
         kept = h .kept;
         real = h .real;
         new = h .new;
-        passed = before x ks refl (let n = h .new i in omega arith) (h .passed);
+        passed = before x ks refl (let o = h .new i in omega arith) (h .passed);
         same = h .same;
-        room = h .room;
+        taken = further ks refl n (h .taken);
         count = h .count;
       }
 
   -- a smaller one gives it up and is in hand now
   pub gives-up :
-      (getD ks i 0 ≡ 0 → ⊥)
-      → getD ks i 0 < x
-      → Carrying w v ks₀ ds₀ (getD ks i 0) (getD ds i nan) (following i (length ks)) (set ks i x) (set ds i d)
-  gives-up n l =
-      let put = kept-set ks i x (h .inside) (h .kept) l (h .passed) in
+      getD ks i 0 < x
+      → Carrying w v p ks₀ ds₀ (getD ks i 0) (getD ds i nan) (following i (length ks)) (set ks i x) (set ds i d)
+  gives-up m =
       record {
         places = length-set ks i x ∙ h .places;
         values = length-set ds i d ∙ h .values ∙ sym (length-set ks i x);
         inside = rw (length-set ks i x) (following-within i (length ks) (h .inside));
-        kept = put;
+        kept = kept-set ks i x (h .inside) (h .kept) m (h .passed);
         real = n;
         new = λ q.
             split ks i x (h .inside) (λ (r y : ℕ). y ≡ getD ks i 0 → ⊥) q (λ e. omega arith)
             (λ z e. z (sym (kept-once ks (h .kept) i q n (sym e))));
         passed =
-            before (getD ks i 0) (set ks i x) (length-set ks i x) (rw (here ks i x (h .inside)) l)
-            (rw (length-set ks i x) (λ q a b. raised ks i x (h .inside) (h .kept) l (getD ks i 0) q (h .kept i n q a b)));
-        same = λ j m. other j m ∙ h .same j m;
-        room = (
-          rw (length-set ks i x) (h .room .0),
-          getD-set-other ks i (vacant ks₀) x 0 (λ z. n (rw z at (h .room .1))) ∙ h .room .1,
-        );
+            before (getD ks i 0) (set ks i x) (length-set ks i x) (rw (here ks i x (h .inside)) m)
+            (rw (length-set ks i x) (λ q a b. raised ks i x (h .inside) (h .kept) m (getD ks i 0) q (h .kept i n q a b)));
+        same = λ j o. other j o ∙ h .same j o;
+        taken =
+            further (set ks i x) (length-set ks i x) (rw (here ks i x (h .inside)) (h .real))
+            (λ q a b. split ks i x (h .inside) (λ (r y : ℕ). y ≡ 0 → ⊥) q (h .real) (λ z. h .taken q a b));
         count = occupied-same ks i x n (h .real) ∙ h .count;
       }
     where
       other : (j : ℕ) → (j ≡ 0 → ⊥) → inHand (getD ks i 0) (getD ds i nan) j (set ks i x) (set ds i d) ≡ inHand x d j ks ds
-      other j m =
+      other j o =
           cases (λ (b : Bool).
           eqb j (getD ks i 0) ≡ b
           → cond b (some (getD ds i nan)) (valueOf j (set ks i x) (set ds i d)) ≡ inHand x d j ks ds) (eqb j (getD ks i 0))
           (λ _ e.
           let z = eqb-true j (getD ks i 0) e in
-          rw (ne-eqb j x (λ y. let o : getD ks i 0 ≡ x = sym z ∙ y in omega arith))
-          (sym (value-at j ks ds i (kept-found ks (h .kept) j m i (sym z)))))
+          rw (ne-eqb j x (λ y. let f : getD ks i 0 ≡ x = sym z ∙ y in omega arith))
+          (sym (value-at j ks ds i (kept-found ks (h .kept) j o i (sym z)))))
           (λ _ e.
-          value-set ks i x (h .inside) (h .kept) l ds d (h .values) (h .passed) (h .real) j m (λ z. eqb-false j (getD ks i 0) e (sym z)))
+          value-set ks i x (h .inside) (h .kept) m ds d (h .values) (h .passed) (h .real) j o (λ z. eqb-false j (getD ks i 0) e (sym z)))
           refl
+
+  -- once around, every place is taken
+  pub no-place : following i (length ks) ≡ p → length ks₀ ≤ occupied ks₀
+  no-place e = rw (← h .places, ← h .count) (occupied-full ks all)
+    where
+      all : (q : ℕ) → q < length ks → getD ks q 0 ≡ 0 → ⊥
+      all q a =
+          cases (λ (t : Bool). eqb q i ≡ t → getD ks q 0 ≡ 0 → ⊥) (eqb q i) (λ _ f. let z = eqb-true q i f in rw z n)
+          (λ _ f. h .taken q a (along-last p (length ks) i (rw (h .places) l) (h .inside) e q a (eqb-false q i f))) refl
+
+-- where the search ended outside, there is none
+pub no-list : (k p : ℕ) (ks : List ℕ) (ds : List Float) → length ks ≤ p → MayEnter k p ks ds → length ks ≤ occupied ks
+no-list k p ks ds l h =
+    occupied-full ks
+    (λ q a z.
+    let e = standing-ended (label k) ks p (h .absent) in
+    let r = halt-right (label k) ks .here q a (rw z (omega arith)) .0 in
+    omega arith)
 
 -- an empty place takes it
 pub entered :
-    (k : ℕ) (v : Float) (ks₀ : List ℕ) (ds₀ : List Float) (x : ℕ) (d : Float) (i : ℕ) (ks : List ℕ) (ds : List Float)
-    → Carrying (label k) v ks₀ ds₀ x d i ks ds
+    (k : ℕ) (v : Float) (p : ℕ) (ks₀ : List ℕ) (ds₀ : List Float) (x : ℕ) (d : Float) (i : ℕ) (ks : List ℕ) (ds : List Float)
+    → Carrying (label k) v p ks₀ ds₀ x d i ks ds
     → getD ks i 0 ≡ 0
     → Entered k v ks₀ ds₀ (set ks i x) (set ds i d)
-entered k v ks₀ ds₀ x d i ks ds h e =
+entered k v p ks₀ ds₀ x d i ks ds h e =
     record {
       kept = kept-set ks i x (h .inside) (h .kept) less (h .passed);
       places = length-set ks i x ∙ h .places;
@@ -227,14 +240,65 @@ entered k v ks₀ ds₀ x d i ks ds h e =
         (λ z. label-real j (sym z ∙ e))
         ∙ h .same (label j) (label-real j)
 
--- each turn comes nearer to the first empty place
-pub nearer :
-    (w : ℕ) (v : Float) (ks₀ : List ℕ) (ds₀ : List Float) (x : ℕ) (d : Float) (i : ℕ) (ks : List ℕ) (ds : List Float)
-    → Carrying w v ks₀ ds₀ x d i ks ds
-    → (getD ks i 0 ≡ 0 → ⊥)
-    → (j : ℕ)
-    → j ≡ following i (length ks)
-    → along j (length ks₀) (vacant ks₀) - j < along i (length ks₀) (vacant ks₀) - i
-nearer w v ks₀ ds₀ x d i ks ds h n j e =
-    rw (e, ← h .places)
-    (along-nearer i (length ks) (vacant ks₀) (h .inside) (h .room .0) (λ z. n (ap (λ (y : ℕ). getD ks y 0) (sym z) ∙ h .room .1)))
+-- ---- the loop's invariant
+
+-- the place i is reached on the way around from p; what is said of the lists holds where k was absent
+pub record Around (k p : ℕ) (v : Float) (ks₀ : List ℕ) (ds₀ : List Float) (x : ℕ) (d : Float) (i : ℕ) (ks : List ℕ) (ds : List Float) : Type 0 where
+  pub start : p < length ks₀
+  pub inside : i < length ks
+  pub places : length ks ≡ length ks₀
+  pub values : length ds ≡ length ks
+  pub carried : MayEnter k p ks₀ ds₀ → Carrying (label k) v p ks₀ ds₀ x d i ks ds
+
+pub around-begun :
+    (k p : ℕ) (v : Float) (ks : List ℕ) (ds : List Float) (x : ℕ)
+    → x ≡ label k
+    → p < length ks
+    → length ds ≡ length ks
+    → Around k p v ks ds x v p ks ds
+around-begun k p v ks ds x e l m =
+    record {
+      start = l;
+      inside = l;
+      places = refl;
+      values = m;
+      carried = λ h. rw e (begun k v p ks ds l h);
+    }
+
+module _ (k p : ℕ) (v : Float) (ks₀ : List ℕ) (ds₀ : List Float) (x : ℕ) (d : Float) (i : ℕ) (ks : List ℕ) (ds : List Float)
+    (h : Around k p v ks₀ ds₀ x d i ks ds) where
+  pub around-done : getD ks i 0 ≡ 0 → MayEnter k p ks₀ ds₀ → Entered k v ks₀ ds₀ (set ks i x) (set ds i d)
+  around-done e m = entered k v p ks₀ ds₀ x d i ks ds (h .carried m) e
+
+  module _ (n : getD ks i 0 ≡ 0 → ⊥) (j : ℕ) (e : j ≡ following i (length ks)) where
+    pub around-none : j ≡ p → MayEnter k p ks₀ ds₀ → length ks₀ ≤ occupied ks₀
+    around-none f m = no-place (label k) v p ks₀ ds₀ x d i ks ds (h .start) n (h .carried m) (sym e ∙ f)
+
+    pub around-on : x ≤ getD ks i 0 → Around k p v ks₀ ds₀ x d j ks ds
+    around-on l =
+        record {
+          start = h .start;
+          inside = rw e (following-within i (length ks) (h .inside));
+          places = h .places;
+          values = h .values;
+          carried = λ m. rw e (goes-on (label k) v p ks₀ ds₀ x d i ks ds (h .start) n (h .carried m) l);
+        }
+
+    pub around-gives : getD ks i 0 < x → Around k p v ks₀ ds₀ (getD ks i 0) (getD ds i nan) j (set ks i x) (set ds i d)
+    around-gives l =
+        record {
+          start = h .start;
+          inside = rw (e, length-set ks i x) (following-within i (length ks) (h .inside));
+          places = length-set ks i x ∙ h .places;
+          values = length-set ds i d ∙ h .values ∙ sym (length-set ks i x);
+          carried = λ m. rw e (gives-up (label k) v p ks₀ ds₀ x d i ks ds (h .start) n (h .carried m) l);
+        }
+
+    -- less of the way is left
+    pub around-less : (j ≡ p → ⊥) → p + length ks₀ - along p (length ks₀) j < p + length ks₀ - along p (length ks₀) i
+    around-less f =
+        let y = along-later p (length ks₀) i (h .start) (rw (h .places) at (h .inside)) in
+        let z = along-most p (length ks₀) i (h .start) (rw (h .places) at (h .inside)) in
+        let q : j ≡ following i (length ks₀) = e ∙ ap (λ (m : ℕ). following i m) (h .places) in
+        let w : along p (length ks₀) i < along p (length ks₀) j = rw q (y (λ g. f (q ∙ g))) in
+        omega arith

@@ -2,7 +2,7 @@
 use mathlib.Core.Path.{_≡_, refl}
 use mathlib.Core.Bool.{Bool, cond}
 use mathlib.Core.Logic.{_⊎_, inl, inr}
-use Prim.Native.Nat.{ℕ, _+_, _-_, _*_, _/_, _%_, _<_, _≤_}
+use Prim.Native.Nat.{ℕ, _+_, _*_, _/_, _%_, _<_, _≤_}
 use native.Mathlib.Nat.{mul-le-mul}
 use native.Mathlib.Omega.{arith}
 use borrow.Author.Tests.{ltb-true, ltb-false}
@@ -99,16 +99,40 @@ following-within i n l = go (following-either i n)
     go (inl x) = omega arith
     go (inr x) = omega arith
 
--- another place e is nearer to the following one
-pub along-nearer : (i n e : ℕ) → i < n → e < n → (e ≡ i → ⊥) → along (following i n) n e - following i n < along i n e - i
-along-nearer i n e l m d = go (along-either i n e) (following-either i n) (along-either (following i n) n e)
-  where
-    go : Side i n e → Next i n → Side (following i n) n e → along (following i n) n e - following i n < along i n e - i
-    go (inl x) (inl y) (inl z) = omega arith
-    go (inl x) (inl y) (inr z) = omega arith
-    go (inl x) (inr y) (inl z) = omega arith
-    go (inl x) (inr y) (inr z) = omega arith
-    go (inr x) (inl y) (inl z) = omega arith
-    go (inr x) (inl y) (inr z) = omega arith
-    go (inr x) (inr y) (inl z) = omega arith
-    go (inr x) (inr y) (inr z) = omega arith
+-- ---- once around from p
+
+module _ (p n i : ℕ) (k : p < n) (l : i < n) where
+  -- the following place comes later, unless the way around is ended
+  pub along-later : (following i n ≡ p → ⊥) → along p n i < along p n (following i n)
+  along-later d = go (along-either p n i) (following-either i n) (along-either p n (following i n))
+    where
+      go : Side p n i → Next i n → Side p n (following i n) → along p n i < along p n (following i n)
+      go (inl x) (inl y) (inl z) = omega arith
+      go (inl x) (inl y) (inr z) = omega arith
+      go (inl x) (inr y) (inl z) = omega arith
+      go (inl x) (inr y) (inr z) = omega arith
+      go (inr x) (inl y) (inl z) = omega arith
+      go (inr x) (inl y) (inr z) = omega arith
+      go (inr x) (inr y) (inl z) = omega arith
+      go (inr x) (inr y) (inr z) = omega arith
+
+  -- there every other place was passed
+  pub along-last : following i n ≡ p → (q : ℕ) → q < n → (q ≡ i → ⊥) → along p n q < along p n i
+  along-last e q m d = go (along-either p n i) (following-either i n) (along-either p n q)
+    where
+      go : Side p n i → Next i n → Side p n q → along p n q < along p n i
+      go (inl x) (inl y) (inl z) = omega arith
+      go (inl x) (inl y) (inr z) = omega arith
+      go (inl x) (inr y) (inl z) = omega arith
+      go (inl x) (inr y) (inr z) = omega arith
+      go (inr x) (inl y) (inl z) = omega arith
+      go (inr x) (inl y) (inr z) = omega arith
+      go (inr x) (inr y) (inl z) = omega arith
+      go (inr x) (inr y) (inr z) = omega arith
+
+  pub along-most : along p n i < p + n
+  along-most = go (along-either p n i)
+    where
+      go : Side p n i → along p n i < p + n
+      go (inl x) = omega arith
+      go (inr x) = omega arith

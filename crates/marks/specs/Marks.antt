@@ -1,9 +1,9 @@
 -- A list of keys as a table with open addressing. A key's label stands for it: 1 for key 0, else the key itself; key 1 is on no lattice.
 -- 0 is an empty place. A label's path goes from its home to the end of the list, and then from the first place to its home; before a label
 -- stand only larger ones on its path.
-use Prim.Native.Nat.{ℕ, zero, suc, _+_, _*_, _/_, _%_, _^_, _-_, _<_}
+use Prim.Native.Nat.{ℕ, zero, suc, _+_, _*_, _/_, _%_, _^_, _-_, _<_, _≤_}
 use mathlib.Core.Path.{_≡_}
-use mathlib.Core.Bool.{cond}
+use mathlib.Core.Bool.{Bool, true, false, cond}
 use mathlib.Core.List.{List, [], _∷_}
 use mathlib.Core.Option.{Option, none, some}
 use lib.Dec.{eqb, ltb}
@@ -92,12 +92,11 @@ occupied (x ∷ xs) = cond (eqb x 0) (occupied xs) (suc (occupied xs))
 unfoldable pub following : ℕ → ℕ → ℕ
 following i n = cond (ltb (i + 1) n) (i + 1) 0
 
--- k is absent, its search ended at p, and a place is empty
+-- k is absent, and its search ended at p
 pub record MayEnter (k p : ℕ) (ks : List ℕ) (ds : List Float) : Type 0 where
   pub kept : Kept ks
   pub long : length ds ≡ length ks
   pub absent : spotOf k ks ≡ Absent p
-  pub room : occupied ks < length ks
 
 -- k has the value v now; every other key has the value that it had
 pub record Entered (k : ℕ) (v : Float) (ks : List ℕ) (ds : List Float) (ks' : List ℕ) (ds' : List Float) : Type 0 where
@@ -107,3 +106,12 @@ pub record Entered (k : ℕ) (v : Float) (ks : List ℕ) (ds : List Float) (ks' 
   pub value : look k ks' ds' ≡ some v
   pub others : (j : ℕ) → (label j ≡ label k → ⊥) → look j ks' ds' ≡ look j ks ds
   pub fuller : occupied ks' ≡ suc (occupied ks)
+
+-- it was put in; or no place was empty, and nothing is said
+unfoldable pub Tried : Bool → ℕ → Float → List ℕ → List Float → List ℕ → List Float → Type 0
+Tried true k v ks ds ks' ds' = Entered k v ks ds ks' ds'
+Tried false k v ks ds ks' ds' = length ks ≤ occupied ks
+
+-- what putting in a key does to lists in which it is absent
+abbrev pub Enters : ℕ → ℕ → Float → List ℕ → List Float → Bool → List ℕ → List Float → Type 0
+Enters k p v ks ds r ks' ds' = MayEnter k p ks ds → Tried r k v ks ds ks' ds'

@@ -3,7 +3,7 @@
 ghost use mathlib.Core.Path.{_≡_};
 ghost use Prim.Native.Nat.{_≤_, _<_, _-_};
 ghost use lib.ListN.{length};
-ghost use Rattle.marks.specs.Marks.{label, home, seek, halt, spotOf, following, MayEnter, Entered};
+ghost use Rattle.marks.specs.Marks.{label, home, seek, halt, spotOf, following, Enters};
 
 // The first 32 bits of a number.
 const NARROW: u64 = 0x1_0000_0000;
@@ -85,10 +85,14 @@ fn following(i: usize, places: usize) -> usize
 }
 
 // A key that is absent is put in from the place on where its search ended; each smaller one on the way gives up its place, with its value, and goes on.
-pub fn enter(keys: &mut [u64], values: &mut [f32], place: usize, key: u64, value: f32)
-    requires { ⌜ MayEnter key place (now keys) (now values) ⌝ }
-    ensures { λ r. ⌜ Entered key value (now (keys .entry)) (now (values .entry)) (now (keys .exit)) (now (values .exit)) ⌝ }
+// False where every place is taken; then the lists are spoilt.
+pub fn enter(keys: &mut [u64], values: &mut [f32], place: usize, key: u64, value: f32) -> bool
+    requires { ⌜ length (now values) ≡ length (now keys) ⌝ }
+    ensures { λ r. ⌜ Enters key place value (now (keys .entry)) (now (values .entry)) r (now (keys .exit)) (now (values .exit)) ⌝ }
 {
+    if keys.len() <= place {
+        return false;
+    }
     let mut k = label(key);
     let mut v = value;
     let mut i = place;
@@ -96,6 +100,9 @@ pub fn enter(keys: &mut [u64], values: &mut [f32], place: usize, key: u64, value
         let here = keys[i];
         let there = values[i];
         let next = following(i, keys.len());
+        if next == place {
+            return false;
+        }
         if here < k {
             keys[i] = k;
             values[i] = v;
@@ -106,4 +113,5 @@ pub fn enter(keys: &mut [u64], values: &mut [f32], place: usize, key: u64, value
     }
     keys[i] = k;
     values[i] = v;
+    true
 }

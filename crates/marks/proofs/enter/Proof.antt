@@ -1,31 +1,36 @@
--- `marks::enter` meets its contract: the label in hand has passed only larger ones, and every turn comes nearer to an empty place.
+-- `marks::enter` meets its contract: the label in hand has passed only larger ones, and the way around ends.
 -- Assumes nothing.
-use Prim.Native.Nat.{_-_}
+use Prim.Native.Nat.{_+_, _-_}
 use mathlib.Core.Path.{sym, _∙_}
 use lib.ListN.{length, length-set}
 use borrow.Author.Needs.{needs}
-use Rattle.marks.specs.Marks.{label, along, following}
-use Rattle.marks.proofs.Entering.{vacant, Carrying, begun, goes-on, gives-up, nearer, entered}
+use Rattle.marks.specs.Marks.{along, Tried}
+use Rattle.marks.proofs.Entering.{no-list, Around, around-begun, around-done, around-none, around-on, around-gives, around-less}
 use Rattle.marks.proofs.enter.Statement.{statement}
 use Rattle.marks.proofs.enter.Tie as tie
 
 abbrev Inv-loop : tie.InvT-loop
-Inv-loop keys₀ values₀ place key value k₀ v₀ i₀ keys values k v i = Carrying (label key) value keys₀ values₀ k v i keys values
+Inv-loop keys₀ values₀ place key value k₀ v₀ i₀ keys values k v i = Around key place value keys₀ values₀ k v i keys values
 
 abbrev μ-loop : tie.MeasureT-loop
-μ-loop keys₀ values₀ place key value k₀ v₀ i₀ keys values k v i = along i (length keys₀) (vacant keys₀) - i
+μ-loop keys₀ values₀ place key value k₀ v₀ i₀ keys values k v i = place + length keys₀ - along place (length keys₀) i
+
+returns : tie.Need-returns Inv-loop μ-loop
+unfolding Tried
+returns c = no-list _ _ _ _ (c .if1 .taken)
 
 label-requires : tie.Need-label-requires Inv-loop μ-loop
 label-requires c κs = search needs
 
 loop-holds : tie.Need-loop-holds Inv-loop μ-loop
-loop-holds c = rw (c .label .ensures) (begun _ _ _ _ _ (c .before .before .before .pre))
+loop-holds c =
+    around-begun _ _ _ _ _ _ (c .label .ensures) (c .before .if1 .left) (c .before .before .before .before .pre)
 
-mul-if1 : tie.Need-mul-if1 Inv-loop μ-loop
-mul-if1 c = search needs
+mul-if2 : tie.Need-mul-if2 Inv-loop μ-loop
+mul-if2 c = search needs
 
-slice-read-if1 : tie.Need-slice-read-if1 Inv-loop μ-loop
-slice-read-if1 c = search needs
+slice-read-if2 : tie.Need-slice-read-if2 Inv-loop μ-loop
+slice-read-if2 c = search needs
 
 mul-here : tie.Need-mul-here Inv-loop μ-loop
 mul-here c = search needs
@@ -42,6 +47,17 @@ slice-read-there c = search needs
 following-requires : tie.Need-following-requires Inv-loop μ-loop
 following-requires c κs = search needs
 
+same-length : tie.Need-same-length Inv-loop μ-loop
+same-length c = search needs
+
+same-length-2 : tie.Need-same-length-2 Inv-loop μ-loop
+same-length-2 c = search needs
+
+returns-2 : tie.Need-returns-2 Inv-loop μ-loop
+unfolding Tried
+returns-2 c =
+    around-none _ _ _ _ _ _ _ _ _ _ (c .before .before .before .before .before .before .loop .inv) (c .before .before .before .before .if2 .taken) _ (c .before .following .ensures) (c .if3 .taken)
+
 mul-keys : tie.Need-mul-keys Inv-loop μ-loop
 mul-keys c = search needs
 
@@ -56,26 +72,31 @@ slice-write-values c = search needs
 
 loop-less : tie.Need-loop-less Inv-loop μ-loop
 loop-less c =
-    let h = c .before .before .before .before .before .before .loop .inv in
-    let n = c .before .before .before .before .if1 .taken in
-    nearer _ _ _ _ _ _ _ _ _ h n _ (c .before .following .ensures)
+    let h = c .before .before .before .before .before .before .before .loop .inv in
+    let n = c .before .before .before .before .before .if2 .taken in
+    let e = c .before .before .following .ensures in
+    around-less _ _ _ _ _ _ _ _ _ _ h n _ e (c .before .if3 .left)
 
 loop-again : tie.Need-loop-again Inv-loop μ-loop
 loop-again c =
-    let h = c .before .before .before .before .before .before .loop .inv in
-    let n = c .before .before .before .before .if1 .taken in
-    rw (c .before .following .ensures) (gives-up _ _ _ _ _ _ _ _ _ h n (c .if2 .taken))
+    let h = c .before .before .before .before .before .before .before .loop .inv in
+    let n = c .before .before .before .before .before .if2 .taken in
+    let e = c .before .before .following .ensures in
+    around-gives _ _ _ _ _ _ _ _ _ _ h n _ e (c .if4 .taken)
 
 loop-less-2 : tie.Need-loop-less-2 Inv-loop μ-loop
 loop-less-2 c =
-    let h = c .before .before .before .before .before .before .loop .inv in
-    let n = c .before .before .before .before .if1 .taken in
-    nearer _ _ _ _ _ _ _ _ _ h n _ (c .before .following .ensures)
+    let h = c .before .before .before .before .before .before .before .loop .inv in
+    let n = c .before .before .before .before .before .if2 .taken in
+    let e = c .before .before .following .ensures in
+    around-less _ _ _ _ _ _ _ _ _ _ h n _ e (c .before .if3 .left)
 
 loop-again-2 : tie.Need-loop-again-2 Inv-loop μ-loop
 loop-again-2 c =
-    let h = c .before .before .before .before .before .before .loop .inv in
-    rw (c .before .following .ensures) (goes-on _ _ _ _ _ _ _ _ _ h (c .if2 .left))
+    let h = c .before .before .before .before .before .before .before .loop .inv in
+    let n = c .before .before .before .before .before .if2 .taken in
+    let e = c .before .before .following .ensures in
+    around-on _ _ _ _ _ _ _ _ _ _ h n _ e (c .if4 .left)
 
 mul-keys-2 : tie.Need-mul-keys-2 Inv-loop μ-loop
 mul-keys-2 c = search needs
@@ -89,16 +110,18 @@ mul-values-2 c = search needs
 slice-write-values-2 : tie.Need-slice-write-values-2 Inv-loop μ-loop
 slice-write-values-2 c = search needs
 
-same-length : tie.Need-same-length Inv-loop μ-loop
-same-length c = search needs
+same-length-3 : tie.Need-same-length-3 Inv-loop μ-loop
+same-length-3 c = search needs
 
-same-length-2 : tie.Need-same-length-2 Inv-loop μ-loop
-same-length-2 c =
+same-length-4 : tie.Need-same-length-4 Inv-loop μ-loop
+same-length-4 c =
     let h = c .before .before .loop .inv in
-    simp length-set (h .values ∙ h .places ∙ sym (c .before .before .before .before .before .before .pre .long))
+    simp length-set (h .values ∙ h .places ∙ sym (c .before .before .before .before .before .before .before .pre))
 
-returns : tie.Need-returns Inv-loop μ-loop
-returns c = entered _ _ _ _ _ _ _ _ _ (c .before .before .loop .inv) (c .if1 .left)
+returns-3 : tie.Need-returns-3 Inv-loop μ-loop
+unfolding Tried
+returns-3 c =
+    around-done _ _ _ _ _ _ _ _ _ _ (c .before .before .loop .inv) (c .if2 .left)
 
 pub enter-spec : {M : Type 1} → statement M
 enter-spec =
@@ -106,15 +129,19 @@ enter-spec =
     (tie.spec
     Inv-loop
     μ-loop
+    returns
     label-requires
     loop-holds
-    mul-if1
-    slice-read-if1
+    mul-if2
+    slice-read-if2
     mul-here
     slice-read-here
     mul-there
     slice-read-there
     following-requires
+    same-length
+    same-length-2
+    returns-2
     mul-keys
     slice-write-keys
     mul-values
@@ -127,6 +154,6 @@ enter-spec =
     slice-write-keys-2
     mul-values-2
     slice-write-values-2
-    same-length
-    same-length-2
-    returns)
+    same-length-3
+    same-length-4
+    returns-3)
