@@ -1,6 +1,2 @@
 pub mod Marking
 pub mod Walking
-pub mod Stepping
-pub mod Marching
-pub mod Finishing
-pub mod Determined

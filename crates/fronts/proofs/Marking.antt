@@ -1,147 +1,59 @@
--- Marks hold a state: what a mark says of a cell, and what one more mark or another one changes. Assumes nothing.
-use mathlib.Core.Path.{_≡_, refl, sym, ap, _∙_}
-use mathlib.Core.Bool.{Bool, true, false, cond, _||_, true≢false, false≢true}
+-- Marks hold a state: what one more mark, or another one, changes. Assumes nothing.
+use mathlib.Core.Path.{_≡_, refl, sym, ap, subst, _∙_}
+use mathlib.Core.Bool.{Bool, true, false, cond, _||_, or-true, true≢false}
 use mathlib.Core.List.{List, [], _∷_}
 use mathlib.Core.Option.{Option, none, some}
-use Prim.Native.Nat.{ℕ, _+_, _<_, _≤_}
+use Prim.Native.Nat.{ℕ, suc, _+_, _<_, _≤_}
 use native.Mathlib.Omega.{arith}
-use borrow.Author.Tests.{eqb-true, eqb-false, lt-ltb, le-ltb}
-use lib.Dec.{eqb, ltb}
-use lib.ListN.{length, getD, set, length-set}
-use lib.Ieee.{Float, nan, eq, ofBits}
+use borrow.Author.Tests.{eqb-true, eqb-false, lt-ltb, le-ltb, eq-eqb}
+use lib.Dec.{eqb}
+use lib.ListN.{length, set, length-set}
+use lib.Ieee.{Float, eq}
 use Rattle.floats.specs.Floats.{isFinite}
 use Rattle.heap.specs.Heap.{Heaped}
+use Rattle.ids.specs.Key.{onLattice}
 use Rattle.lists.specs.Lists.{insert}
-use Rattle.lists.proofs.Bools.{cases, or-first, or-second}
+use Rattle.lists.proofs.Bools.{cases}
 use Rattle.lists.proofs.Inserting.{insert-length}
-use Rattle.marks.specs.declared.Spot.the-variants.{At, Free, Full}
-use Rattle.marks.specs.Marks.{spotOf, look, Kept}
-use Rattle.marks.proofs.Keeping.{look-at, look-free, look-full, look-set, look-set-other, look-put, look-put-other, kept-put}
-use Rattle.search.specs.Keys.{member, find}
-use Rattle.search.specs.declared.Found.{Found}
-use Rattle.search.specs.declared.Found.the-variants as found
-use Rattle.marching.specs.March.{MarchedRow, marchedRow, Cell, cell, State, state, rowBefore, cellBefore, keysOf, distancesOf, cellsOf, distanceOf, store, wait}
+use Rattle.marks.specs.declared.Spot.the-variants.{At, Absent}
+use Rattle.marks.specs.Marks.{label, spotOf, look, Kept, occupied, MayEnter, Entered, Tried, Enters}
+use Rattle.marks.proofs.Keeping.{label-own, value-at, value-absent, look-set, look-set-other}
+use Rattle.search.specs.Keys.{member}
+use Rattle.marching.specs.March.{MarchedRow, marchedRow, Cell, cell, State, state, Field, Going, on, rowBefore, cellBefore, keysOf, cellsOf, distanceOf, isStored, waits, store, wait}
+use Rattle.marching.specs.Spreading.{otherSpread, Told}
 use Rattle.marching.proofs.KeysOnce.{insert-member, ascending-insert}
-use Rattle.marching.proofs.Looking.{stands, at, member-find, distance-find}
-use Rattle.fronts.specs.declared.Stop.the-variants.{NoRow, NoCell}
+use Rattle.marching.proofs.Spreading.{no-distance, no-stored, distance-insert}
+use Rattle.hearing.specs.Hearing.{waitingMark, orWaits, markOf, Marked}
+use Rattle.hearing.proofs.Saying.{unmarked}
+use Rattle.hearing.proofs.Walking.{real-key}
+use Rattle.fronts.specs.declared.Stop.the-variants.{NoRow, NoCell, NoMark}
+use Rattle.fronts.specs.declared.Placed.{Placed}
 use Rattle.fronts.specs.declared.Placed.the-variants.{Now, Not}
-use Rattle.fronts.specs.Fronts.{waitingMark, orWaits, markOf, said, Marked, Front, Stopped, LeftRows, LeftCells}
+use Rattle.fronts.specs.Fronts.{marking, Front, Stopped, LeftRows, LeftCells, DoesWait}
 
 -- ---- stored cells
 
--- there is one
-unfoldable isSome : Option Float → Bool
-isSome none = false
-isSome (some d) = true
+pub stored-some : (k : ℕ) (rs : List MarchedRow) (d : Float) → distanceOf k rs ≡ some d → isStored k rs ≡ true
+stored-some k rs d e =
+    cases (λ (b : Bool). isStored k rs ≡ b → b ≡ true) (isStored k rs) (λ _ _. refl)
+    (λ _ q. absurd (let o = no-distance k rs q in let z : _≡_ {A = ℕ} 0 1 = cc in omega arith)) refl
 
--- a cell that has a distance is stored, and no other is
-member-distance : (k : ℕ) (rs : List MarchedRow) → member k (keysOf rs) ≡ isSome (distanceOf k rs)
-unfolding isSome stands at
-member-distance k rs = member-find k (keysOf rs) ∙ go (find k (keysOf rs)) ∙ ap isSome (sym (distance-find k rs))
+pub stored-here : (k : ℕ) (rs : List MarchedRow) → isStored k rs ≡ true → (d : Float) × (distanceOf k rs ≡ some d)
+stored-here k rs e = go (distanceOf k rs) refl
   where
-    go : (f : Found) → stands f ≡ isSome (at f (distancesOf rs))
-    go (found.At i) = refl
-    go found.Absent = refl
-
-pub no-member : (k : ℕ) (rs : List MarchedRow) → distanceOf k rs ≡ none → member k (keysOf rs) ≡ false
-unfolding isSome
-no-member k rs e = member-distance k rs ∙ ap isSome e
-
-pub is-member : (k : ℕ) (rs : List MarchedRow) (d : Float) → distanceOf k rs ≡ some d → member k (keysOf rs) ≡ true
-unfolding isSome
-is-member k rs d e = member-distance k rs ∙ ap isSome e
-
-pub no-distance : (k : ℕ) (rs : List MarchedRow) → member k (keysOf rs) ≡ false → distanceOf k rs ≡ none
-unfolding isSome
-no-distance k rs e = go (distanceOf k rs) (sym (member-distance k rs) ∙ e)
-  where
-    go : (o : Option Float) → isSome o ≡ false → o ≡ none
-    go none e = refl
-    go (some d) e = absurd (true≢false e)
-
-pub stored-here : (k : ℕ) (rs : List MarchedRow) → member k (keysOf rs) ≡ true → (d : Float) × (distanceOf k rs ≡ some d)
-unfolding isSome
-stored-here k rs e = go (distanceOf k rs) (sym (member-distance k rs) ∙ e)
-  where
-    go : (o : Option Float) → isSome o ≡ true → (d : Float) × (o ≡ some d)
-    go none e = absurd (false≢true e)
-    go (some d) e = (d, refl)
-
--- one row more
-pub distance-insert :
-    (n : ℕ) (r : MarchedRow) (rs : List MarchedRow)
-    → member (r .key) (keysOf rs) ≡ false
-    → distanceOf n (insert rowBefore r rs) ≡ cond (eqb (r .key) n) (some (r .distance)) (distanceOf n rs)
-unfolding distanceOf insert member
-distance-insert n r [] o = refl
-distance-insert n r (s ∷ rs) o =
-    cases (λ (b : Bool).
-    distanceOf n (cond b (s ∷ insert rowBefore r rs) (r ∷ (s ∷ rs)))
-    ≡ cond (eqb (r .key) n) (some (r .distance)) (cond (eqb (s .key) n) (some (s .distance)) (distanceOf n rs)))
-    (ltb (s .key) (r .key))
-    (λ e. rw (distance-insert n r rs (or-second (eqb (s .key) (r .key)) (member (r .key) (keysOf rs)) o))
-    (swap (eqb (s .key) n) (eqb (r .key) n) (some (s .distance)) (some (r .distance)) (distanceOf n rs)
-    (λ p q.
-    eqb-false (s .key) (r .key) (or-first (eqb (s .key) (r .key)) (member (r .key) (keysOf rs)) o)
-    (eqb-true (s .key) n p ∙ sym (eqb-true (r .key) n q)))))
-    (λ e. refl)
-  where
-    swap : (a b : Bool) (x y z : Option Float) → (a ≡ true → b ≡ true → ⊥) → cond a x (cond b y z) ≡ cond b y (cond a x z)
-    swap true true x y z n = absurd (n refl refl)
-    swap true false x y z n = refl
-    swap false true x y z n = refl
-    swap false false x y z n = refl
-
--- ---- what a mark says
-
-module _ (rs : List MarchedRow) (ws : List ℕ) (ks : List ℕ) (ds : List Float) (h : Marked rs ws ks ds) (k : ℕ) where
-  pub known-at : (i : ℕ) → spotOf k ks ≡ At i → distanceOf k rs ≡ said (getD ds i nan)
-  unfolding orWaits ofBits
-  known-at i e = go (distanceOf k rs) (member k ws) refl (sym (look-at k ks ds i e) ∙ h .marks k)
-    where
-      go : (o : Option Float) (b : Bool) → distanceOf k rs ≡ o → some (getD ds i nan) ≡ orWaits o b → o ≡ said (getD ds i nan)
-      go (some d) b p q = let x : getD ds i nan ≡ d = cc in rw (x, h .finite k d p)
-      go none true p q = let x : getD ds i nan ≡ waitingMark = cc in rw x
-      go none false p q = absurd (let z : _≡_ {A = ℕ} 0 1 = cc in omega arith)
-
-  unmarked : look k ks ds ≡ none → (distanceOf k rs ≡ none) × (member k ws ≡ false)
-  unfolding orWaits
-  unmarked e = go (distanceOf k rs) (member k ws) (sym (h .marks k) ∙ e)
-    where
-      go : (o : Option Float) (b : Bool) → orWaits o b ≡ none → (o ≡ none) × (b ≡ false)
-      go (some d) b q = absurd (let z : _≡_ {A = ℕ} 0 1 = cc in omega arith)
-      go none true q = absurd (let z : _≡_ {A = ℕ} 0 1 = cc in omega arith)
-      go none false q = (refl, refl)
-
-  pub known-free : (i : ℕ) → spotOf k ks ≡ Free i → distanceOf k rs ≡ said waitingMark
-  unfolding ofBits
-  known-free i e = unmarked (look-free k ks ds i e) .0
-
-  pub known-full : spotOf k ks ≡ Full → distanceOf k rs ≡ said waitingMark
-  unfolding ofBits
-  known-full e = unmarked (look-full k ks ds e) .0
-
-  marked-cell : (i : ℕ) → spotOf k ks ≡ At i → member k (keysOf rs) || member k ws ≡ true
-  unfolding orWaits isSome
-  marked-cell i e = rw (member-distance k rs) (go (distanceOf k rs) (member k ws) (sym (look-at k ks ds i e) ∙ h .marks k))
-    where
-      go : (o : Option Float) (b : Bool) → some (getD ds i nan) ≡ orWaits o b → isSome o || b ≡ true
-      go (some d) b q = refl
-      go none true q = refl
-      go none false q = absurd (let z : _≡_ {A = ℕ} 0 1 = cc in omega arith)
-
--- what a mark says of a stored cell
-pub said-some : (d : Float) (o : Option Float) → o ≡ said d → isFinite d ≡ true → o ≡ some d
-said-some d o e f = e ∙ rw f
-
-pub said-none : (d : Float) (o : Option Float) → o ≡ said d → isFinite d ≡ false → o ≡ none
-said-none d o e f = e ∙ rw f
+    go : (o : Option Float) → distanceOf k rs ≡ o → (d : Float) × (o ≡ some d)
+    go none q = absurd (true≢false (sym e ∙ no-stored k rs q))
+    go (some d) q = (d, refl)
 
 -- ---- one mark more, or another
 
-module _ (rs : List MarchedRow) (ws : List ℕ) (ks : List ℕ) (ds : List Float) (h : Marked rs ws ks ds) (k : ℕ)
+module _ (rs : List MarchedRow) (ws : List ℕ) (ks : List ℕ) (ds : List Float) (h : Marked rs ws ks ds) (k : ℕ) (real : k ≡ 1 → ⊥)
     (v : Float) (ks' : List ℕ) (ds' : List Float) (kept : Kept ks') (long : length ds' ≡ length ks')
-    (new : look k ks' ds' ≡ some v) (others : (j : ℕ) → (j ≡ k → ⊥) → look j ks' ds' ≡ look j ks ds) where
+    (new : look k ks' ds' ≡ some v) (others : (j : ℕ) → (label j ≡ label k → ⊥) → look j ks' ds' ≡ look j ks ds) where
+  -- another key has the mark that it had
+  other : (j : ℕ) → (j ≡ 1 → ⊥) → eqb k j ≡ false → look j ks' ds' ≡ look j ks ds
+  other j n e = others j (λ q. eqb-false k j e (sym (label-own j k n real q)))
+
   -- k is stored
   marked-row :
       (vs : List ℕ)
@@ -154,7 +66,7 @@ module _ (rs : List MarchedRow) (ws : List ℕ) (ks : List ℕ) (ds : List Float
       let r = marchedRow k v in
       record {
         marks =
-            λ j.
+            λ j n.
             cases (λ (b : Bool).
             eqb k j ≡ b
             → look j ks' ds' ≡ orWaits (cond b (some v) (distanceOf j rs)) (member j vs)
@@ -163,7 +75,7 @@ module _ (rs : List MarchedRow) (ws : List ℕ) (ks : List ℕ) (ds : List Float
             (λ _ e q. q ∙ rw (distance-insert j r rs o, e)) refl
             (cases (λ (b : Bool). eqb k j ≡ b → look j ks' ds' ≡ orWaits (cond b (some v) (distanceOf j rs)) (member j vs)) (eqb k j)
             (λ _ e. rw (← (eqb-true k j e)) new)
-            (λ _ e. others j (λ q. eqb-false k j e (sym q)) ∙ h .marks j ∙ rw (same j (eqb-false k j e))) refl);
+            (λ _ e. other j n e ∙ h .marks j n ∙ rw (same j (eqb-false k j e))) refl);
         kept = kept;
         long = long;
         finite =
@@ -178,9 +90,9 @@ module _ (rs : List MarchedRow) (ws : List ℕ) (ks : List ℕ) (ds : List Float
   unfolding orWaits
   marked-wait vs more o f =
       record {
-        marks = λ j. cases (λ (b : Bool). eqb k j ≡ b → look j ks' ds' ≡ orWaits (distanceOf j rs) (b || member j ws)) (eqb k j)
+        marks = λ j n. cases (λ (b : Bool). eqb k j ≡ b → look j ks' ds' ≡ orWaits (distanceOf j rs) (b || member j ws)) (eqb k j)
             (λ _ e. let q = eqb-true k j e in rw (← q, o) (new ∙ ap some f))
-            (λ _ e. others j (λ q. eqb-false k j e (sym q)) ∙ h .marks j) refl
+            (λ _ e. other j n e ∙ h .marks j n) refl
             ∙ rw (more j);
         kept = kept;
         long = long;
@@ -198,8 +110,8 @@ unfolding orWaits member
 marked-skip k rs ws ks ds d e h =
     record {
       marks =
-          λ j.
-          h .marks j
+          λ j n.
+          h .marks j n
           ∙ cases (λ (b : Bool).
           eqb k j ≡ b → orWaits (distanceOf j rs) (b || member j ws) ≡ orWaits (distanceOf j rs) (member j ws))
           (eqb k j)
@@ -212,88 +124,228 @@ marked-skip k rs ws ks ds d e h =
 
 -- ---- waiting
 
-module _ (e : Float) (k : ℕ) (s : State) (w : ℕ) (ks : List ℕ) (ds es : List Float) (cs : List ℕ) (h : Front s ks ds w es cs) where
-  -- a cell with a mark is stored or waits, and changes nothing
-  pub wait-marked : (i : ℕ) → spotOf k ks ≡ At i → LeftCells (wait (length cs) e k s) s (Now w) ks ds es cs
+-- a waiting cell more is on the lattice
+lattice-more : (e : Float) (k : ℕ) (cs : List Cell) → onLattice k ≡ true
+    → ((j : ℕ) → member j (cellsOf cs) ≡ true → onLattice j ≡ true)
+    → (j : ℕ)
+    → member j (cellsOf (insert cellBefore (cell e k) cs)) ≡ true
+    → onLattice j ≡ true
+lattice-more e k cs own h j m =
+    cases (λ (b : Bool). eqb k j ≡ b → b || member j (cellsOf cs) ≡ true → onLattice j ≡ true) (eqb k j)
+    (λ _ q _. rw (eqb-true k j q) at own)
+    (λ _ q n. h j n) refl
+    (sym (insert-member cellBefore (cell e k) (λ (c : Cell). c .key) j cs) ∙ m)
+
+module _ (lean : Bool) (e : Float) (k : ℕ) (s : State) (w : ℕ) (ks : List ℕ) (ds es : List Float) (cs : List ℕ) (h : Front lean s ks ds w es cs) where
+  -- a cell that is stored or waits changes nothing
+  wait-skips : isStored k (s .stored) || waits k (s .waiting) ≡ true → LeftCells lean (wait (length cs) e k s) s (Now w) ks ds es cs
   unfolding wait LeftCells
-  wait-marked i a = (s, (rw (marked-cell (s .stored) (cellsOf (s .waiting)) ks ds (h .marked) k i a), (refl, h)))
+  wait-skips q = (s, (rw q, (refl, h)))
 
-  module _ (f : ℕ) (a : spotOf k ks ≡ Free f) where
-    bare : (distanceOf k (s .stored) ≡ none) × (member k (cellsOf (s .waiting)) ≡ false)
-    bare = unmarked (s .stored) (cellsOf (s .waiting)) ks ds (h .marked) k (look-free k ks ds f a)
-
+  module _ (p : isStored k (s .stored) ≡ false) (q : waits k (s .waiting) ≡ false) where
     -- no place is left
-    pub wait-full : length cs ≤ w → LeftCells (wait (length cs) e k s) s (Not NoCell) ks ds es cs
+    wait-refused : length cs ≤ w → LeftCells lean (wait (length cs) e k s) s (Not NoCell) ks ds es cs
     unfolding wait LeftCells Stopped
-    wait-full l =
-        rw (no-member k (s .stored) (bare .0), bare .1, le-ltb (length (s .waiting)) (length cs) (let c = h .heap .counted in omega arith))
+    wait-refused l = rw (p, q, le-ltb (length (s .waiting)) (length cs) (let c = h .heap .counted in omega arith))
 
-    -- it gets a mark and a place
-    pub wait-placed :
-        (k ≡ 0 → ⊥)
-        → w < length cs
-        → eq e e ≡ true
-        → (es' : List Float) (cs' : List ℕ)
-        → ((l : List Cell) → Heaped l w es cs → eq e e ≡ true → member k (cellsOf l) ≡ false → Heaped (insert cellBefore (cell e k) l) (w + 1) es' cs')
-        → LeftCells (wait (length cs) e k s) s (Now (w + 1)) (set ks f k) (set ds f waitingMark) es' cs'
-    unfolding wait LeftCells
-    wait-placed n l o es' cs' pushed =
-        let m = h .marked in (
-          state (s .stored) (insert cellBefore (cell e k) (s .waiting)) (s .takings),
+    -- it gets a place
+    wait-goes : w < length cs → wait (length cs) e k s ≡ on (state (s .stored) (insert cellBefore (cell e k) (s .waiting)) (s .takings))
+    unfolding wait
+    wait-goes l = rw (p, q, lt-ltb (length (s .waiting)) (length cs) (let c = h .heap .counted in omega arith))
+
+-- a cell with a mark is stored or waits
+pub wait-marked : (lean : Bool) (e : Float) (k : ℕ) (real : k ≡ 1 → ⊥) (s : State) (w : ℕ) (ks : List ℕ) (ds es : List Float) (cs : List ℕ)
+    → Front lean s ks ds w es cs
+    → (i : ℕ)
+    → spotOf k ks ≡ At i
+    → LeftCells lean (wait (length cs) e k s) s (Now w) ks ds es cs
+unfolding orWaits marking member
+wait-marked lean e k real s w ks ds es cs h i a =
+    wait-skips lean e k s w ks ds es cs h (known (distanceOf k (s .stored)) refl (sym (value-at (label k) ks ds i a) ∙ h .marked .marks k real))
+  where
+    bit : (l b : Bool) {x : Float} → some x ≡ orWaits none (member k (marking l (s .waiting))) → waits k (s .waiting) ≡ b → b ≡ true
+    bit true b p q = absurd (let z : _≡_ {A = ℕ} 0 1 = cc in omega arith)
+    bit false true p q = refl
+    bit false false p q = absurd (let r = p ∙ ap (orWaits none) q in let z : _≡_ {A = ℕ} 0 1 = cc in omega arith)
+
+    known : (o : Option Float) {x : Float} → distanceOf k (s .stored) ≡ o → some x ≡ orWaits (distanceOf k (s .stored)) (member k (marking lean (s .waiting)))
+        → isStored k (s .stored) || waits k (s .waiting) ≡ true
+    known (some d) q p = rw (stored-some k (s .stored) d q)
+    known none q p = rw (bit lean (waits k (s .waiting)) (p ∙ rw q) refl) (or-true (isStored k (s .stored)))
+
+-- ---- in a march with marks of waiting cells
+
+module _ (e : Float) (k : ℕ) (on-lattice : onLattice k ≡ true) (s : State) (w : ℕ) (ks : List ℕ) (ds es : List Float) (cs : List ℕ)
+    (h : Front false s ks ds w es cs) (p : ℕ) (a : spotOf k ks ≡ Absent p) where
+  bare : (isStored k (s .stored) ≡ false) × (waits k (s .waiting) ≡ false)
+  unfolding marking
+  bare =
+      let u = unmarked (s .stored) (cellsOf (s .waiting)) ks ds (h .marked) k (real-key k on-lattice) (value-absent (label k) ks ds p a) in
+      (no-stored k (s .stored) (u .0), u .1)
+
+  pub mark-full : length cs ≤ w → LeftCells false (wait (length cs) e k s) s (Not NoCell) ks ds es cs
+  mark-full l = wait-refused false e k s w ks ds es cs h (bare .0) (bare .1) l
+
+  -- it gets a mark and a place
+  pub mark-placed :
+      (ks' : List ℕ) (ds' : List Float)
+      → Entered k waitingMark ks ds ks' ds'
+      → w < length cs
+      → eq e e ≡ true
+      → (es' : List Float) (cs' : List ℕ)
+      → ((l : List Cell) → Heaped l w es cs → eq e e ≡ true → waits k l ≡ false → Heaped (insert cellBefore (cell e k) l) (w + 1) es' cs')
+      → LeftCells false (wait (length cs) e k s) s (Now (w + 1)) ks' ds' es' cs'
+  unfolding LeftCells marking
+  mark-placed ks' ds' did l o es' cs' pushed =
+      let m = h .marked in (
+        state (s .stored) (insert cellBefore (cell e k) (s .waiting)) (s .takings),
+        (
+          wait-goes false e k s w ks ds es cs h (bare .0) (bare .1) l,
           (
-            rw (no-member k (s .stored) (bare .0), bare .1, lt-ltb (length (s .waiting)) (length cs) (let c = h .heap .counted in omega arith)),
-            (
-              refl,
-              record {
-                marked = marked-wait (s .stored) (cellsOf (s .waiting)) ks ds m k waitingMark (set ks f k) (set ds f waitingMark)
-                    (kept-put k ks ds f a n (m .long) waitingMark (m .kept))
-                    (length-set ds f waitingMark ∙ m .long ∙ sym (length-set ks f k))
-                    (look-put k ks ds f a n (m .long) waitingMark)
-                    (look-put-other k ks ds f a n (m .long) waitingMark (m .kept))
-                    (cellsOf (insert cellBefore (cell e k) (s .waiting)))
-                    (λ j. insert-member cellBefore (cell e k) (λ (c : Cell). c .key) j (s .waiting)) (bare .0) refl;
-                heap = pushed (s .waiting) (h .heap) o (bare .1);
-              },
-            ),
+            refl,
+            record {
+              marked = marked-wait (s .stored) (cellsOf (s .waiting)) ks ds m k (real-key k on-lattice) waitingMark ks' ds'
+                  (did .kept) (did .values ∙ sym (did .places)) (did .value) (did .others)
+                  (cellsOf (insert cellBefore (cell e k) (s .waiting)))
+                  (λ j. insert-member cellBefore (cell e k) (λ (c : Cell). c .key) j (s .waiting)) (no-distance k (s .stored) (bare .0)) refl;
+              heap = pushed (s .waiting) (h .heap) o (bare .1);
+              lattice = lattice-more e k (s .waiting) on-lattice (h .lattice);
+              places = λ f. absurd (true≢false (sym f));
+            },
           ),
-        )
+        ),
+      )
+
+-- ---- in a lean march
+
+module _ (seed : ℕ → Bool) (f : Field) (from : ℕ) (e : Float) (k : ℕ) (on-lattice : onLattice k ≡ true) (s : State) (w : ℕ) (ks : List ℕ)
+    (ds es : List Float) (cs : List ℕ) (h : Front true s ks ds w es cs) (told : Told seed f from (k ∷ []) s) (p : ℕ) (a : spotOf k ks ≡ Absent p)
+    (b : Bool) (asked : b ≡ otherSpread seed f from (s .stored) (f .near k)) where
+  new : isStored k (s .stored) ≡ false
+  new = no-stored k (s .stored) (unmarked (s .stored) _ ks ds (h .marked) k (real-key k on-lattice) (value-absent (label k) ks ds p a) .0)
+
+  tells : waits k (s .waiting) ≡ b
+  unfolding member
+  tells = told k (rw (eq-eqb k k refl)) new ∙ sym asked
+
+  pub lean-already : b ≡ true → LeftCells true (wait (length cs) e k s) s (Now w) ks ds es cs
+  lean-already t = wait-skips true e k s w ks ds es cs h (rw (tells ∙ t) (or-true (isStored k (s .stored))))
+
+  pub lean-full : b ≡ false → length cs ≤ w → LeftCells true (wait (length cs) e k s) s (Not NoCell) ks ds es cs
+  lean-full t l = wait-refused true e k s w ks ds es cs h new (tells ∙ t) l
+
+  pub lean-placed :
+      b ≡ false
+      → w < length cs
+      → eq e e ≡ true
+      → (es' : List Float) (cs' : List ℕ)
+      → ((l : List Cell) → Heaped l w es cs → eq e e ≡ true → waits k l ≡ false → Heaped (insert cellBefore (cell e k) l) (w + 1) es' cs')
+      → LeftCells true (wait (length cs) e k s) s (Now (w + 1)) ks ds es' cs'
+  unfolding LeftCells marking
+  lean-placed t l o es' cs' pushed =
+      (
+        state (s .stored) (insert cellBefore (cell e k) (s .waiting)) (s .takings),
+        (
+          wait-goes true e k s w ks ds es cs h new (tells ∙ t) l,
+          (
+            refl,
+            record {
+              marked = h .marked;
+              heap = pushed (s .waiting) (h .heap) o (tells ∙ t);
+              lattice = lattice-more e k (s .waiting) on-lattice (h .lattice);
+              places = h .places;
+            },
+          ),
+        ),
+      )
 
 -- ---- storing
 
-module _ (k : ℕ) (v : Float) (s : State) (ws vs : List ℕ) (n : ℕ) (ks : List ℕ) (ds : List Float)
-    (h : Marked (s .stored) ws ks ds) (same : (j : ℕ) → (k ≡ j → ⊥) → member j ws ≡ member j vs)
-    (c : n ≡ length (s .stored)) (o : member k (keysOf (s .stored)) ≡ false) where
-  pub store-full : length ks ≤ n → LeftRows (store (length ks) (marchedRow k v) s) s vs (Not NoRow) ks ds
+module _ (lean : Bool) (k : ℕ) (on-lattice : onLattice k ≡ true) (v : Float) (f : isFinite v ≡ true) (s : State) (ws vs : List ℕ) (n : ℕ) (ks : List ℕ)
+    (ds : List Float) (h : Marked (s .stored) ws ks ds) (same : (j : ℕ) → (k ≡ j → ⊥) → member j ws ≡ member j vs)
+    (spare : lean ≡ true → (occupied ks ≡ length (s .stored)) × (member k ws ≡ false)) (c : n ≡ length (s .stored)) (o : member k (keysOf (s .stored)) ≡ false) where
+  pub store-full : length ks ≤ n → LeftRows lean (store (length ks) (marchedRow k v) s) s vs (Not NoRow) ks ds
   unfolding store LeftRows Stopped
   store-full l = rw (le-ltb (length (s .stored)) (length ks) (omega arith))
 
-  module _ (l : n < length ks) (f : isFinite v ≡ true) where
+  module _ (l : n < length ks) where
     stored :
         (ks' : List ℕ) (ds' : List Float)
         → Kept ks'
         → length ds' ≡ length ks'
         → look k ks' ds' ≡ some v
-        → ((j : ℕ) → (j ≡ k → ⊥) → look j ks' ds' ≡ look j ks ds)
-        → LeftRows (store (length ks) (marchedRow k v) s) s vs (Now (n + 1)) ks' ds'
+        → ((j : ℕ) → (label j ≡ label k → ⊥) → look j ks' ds' ≡ look j ks ds)
+        → (lean ≡ true → occupied ks' ≡ suc (length (s .stored)))
+        → LeftRows lean (store (length ks) (marchedRow k v) s) s vs (Now (n + 1)) ks' ds'
     unfolding store LeftRows
-    stored ks' ds' kept long new others =
+    stored ks' ds' kept long new others places =
         let m = insert-length rowBefore (marchedRow k v) (s .stored) in (
           state (insert rowBefore (marchedRow k v) (s .stored)) (s .waiting) (s .takings),
           (
             rw (lt-ltb (length (s .stored)) (length ks) (omega arith)),
             (
               refl,
-              (marked-row (s .stored) ws ks ds h k v ks' ds' kept long new others vs same o f, omega arith),
+              (
+                marked-row (s .stored) ws ks ds h k (real-key k on-lattice) v ks' ds' kept long new others vs same o f,
+                (omega arith, λ t. places t ∙ sym m),
+              ),
             ),
           ),
         )
 
-    pub store-at : (i : ℕ) → spotOf k ks ≡ At i → LeftRows (store (length ks) (marchedRow k v) s) s vs (Now (n + 1)) ks (set ds i v)
+    -- a key with a mark: in a lean march there is none, as it is not stored
+    pub store-at : (i : ℕ) → spotOf k ks ≡ At i → LeftRows lean (store (length ks) (marchedRow k v) s) s vs (Now (n + 1)) ks (set ds i v)
+    unfolding orWaits
     store-at i a =
         stored ks (set ds i v) (h .kept) (length-set ds i v ∙ h .long) (look-set k ks ds i a (h .long) v) (look-set-other k ks ds i a (h .long) v)
+        (λ t.
+        let q : some _ ≡ none = sym (value-at (label k) ks ds i a) ∙ h .marks k (real-key k on-lattice) ∙ rw (no-distance k (s .stored) o, spare t .1) in
+        absurd (let z : _≡_ {A = ℕ} 0 1 = cc in omega arith))
 
-    pub store-put : (i : ℕ) → spotOf k ks ≡ Free i → (k ≡ 0 → ⊥) → LeftRows (store (length ks) (marchedRow k v) s) s vs (Now (n + 1)) (set ks i k) (set ds i v)
-    store-put i a z =
-        stored (set ks i k) (set ds i v) (kept-put k ks ds i a z (h .long) v (h .kept))
-        (length-set ds i v ∙ h .long ∙ sym (length-set ks i k)) (look-put k ks ds i a z (h .long) v)
-        (look-put-other k ks ds i a z (h .long) v (h .kept))
+    pub store-put : (ks' : List ℕ) (ds' : List Float) → Entered k v ks ds ks' ds' → LeftRows lean (store (length ks) (marchedRow k v) s) s vs (Now (n + 1)) ks' ds'
+    store-put ks' ds' did =
+        stored ks' ds' (did .kept) (did .values ∙ sym (did .places)) (did .value) (did .others) (λ t. did .fuller ∙ ap suc (spare t .0))
+
+    -- every place is taken: not in a lean march
+    pub store-none : length ks ≤ occupied ks → (ks' : List ℕ) (ds' : List Float) → LeftRows lean (store (length ks) (marchedRow k v) s) s vs (Not NoMark) ks' ds'
+    unfolding LeftRows Stopped
+    store-none full ks' ds' =
+        cases (λ (b : Bool). lean ≡ b → b ≡ false) lean (λ _ t. absurd (let q = spare t .0 in omega arith)) (λ _ _. refl) refl
+
+-- ---- putting a mark in
+
+-- it was put in where that is answered
+pub entered-by :
+    (k p : ℕ) (v : Float) (ks : List ℕ) (ds : List Float) (r : Bool) (ks' : List ℕ) (ds' : List Float)
+    → Enters k p v ks ds r ks' ds'
+    → r ≡ true
+    → Kept ks
+    → length ds ≡ length ks
+    → spotOf k ks ≡ Absent p
+    → Entered k v ks ds ks' ds'
+unfolding Tried
+entered-by k p v ks ds r ks' ds' did t kept long absent =
+    subst (λ (b : Bool). Tried b k v ks ds ks' ds') t (did (record { kept = kept; long = long; absent = absent }))
+
+-- every place is taken where it is not
+pub not-entered :
+    (k p : ℕ) (v : Float) (ks : List ℕ) (ds : List Float) (r : Bool) (ks' : List ℕ) (ds' : List Float)
+    → Enters k p v ks ds r ks' ds'
+    → r ≡ false
+    → Kept ks
+    → length ds ≡ length ks
+    → spotOf k ks ≡ Absent p
+    → length ks ≤ occupied ks
+unfolding Tried
+not-entered k p v ks ds r ks' ds' did t kept long absent =
+    subst (λ (b : Bool). Tried b k v ks ds ks' ds') t (did (record { kept = kept; long = long; absent = absent }))
+
+-- a march of the same kind
+pub wait-as :
+    (lean l : Bool) (seed : ℕ → Bool) (f : Field) (k : ℕ) (ns : List ℕ) (go : State → Going) (ks : List ℕ) (ds : List Float) (w : ℕ) (es : List Float)
+    (cs : List ℕ) (r : Placed) (ks' : List ℕ) (ds' es' : List Float) (cs' : List ℕ)
+    → lean ≡ l
+    → DoesWait l seed f k ns go ks ds w es cs r ks' ds' es' cs'
+    → DoesWait lean seed f k ns go ks ds w es cs r ks' ds' es' cs'
+wait-as lean l seed f k ns go ks ds w es cs r ks' ds' es' cs' e did =
+    subst (λ (b : Bool). DoesWait b seed f k ns go ks ds w es cs r ks' ds' es' cs') (sym e) did

@@ -14,9 +14,8 @@ use Rattle.search.proofs.KeyLaws.{findBy-find, found}
 use Rattle.table.specs.Table.{row, rowsOf}
 use Rattle.table.proofs.Laying.{columns}
 use Rattle.marching.specs.March.{Field, isSeed, onward}
-use Rattle.marching.specs.Spreading.{seedIn, hasSpread}
-use Rattle.marching.specs.Unmarked.{seedAt}
-use Rattle.marching.proofs.Unmarked.{seed-found}
+use Rattle.marching.specs.Spreading.{seedIn, hasSpread, seedAt}
+use Rattle.marching.proofs.Telling.{seed-found}
 use Rattle.hearing.specs.Hearing.{Lent}
 
 module _ (t : Float) (ks : List ℕ) (ds ws : List Float) (n : ℕ) (lent : Lent ks ds ws n) (k : ℕ) where

@@ -79,7 +79,10 @@ module _ (ns list : List ℕ) (listed : list ≡ padded 0 14 ns) where
 pub real-key : (k : ℕ) → onLattice k ≡ true → k ≡ 1 → ⊥
 real-key k on e = true≢false (sym on ∙ ap onLattice e ∙ lattice-by-low-bits 1)
 
+pub near-lattice : (k : ℕ) → onLattice k ≡ true → (list : List ℕ) → list ≡ padded 0 14 (neighbours k) → (i : ℕ) → i < length (neighbours k)
+    → onLattice (getD list i 0) ≡ true
+near-lattice k own list listed i l =
+    rw (listed-at (neighbours k) list listed i l) (neighbour-on-lattice k (getD (neighbours k) i 0) own (at-in (neighbours k) 0 i l))
+
 pub real-near : (k : ℕ) → onLattice k ≡ true → (list : List ℕ) → list ≡ padded 0 14 (neighbours k) → (i : ℕ) → i < length (neighbours k) → getD list i 0 ≡ 1 → ⊥
-real-near k on list listed i l =
-    real-key (getD list i 0)
-    (rw (listed-at (neighbours k) list listed i l) (neighbour-on-lattice k (getD (neighbours k) i 0) on (at-in (neighbours k) 0 i l)))
+real-near k own list listed i l = real-key (getD list i 0) (near-lattice k own list listed i l)

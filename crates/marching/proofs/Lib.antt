@@ -12,5 +12,5 @@ pub mod Hearing
 pub mod Facts
 pub mod Samples
 pub mod Spreading
-pub mod Unmarked
+pub mod Telling
 pub mod Numbers

@@ -2,4 +2,3 @@ pub mod March
 pub mod Lattice
 pub mod Promises
 pub mod Spreading
-pub mod Unmarked

@@ -6,13 +6,19 @@ use native.Mathlib.Omega.{arith}
 use lib.ListN.{length}
 use Rattle.lists.specs.Padding.{padded}
 use Rattle.neighbors.specs.Neighbors.{neighbours}
-use Rattle.fronts.proofs.Walking.{near-list, Rest, rest-all, rest-more, rest-stop, rest-none, lt-of-lt-of-eq}
+use Rattle.table.specs.Table.{rowsOf}
+use Rattle.marching.specs.Lattice.{latticeOf}
+use Rattle.marching.specs.Spreading.{seedIn}
+use Rattle.marching.proofs.Telling.{neighbours-once}
+use Rattle.hearing.proofs.Walking.{near-list, near-lattice}
+use Rattle.fronts.proofs.Walking.{Rest, rest-all, rest-more, rest-stop, rest-none}
 use borrow.Author.Needs.{needs}
 use Rattle.fronts.proofs.wait_around.Statement.{statement}
 use Rattle.fronts.proofs.wait_around.Tie as tie
 
 abbrev Inv-loop : tie.InvT-loop
-Inv-loop keys₀ distances₀ estimates₀ cells₀ waiting estimate key list n held₀ i₀ keys distances estimates cells held i =
+Inv-loop lean fused-keys fused-distances fused-weights fused-count threshold course keys₀ distances₀ estimates₀ cells₀ waiting estimate key list n held₀ i₀
+    keys distances estimates cells held i =
     (list ≡ padded 0 14 (neighbours key))
     × (n ≡ length (neighbours key))
     × (n ≤ 14)
@@ -21,10 +27,12 @@ Inv-loop keys₀ distances₀ estimates₀ cells₀ waiting estimate key list n 
     × (length distances ≡ length distances₀)
     × (length estimates ≡ length estimates₀)
     × (length cells ≡ length cells₀)
-    × Rest estimate (neighbours key) keys₀ distances₀ waiting estimates₀ cells₀ i keys distances held estimates cells
+    × Rest lean (seedIn threshold (rowsOf fused-keys fused-distances fused-weights fused-count)) (latticeOf course) key estimate (neighbours key)
+    keys₀ distances₀ waiting estimates₀ cells₀ i keys distances held estimates cells
 
 abbrev μ-loop : tie.MeasureT-loop
-μ-loop keys₀ distances₀ estimates₀ cells₀ waiting estimate key list n held₀ i₀ keys distances estimates cells held i =
+μ-loop lean fused-keys fused-distances fused-weights fused-count threshold course keys₀ distances₀ estimates₀ cells₀ waiting estimate key list n held₀ i₀
+    keys distances estimates cells held i =
     n - i
 
 around-requires : tie.Need-around-requires Inv-loop μ-loop
@@ -32,7 +40,7 @@ around-requires c κs = search needs
 
 loop-holds : tie.Need-loop-holds Inv-loop μ-loop
 loop-holds c =
-    let a = c .before .before .before .before .before .before .args in
+    let a = c .before .before .before .before .before .before .before .before .before .args in
     let f = near-list (a .key) _ (c .before .around .ensures) in (
       f .0,
       f .1,
@@ -42,8 +50,8 @@ loop-holds c =
       refl,
       refl,
       refl,
-      rest-all (a .estimate) (neighbours (a .key)) _ (f .0) (a .keys .now) (a .distances .now) (a .waiting)
-          (a .estimates .now) (a .cells .now),
+      rest-all (a .lean) _ (latticeOf (a .course)) (a .key) (a .estimate) (neighbours (a .key)) _ (f .0) (neighbours-once (a .key)) (a .keys .now) (a .distances .now)
+          (a .waiting) (a .estimates .now) (a .cells .now),
     )
 
 mul-wait : tie.Need-mul-wait Inv-loop μ-loop
@@ -55,8 +63,9 @@ array-read-wait c = search needs
 wait-requires : tie.Need-wait-requires Inv-loop μ-loop
 wait-requires c κs =
     let i = c .before .before .before .before .before .loop .inv in
-    let p = c .before .before .before .before .before .before .before .before .before .before .before .before .pre in
-    (i .5 ∙ p .0 ∙ sym (i .4), i .6 ∙ p .1 ∙ sym (i .7))
+    let p = c .before .before .before .before .before .before .before .before .before .before .before .before .before .before .before .pre in
+    ((p .0 .0, (i .5 ∙ p .0 .1 .0 ∙ sym (i .4), i .6 ∙ p .0 .1 .1 ∙ sym (i .7))),
+    (near-lattice (c .before .before .before .before .before .before .before .before .before .before .before .before .before .before .before .args .key) (p .1 .0) _ (i .0) _ (omega (arith, c .before .before .before .before .loop-test .taken, i .1)), p .1 .1))
 
 enum-known-why : tie.Need-enum-known-why Inv-loop μ-loop
 enum-known-why c = search needs
@@ -75,16 +84,13 @@ same-length-4 c = search needs
 
 returns : tie.Need-returns Inv-loop μ-loop
 returns c =
-    let at-wait = c .before .before .before .before .before .before .before .before .before .before .before in
-    let at-loop-test = at-wait .before .before .before .before .before in
     let l = c .before .before .before .before .before .before .before .before .before .before .before .before .before .before .before .before .before in
-    let a = c .before .before .before .before .before .before .before .before .before .before .before .before .before
-    .before .before .before .before .before .before .before .before .before .before .before .args in
-    rest-stop (a .estimate) (neighbours (a .key)) _ (l .loop .inv .0) (a .keys .now) (a .distances .now) (a .waiting)
-    (a .estimates .now) (a .cells .now) (l .loop .i) (l .loop .keys) (l .loop .distances) (l .loop .held)
+    let a = c .before .before .before .before .before .before .before .before .before .before .before .before .before .before .before .before .before .before .before .before .before .before .before .before .before .before .before .args in
+    rest-stop (a .lean) _ (latticeOf (a .course)) (a .key) (a .estimate) (neighbours (a .key)) _ (l .loop .inv .0) (neighbours-once (a .key)) (a .keys .now) (a .distances .now) (a .waiting)
+    (a .estimates .now) (a .cells .now)
+    (l .loop .i) (l .loop .keys) (l .loop .distances) (l .loop .held)
     (l .loop .estimates) (l .loop .cells) (l .loop .inv .8) (l .loop .inv .7)
-    (lt-of-lt-of-eq _ _ _ (at-loop-test .loop-test .taken) (l .loop .inv .1)) _ _ _ _ _ (at-wait .wait .ensures) _
-    (c .before .why .given .1)
+    (omega (arith, c .before .before .before .before .before .before .before .before .before .before .before .before .before .before .before .before .loop-test .taken, l .loop .inv .1)) _ _ _ _ _ (c .before .before .before .before .before .before .before .before .before .before .before .wait .ensures) _ (c .before .why .given .1)
 
 enum-known-more : tie.Need-enum-known-more Inv-loop μ-loop
 enum-known-more c = search needs
@@ -97,27 +103,23 @@ loop-less c = search needs
 
 loop-again : tie.Need-loop-again Inv-loop μ-loop
 loop-again c =
-    let at-wait = c .before .before .before .before .before .before .before .before .before .before .before in
-    let at-loop-test = at-wait .before .before .before .before .before in
     let l = c .before .before .before .before .before .before .before .before .before .before .before .before .before .before .before .before .before in
-    let i = c .before .before .before .before .before .before .before .before .before .before .before .before .before
-    .before .before .before .before .loop .inv in
+    let i = l .loop .inv in
     let k = c .before .before .before .before .before .before .before .before .before .before .before .wait .kept in
-    let a = c .before .before .before .before .before .before .before .before .before .before .before .before .before
-    .before .before .before .before .before .before .before .before .before .before .before .args in (
+    let a = c .before .before .before .before .before .before .before .before .before .before .before .before .before .before .before .before .before .before .before .before .before .before .before .before .before .before .before .args in (
       i .0,
       i .1,
       i .2,
-      omega (arith, at-loop-test .loop-test .taken),
-      k .0 ∙ i .4,
-      k .1 .0 ∙ i .5,
-      k .1 .1 .0 ∙ i .6,
-      k .1 .1 .1 .0 ∙ i .7,
-      rest-more (a .estimate) (neighbours (a .key)) _ (l .loop .inv .0) (a .keys .now) (a .distances .now) (a .waiting)
-          (a .estimates .now) (a .cells .now) (l .loop .i) (l .loop .keys) (l .loop .distances) (l .loop .held)
+      omega (arith, c .before .before .before .before .before .before .before .before .before .before .before .before .before .before .before .before .loop-test .taken),
+      k .1 .1 .1 .1 .1 .1 .1 .0 ∙ i .4,
+      k .1 .1 .1 .1 .1 .1 .1 .1 .0 ∙ i .5,
+      k .1 .1 .1 .1 .1 .1 .1 .1 .1 .0 ∙ i .6,
+      k .1 .1 .1 .1 .1 .1 .1 .1 .1 .1 .0 ∙ i .7,
+      rest-more (a .lean) _ (latticeOf (a .course)) (a .key) (a .estimate) (neighbours (a .key)) _ (l .loop .inv .0) (neighbours-once (a .key)) (a .keys .now) (a .distances .now) (a .waiting)
+          (a .estimates .now) (a .cells .now)
+          (l .loop .i) (l .loop .keys) (l .loop .distances) (l .loop .held)
           (l .loop .estimates) (l .loop .cells) (l .loop .inv .8) (i .7)
-          (lt-of-lt-of-eq _ _ _ (at-loop-test .loop-test .taken) (i .1)) _ _ _ _ _ (at-wait .wait .ensures) _
-          (c .before .more .given .1),
+          (omega (arith, c .before .before .before .before .before .before .before .before .before .before .before .before .before .before .before .before .loop-test .taken, i .1)) _ _ _ _ _ (c .before .before .before .before .before .before .before .before .before .before .before .wait .ensures) _ (c .before .more .given .1),
     )
 
 same-length-5 : tie.Need-same-length-5 Inv-loop μ-loop
@@ -135,9 +137,10 @@ same-length-8 c = search needs
 returns-2 : tie.Need-returns-2 Inv-loop μ-loop
 returns-2 c =
     let l = c .before in
-    let a = c .before .before .before .before .before .before .before .before .args in
-    rest-none (a .estimate) (neighbours (a .key)) _ (l .loop .inv .0) (a .keys .now) (a .distances .now) (a .waiting)
-    (a .estimates .now) (a .cells .now) (l .loop .i) (l .loop .keys) (l .loop .distances) (l .loop .held)
+    let a = c .before .before .before .before .before .before .before .before .before .before .before .args in
+    rest-none (a .lean) _ (latticeOf (a .course)) (a .key) (a .estimate) (neighbours (a .key)) _ (l .loop .inv .0) (neighbours-once (a .key)) (a .keys .now) (a .distances .now) (a .waiting)
+    (a .estimates .now) (a .cells .now)
+    (l .loop .i) (l .loop .keys) (l .loop .distances) (l .loop .held)
     (l .loop .estimates) (l .loop .cells) (l .loop .inv .8) (omega (arith, l .loop .inv .1, c .loop-test .left))
 
 pub wait-around-spec : {M : Type 1} → statement M

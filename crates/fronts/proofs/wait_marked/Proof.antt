@@ -1,0 +1,80 @@
+-- `fronts::wait_marked` meets its contract: a cell without a mark neither is stored nor waits.
+-- Assumes nothing.
+use mathlib.Core.Path.{_≡_, refl, sym, subst, _∙_}
+use mathlib.Core.Bool.{Bool, true, false}
+use native.Mathlib.Omega.{arith}
+use borrow.Author.Tests.{not-false}
+use lib.Ieee.{nanBits, ofBits}
+use Rattle.marks.specs.Marks.{Tried}
+use Rattle.fronts.specs.Fronts.{LeftCells, Stopped}
+use Rattle.fronts.proofs.Marking.{mark-full, mark-placed, entered-by}
+use borrow.Author.Needs.{needs}
+use Rattle.fronts.proofs.wait_marked.Statement.{statement}
+use Rattle.fronts.proofs.wait_marked.Tie as tie
+
+returns : tie.Need-returns
+returns c =
+    λ s h. mark-full _ _ (c .before .before .before .before .before .pre .1 .1 .0) s _ _ _ _ _ h _ (c .before .before .before .before .before .pre .1 .0) (c .if1 .taken)
+
+float-from-bits-enter : tie.Need-float-from-bits-enter
+unfolding nanBits
+float-from-bits-enter c = search needs
+
+enter-requires : tie.Need-enter-requires
+enter-requires c κs = c .before .before .before .before .before .before .before .pre .0 .0
+
+same-length : tie.Need-same-length
+same-length c = search needs
+
+same-length-2 : tie.Need-same-length-2
+same-length-2 c = search needs
+
+returns-2 : tie.Need-returns-2
+unfolding LeftCells Stopped
+returns-2 c = λ s h. refl
+
+add-held : tie.Need-add-held
+add-held c = search needs
+
+push-requires : tie.Need-push-requires
+push-requires c κs =
+    (omega (arith, c .before .before .before .before .before .before .before .before .before .before .if1 .left, c .before .before .before .before .before .before .before .before .before .before .before .before .before .before .before .pre .0 .1), omega (arith, c .before .before .before .before .before .before .before .before .before .before .if1 .left))
+
+same-length-3 : tie.Need-same-length-3
+same-length-3 c = search needs
+
+same-length-4 : tie.Need-same-length-4
+same-length-4 c = search needs
+
+same-length-5 : tie.Need-same-length-5
+same-length-5 c = search needs
+
+same-length-6 : tie.Need-same-length-6
+same-length-6 c = search needs
+
+returns-3 : tie.Need-returns-3
+unfolding ofBits
+returns-3 c =
+    let s = c .before .before .before .before .before .before .before .before .before .before .before .before .before .before .before .before .before .before .before .before in
+    λ st h.
+    mark-placed _ _ (s .pre .1 .1 .0) st _ _ _ _ _ h _ (s .pre .1 .0) _ _
+    (entered-by _ _ _ _ _ _ _ _ (c .before .before .before .before .before .before .before .before .before .before .before .before .enter .ensures) (not-false _ (c .before .before .before .before .before .before .before .if2 .left)) (h .marked .kept) (h .marked .long) (s .pre .1 .0))
+    (c .before .before .before .before .before .before .before .before .before .before .before .before .before .before .before .if1 .left) (s .pre .1 .1 .1) _ _ (c .before .before .before .before .push .ensures)
+
+pub wait-marked-spec : {M : Type 1} → statement M
+wait-marked-spec =
+    tie.close
+    (tie.spec
+    returns
+    float-from-bits-enter
+    enter-requires
+    same-length
+    same-length-2
+    returns-2
+    add-held
+    push-requires
+    same-length-3
+    same-length-4
+    same-length-5
+    same-length-6
+    returns-3)
