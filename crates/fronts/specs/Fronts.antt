@@ -4,6 +4,7 @@ use Prim.Native.Nat.{ℕ, suc, _≤_, _<_}
 use mathlib.Core.Path.{_≡_}
 use mathlib.Core.Bool.{Bool, true, false, cond}
 use mathlib.Core.List.{List, [], _∷_}
+use lib.Dec.{eqb}
 use lib.ListN.{length, getD}
 use lib.Ieee.{Float, nan, le}
 use Rattle.floats.specs.Floats.{zero32, isFinite}
@@ -31,7 +32,7 @@ use Rattle.fronts.specs.declared.Raced.the-variants as raced
 -- ---- what is lent
 
 -- a table whose rows are on the lattice, at finite distances
-pub record Sound (ks : List ℕ) (ds ws : List Float) (n : ℕ) : Type 0 where
+pub record Tabled (ks : List ℕ) (ds ws : List Float) (n : ℕ) : Type 0 where
   pub lent : Lent ks ds ws n
   pub lattice : (i : ℕ) → i < n → onLattice (getD ks i 0) ≡ true
   pub finite : (i : ℕ) → i < n → isFinite (getD ds i nan) ≡ true
@@ -170,6 +171,11 @@ pub record Sown (rs : List MarchedRow) (near : ℕ → List ℕ) (lean : Bool) (
 unfoldable pub Emptied : Bool → Going → Raced → List ℕ → List Float → List Float → List ℕ → Type 0
 Emptied lean g (raced.Done n t) ks ds es cs = (s : State) × ((g ≡ on s) × ((s .takings ≡ t) × (Held lean s n ks ds 0 es cs × (n ≤ length ks))))
 Emptied lean g (raced.Not why) ks ds es cs = Stopped lean g why
+
+-- a first key that stands as 1 is 0
+unfoldable pub unlabelled : List ℕ → List ℕ
+unlabelled [] = []
+unlabelled (k ∷ ks) = cond (eqb k 1) 0 k ∷ ks
 
 -- the lists hold the stored rows by key, and then zeros
 pub record Laid (s : State) (n : ℕ) (ks : List ℕ) (ds es : List Float) (cs : List ℕ) : Type 0 where

@@ -44,14 +44,15 @@ module _ (seed : ℕ → Bool) (f : Field) where
   new-decides r s t new e h n i o =
       h n o ∙ sym (ap (λ (l : List MarchedRow). otherSpread seed f (r .key) l (f .near n)) e ∙ other-insert seed f r (s .stored) new (f .near n))
 
-  pub sow-told : (r : MarchedRow) (rs : List MarchedRow) (s t : State)
-      → Sowing f seed (r ∷ rs) s
+  pub sow-told : (r q : MarchedRow) (rs : List MarchedRow) (s t : State)
+      → Sowing f seed (q ∷ rs) s
+      → r .key ≡ q .key
       → t .stored ≡ insert rowBefore r (s .stored)
       → t .waiting ≡ s .waiting
       → Told seed f (r .key) (f .near (r .key)) t
   unfolding member
-  sow-told r rs s t h e w =
-      new-decides r s t (h .apart (r .key) (rw (eq-eqb (r .key) (r .key) refl))) e
+  sow-told r q rs s t h own e w =
+      new-decides r s t (h .apart (r .key) (rw (eq-eqb (q .key) (r .key) (sym own)))) e
       (λ n o. ap (waits n) w ∙ h .exact n (or-second (eqb (r .key) n) (isStored n (s .stored)) (sym (stored-more n r (s .stored)) ∙ ap (isStored n) (sym e) ∙ o)))
 
   pub settle-told : (r : MarchedRow) (c : Cell) (cs : List Cell) (s t : State)

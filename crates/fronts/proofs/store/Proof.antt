@@ -13,7 +13,7 @@ returns : tie.Need-returns
 returns c =
     let a = c .before .before .before .args in
     let p = c .before .before .before .pre in
-    λ s ws vs h same spare n o. store-full (a .lean) (a .key) (p .1 .0) (a .distance) (p .1 .1) s ws vs (a .count) (a .keys .now) (a .distances .now) h same spare n o (c .if1 .taken)
+    λ s ws vs h same spare f n o. store-full (a .lean) (a .key) (p .1) (a .distance) f s ws vs (a .count) (a .keys .now) (a .distances .now) h same spare n o (c .if1 .taken)
 
 find-requires : tie.Need-find-requires
 find-requires c κs = search needs
@@ -48,8 +48,8 @@ returns-2 : tie.Need-returns-2
 returns-2 c =
     let a = c .before .before .before .before .before .before .before .before .before .before .before .before .before .before .before .before .args in
     let p = c .before .before .before .before .before .before .before .before .before .before .before .before .before .before .before .before .pre in
-    λ s ws vs h same spare n o.
-    store-none (a .lean) (a .key) (p .1 .0) (a .distance) (p .1 .1) s ws vs (a .count) (a .keys .now) (a .distances .now) h same spare n o (c .before .before .before .before .before .before .before .before .before .before .before .before .before .if1 .left)
+    λ s ws vs h same spare f n o.
+    store-none (a .lean) (a .key) (p .1) (a .distance) f s ws vs (a .count) (a .keys .now) (a .distances .now) h same spare n o (c .before .before .before .before .before .before .before .before .before .before .before .before .before .if1 .left)
     (not-entered _ _ _ _ _ _ _ _ (c .before .before .before .before .before .enter .ensures) (not-true _ (c .if2 .taken)) (h .kept) (h .long) (sym (c .before .before .before .before .before .before .before .before .before .before .before .find .ensures) ∙ c .before .before .before .before .before .before .before .before .before .place2 .given .1)) _ _
 
 add-t25 : tie.Need-add-t25
@@ -65,8 +65,8 @@ returns-3 : tie.Need-returns-3
 returns-3 c =
     let a = c .before .before .before .before .before .before .before .before .args in
     let p = c .before .before .before .before .before .before .before .before .pre in
-    λ s ws vs h same spare n o.
-    store-at (a .lean) (a .key) (p .1 .0) (a .distance) (p .1 .1) s ws vs (a .count) (a .keys .now) (a .distances .now) h same spare n o (c .before .before .before .before .before .if1 .left) _ (sym (c .before .before .before .find .ensures) ∙ c .before .place .given .1)
+    λ s ws vs h same spare f n o.
+    store-at (a .lean) (a .key) (p .1) (a .distance) f s ws vs (a .count) (a .keys .now) (a .distances .now) h same spare n o (c .before .before .before .before .before .if1 .left) _ (sym (c .before .before .before .find .ensures) ∙ c .before .place .given .1)
 
 same-length-5 : tie.Need-same-length-5
 same-length-5 c = search needs
@@ -78,8 +78,8 @@ returns-4 : tie.Need-returns-4
 returns-4 c =
     let a = c .before .before .before .before .before .before .before .before .before .before .before .before .before .before .before .before .args in
     let p = c .before .before .before .before .before .before .before .before .before .before .before .before .before .before .before .before .pre in
-    λ s ws vs h same spare n o.
-    store-put (a .lean) (a .key) (p .1 .0) (a .distance) (p .1 .1) s ws vs (a .count) (a .keys .now) (a .distances .now) h same spare n o (c .before .before .before .before .before .before .before .before .before .before .before .before .before .if1 .left) _ _
+    λ s ws vs h same spare f n o.
+    store-put (a .lean) (a .key) (p .1) (a .distance) f s ws vs (a .count) (a .keys .now) (a .distances .now) h same spare n o (c .before .before .before .before .before .before .before .before .before .before .before .before .before .if1 .left) _ _
     (entered-by _ _ _ _ _ _ _ _ (c .before .before .before .before .before .enter .ensures) (not-false _ (c .if2 .left)) (h .kept) (h .long) (sym (c .before .before .before .before .before .before .before .before .before .before .before .find .ensures) ∙ c .before .before .before .before .before .before .before .before .before .place2 .given .1))
 
 pub store-spec : {M : Type 1} → statement M

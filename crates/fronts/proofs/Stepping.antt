@@ -1,0 +1,258 @@
+-- Steps on all four lists: a row is stored, then cells wait; and a cell is taken. Assumes nothing.
+use mathlib.Core.Path.{_≡_, refl, sym, ap, subst, _∙_}
+use mathlib.Core.Bool.{Bool, true, false, _||_, or-true, false≢true}
+use mathlib.Core.List.{List, [], _∷_}
+use mathlib.Core.Option.{some, none}
+use Prim.Native.Nat.{ℕ, suc, _-_, _<_}
+use native.Mathlib.Nat.{not-suc-le-zero}
+use borrow.Author.Tests.{ne-eqb, eq-eqb}
+use lib.Dec.{eqb}
+use lib.ListN.{length, getD}
+use lib.Ieee.{Float, le, eq}
+use Rattle.floats.specs.Floats.{isFinite}
+use Rattle.floats.proofs.Order.{le-first}
+use Rattle.heap.specs.Heap.{Heaped}
+use Rattle.heap.proofs.Laws.{heaped-key}
+use Rattle.ids.specs.Key.{onLattice}
+use Rattle.lists.specs.Lists.{insert}
+use Rattle.marks.specs.Marks.{occupied}
+use Rattle.search.specs.Keys.{member}
+use Rattle.marching.specs.March.{MarchedRow, marchedRow, Cell, State, state, Field, Rooms, rooms, Going, on, andThen, rowBefore, keysOf, cellsOf, distanceOf, isStored, store, waitAll, settled, onward, spread, settle, visit, taking, take}
+use Rattle.marching.specs.Spreading.{Told}
+use Rattle.marching.specs.declared.Course.{Course}
+use Rattle.marching.specs.Lattice.{latticeOf}
+use Rattle.marching.proofs.Numbers.{settled-finite, number-equal}
+use Rattle.marching.proofs.Sound.{after-on}
+use Rattle.marching.proofs.Spreading.{no-stored, store-is}
+use Rattle.hearing.specs.Hearing.{Marked, said}
+use Rattle.fronts.specs.declared.Stop.{Stop}
+use Rattle.fronts.specs.declared.Placed.{Placed}
+use Rattle.fronts.specs.declared.Placed.the-variants.{Now, Not}
+use Rattle.fronts.specs.declared.Step.{Step}
+use Rattle.fronts.specs.declared.Step.the-variants as step
+use Rattle.fronts.specs.Fronts.{Fair, marking, markingAlso, Front, Held, Taken, roomsOf, LeftRows, LeftCells, Left, ToldOnce, ToldFirst, DoesWait}
+use Rattle.fronts.proofs.Marking.{marked-skip, stored-some}
+use Rattle.fronts.proofs.Walking.{stopped-then, stopped-by}
+
+-- what is at most something is a number
+pub number-le : (x y : Float) → le x y ≡ true → eq x x ≡ true
+number-le x y h = number-equal x (le-first x y h)
+
+-- once k is stored, it is told who of its neighbours waits
+pub told-stored : (seed : ℕ → Bool) (f : Field) (k : ℕ) (s : State) → ToldOnce seed f k s
+    → (room : ℕ) (d : Float) (t : State)
+    → store room (marchedRow k d) s ≡ on t
+    → Told seed f k (f .near k) t
+told-stored seed f k s told room d t e =
+    let i =
+    after-on (λ t. t ≡ state (insert rowBefore (marchedRow k d) (s .stored)) (s .waiting) (s .takings)) (store room (marchedRow k d) s) t
+    (store-is room (marchedRow k d) s) e in
+    told d t (ap (λ (x : State). x .stored) i) (ap (λ (x : State). x .waiting) i)
+
+-- ---- a row is stored (g), then cells wait (go)
+
+module _ (lean : Bool) (seed : ℕ → Bool) (f : Field) (k : ℕ) (g : Going) (go : State → Going) (s : State) (w : ℕ) (es : List Float) (cs : List ℕ)
+    (h : Heaped (s .waiting) w es cs) (lattice : (j : ℕ) → member j (cellsOf (s .waiting)) ≡ true → onLattice j ≡ true) (p : Placed) (ks : List ℕ)
+    (ds : List Float) (did : LeftRows lean g s (marking lean (s .waiting)) p ks ds) where
+  pub no-row : (why : Stop) → p ≡ Not why → (es' : List Float) (cs' : List ℕ) → Left lean (andThen g go) (step.Not why) ks ds es' cs'
+  unfolding LeftRows Left
+  no-row why e es' cs' = stopped-then lean g go why (subst (λ (o : Placed). LeftRows lean g s (marking lean (s .waiting)) o ks ds) e did)
+
+  module _ (told : (t : State) → g ≡ on t → Told seed f k (f .near k) t) (n : ℕ) (e : p ≡ Now n) (q : Placed) (ks' : List ℕ) (ds' es' : List Float) (cs' : List ℕ)
+      (then-did : DoesWait lean seed f k (f .near k) go ks ds w es cs q ks' ds' es' cs') where
+    stored : LeftRows lean g s (marking lean (s .waiting)) (Now n) ks ds
+    stored = subst (λ (o : Placed). LeftRows lean g s (marking lean (s .waiting)) o ks ds) e did
+
+    front : (t : State)
+        → t .waiting ≡ s .waiting
+        → Marked (t .stored) (marking lean (s .waiting)) ks ds
+        → (lean ≡ true → occupied ks ≡ length (t .stored))
+        → Front lean t ks ds w es cs
+    front t a m places =
+        record {
+          marked = subst (λ (l : List Cell). Marked (t .stored) (marking lean l) ks ds) (sym a) m;
+          heap = subst (λ (l : List Cell). Heaped l w es cs) (sym a) h;
+          lattice = λ j i. lattice j (sym (ap (λ (l : List Cell). member j (cellsOf l)) a) ∙ i);
+          places = places;
+        }
+
+    waited : (o : Placed) → q ≡ o → (t : State) → Front lean t ks ds w es cs → g ≡ on t → LeftCells lean (go t) t o ks' ds' es' cs'
+    waited o a t b m = subst (λ (o : Placed). LeftCells lean (go t) t o ks' ds' es' cs') a (then-did t b (told t m))
+
+    pub no-cell : (why : Stop) → q ≡ Not why → Left lean (andThen g go) (step.Not why) ks' ds' es' cs'
+    unfolding LeftRows LeftCells Left andThen
+    no-cell why a =
+        let x = stored in
+        stopped-by lean (andThen g go) (go (x .0)) why (ap (λ (y : Going). andThen y go) (x .1 .0))
+        (waited (Not why) a (x .0) (front (x .0) (x .1 .1 .0) (x .1 .1 .1 .0) (x .1 .1 .1 .1 .1)) (x .1 .0))
+
+    pub both-done : (w' : ℕ) → q ≡ Now w' → Left lean (andThen g go) (step.On n w') ks' ds' es' cs'
+    unfolding LeftRows LeftCells Left andThen
+    both-done w' a =
+        let x = stored in
+        let y = waited (Now w') a (x .0) (front (x .0) (x .1 .1 .0) (x .1 .1 .1 .0) (x .1 .1 .1 .1 .1)) (x .1 .0) in (
+          y .0,
+          (
+            ap (λ (z : Going). andThen z go) (x .1 .0) ∙ y .1 .0,
+            record { front = y .1 .1 .1; count = x .1 .1 .1 .1 .0 ∙ ap length (sym (y .1 .1 .0)) },
+          ),
+        )
+
+-- an equal estimate serves as well
+pub with-size :
+    (lean : Bool) (seed : ℕ → Bool) (f : Field) (k m : ℕ) (e e' : Float) (ns : List ℕ) (ks : List ℕ) (ds : List Float) (w : ℕ) (es : List Float)
+    (cs : List ℕ) (q : Placed) (ks' : List ℕ) (ds' es' : List Float) (cs' : List ℕ)
+    → e ≡ e'
+    → DoesWait lean seed f k ns (waitAll m e ns) ks ds w es cs q ks' ds' es' cs'
+    → DoesWait lean seed f k ns (waitAll m e' ns) ks ds w es cs q ks' ds' es' cs'
+with-size lean seed f k m e e' ns ks ds w es cs q ks' ds' es' cs' a did =
+    subst (λ (x : Float). DoesWait lean seed f k ns (waitAll m x ns) ks ds w es cs q ks' ds' es' cs') a did
+
+-- ---- the neighbours of a settled cell
+
+module _ (lean : Bool) (seed : ℕ → Bool) (f : Field) (r : MarchedRow) (ks : List ℕ) (ds : List Float) (w : ℕ) (es : List Float) (cs : List ℕ) (e : Float)
+    (o : e ≡ onward f (r .distance)) (b : Bool) (asked : b ≡ le e (f .most)) where
+  pub spread-waits :
+      b ≡ true
+      → (q : Placed) (ks' : List ℕ) (ds' es' : List Float) (cs' : List ℕ)
+      → DoesWait lean seed f (r .key) (f .near (r .key)) (waitAll (length cs) e (f .near (r .key))) ks ds w es cs q ks' ds' es' cs'
+      → DoesWait lean seed f (r .key) (f .near (r .key)) (spread f (length cs) r) ks ds w es cs q ks' ds' es' cs'
+  unfolding spread
+  spread-waits a q ks' ds' es' cs' did s h told =
+      subst (λ (g : Going). LeftCells lean g s q ks' ds' es' cs') (sym (rw (← o, ← asked, a))) (did s h told)
+
+  pub spread-stays : b ≡ false → DoesWait lean seed f (r .key) (f .near (r .key)) (spread f (length cs) r) ks ds w es cs (Now w) ks ds es cs
+  unfolding spread LeftCells
+  spread-stays a s h told = (s, (rw (← o, ← asked, a), (refl, h)))
+
+-- ---- a cell gets its distance
+
+pub settle-by :
+    (lean : Bool) (f : Field) (m : Rooms) (k : ℕ) (s : State) (d : Float)
+    → d ≡ settled f (s .stored) k
+    → (r : Step) (ks : List ℕ) (ds : List Float) (es : List Float) (cs : List ℕ)
+    → Left lean (andThen (store (m .rows) (marchedRow k d) s) (spread f (m .cells) (marchedRow k d))) r ks ds es cs
+    → Left lean (settle f m k s) r ks ds es cs
+unfolding settle
+settle-by lean f m k s d e r ks ds es cs did =
+    subst (λ (d : Float). Left lean (andThen (store (m .rows) (marchedRow k d) s) (spread f (m .cells) (marchedRow k d))) r ks ds es cs) e did
+
+-- once a taken cell is stored, its waiting no more changes no mark
+pub taken-same : (lean : Bool) (k : ℕ) (cs : List Cell) (j : ℕ) → (k ≡ j → ⊥) → member j (markingAlso lean k cs) ≡ member j (marking lean cs)
+unfolding member markingAlso marking
+taken-same true k cs j d = refl
+taken-same false k cs j d = rw (ne-eqb k j d)
+
+-- a lean march has no mark of it
+pub taken-spare : (lean : Bool) (k : ℕ) (cs : List Cell) → lean ≡ true → member k (markingAlso lean k cs) ≡ false
+unfolding member markingAlso
+taken-spare true k cs e = refl
+taken-spare false k cs e = absurd (false≢true e)
+
+pub sow-spare : (lean : Bool) (k : ℕ) (cs : List Cell) → lean ≡ true → member k (marking lean cs) ≡ false
+unfolding member marking
+sow-spare true k cs e = refl
+sow-spare false k cs e = absurd (false≢true e)
+
+-- ---- the first waiting cell is taken
+
+pub uncons : (cs : List Cell) (w : ℕ) → w ≡ length cs → 0 < w → (c : Cell) × ((ds : List Cell) × (cs ≡ c ∷ ds))
+uncons [] w e l = absurd (not-suc-le-zero (rw e at l))
+uncons (c ∷ cs) w e l = (c, (cs, refl))
+
+also : (lean : Bool) (c : Cell) (l : List Cell) → marking lean (c ∷ l) ≡ markingAlso lean (c .key) l
+unfolding marking markingAlso
+also true c l = refl
+also false c l = refl
+
+skips : (lean : Bool) (k : ℕ) (l : List Cell) (rs : List MarchedRow) (ks : List ℕ) (ds : List Float) (d : Float)
+    → distanceOf k rs ≡ some d
+    → Marked rs (markingAlso lean k l) ks ds
+    → Marked rs (marking lean l) ks ds
+unfolding marking markingAlso
+skips true k l rs ks ds d e h = h
+skips false k l rs ks ds d e h = marked-skip k rs (cellsOf l) ks ds d e h
+
+module _ (lean : Bool) (seed : ℕ → Bool) (f : Field) (s : State) (n : ℕ) (ks : List ℕ) (ds : List Float) (w : ℕ) (es : List Float) (cs : List ℕ)
+    (h : Held lean s n ks ds w es cs) (l : 0 < w) (es' : List Float) (cs' : List ℕ)
+    (popped : (c : Cell) (l : List Cell) → Heaped (c ∷ l) w es cs → Heaped l (w - 1) es' cs')
+    (long : length cs' ≡ length cs) (d : Float)
+    (known : (rs : List MarchedRow) (ws : List ℕ) → Marked rs ws ks ds → distanceOf (getD cs 0 0) rs ≡ said d) where
+  parts : (c : Cell) × ((l : List Cell) × (s .waiting ≡ c ∷ l))
+  parts = uncons (s .waiting) w (h .front .heap .counted) l
+
+  abbrev after : State
+  after = state (s .stored) (parts .1 .0) (suc (s .takings))
+
+  full : Heaped (parts .0 ∷ parts .1 .0) w es cs
+  full = subst (λ (x : List Cell). Heaped x w es cs) (parts .1 .1) (h .front .heap)
+
+  key-is : getD cs 0 0 ≡ parts .0 .key
+  key-is = heaped-key (parts .0) (parts .1 .0) w es cs full
+
+  marked-all : Marked (s .stored) (markingAlso lean (getD cs 0 0) (parts .1 .0)) ks ds
+  marked-all =
+      subst (λ (k : ℕ). Marked (s .stored) (markingAlso lean k (parts .1 .0)) ks ds) (sym key-is)
+      (subst (λ (x : List ℕ). Marked (s .stored) x ks ds) (ap (marking lean) (parts .1 .1) ∙ also lean (parts .0) (parts .1 .0)) (h .front .marked))
+
+  others-lattice : (j : ℕ) → member j (cellsOf (parts .1 .0)) ≡ true → onLattice j ≡ true
+  unfolding member
+  others-lattice j i =
+      h .front .lattice j (ap (λ (x : List Cell). member j (cellsOf x)) (parts .1 .1) ∙ rw i (or-true (eqb (parts .0 .key) j)))
+
+  taken : take f (roomsOf ks cs) s ≡ visit f (roomsOf ks cs) (getD cs 0 0) after
+  unfolding taking
+  taken = ap (λ (x : List Cell). taking f (roomsOf ks cs) x s) (parts .1 .1) ∙ ap (λ (k : ℕ). visit f (roomsOf ks cs) k after) (sym key-is)
+
+  here : distanceOf (getD cs 0 0) (s .stored) ≡ said d
+  here = known (s .stored) (markingAlso lean (getD cs 0 0) (parts .1 .0)) marked-all
+
+  pub take-skips : isFinite d ≡ true → Left lean (take f (roomsOf ks cs) s) (step.On n (w - 1)) ks ds es' cs'
+  unfolding Left visit
+  take-skips a =
+      let e : distanceOf (getD cs 0 0) (s .stored) ≡ some d = here ∙ rw a in (
+        after,
+        (
+          taken ∙ rw (stored-some (getD cs 0 0) (s .stored) d e),
+          record {
+            front = record {
+              marked = skips lean (getD cs 0 0) (parts .1 .0) (s .stored) ks ds d e marked-all;
+              heap = popped (parts .0) (parts .1 .0) full;
+              lattice = others-lattice;
+              places = h .front .places;
+            };
+            count = h .count;
+          },
+        ),
+      )
+
+  pub take-settles :
+      isFinite d ≡ false
+      → ToldFirst seed f s
+      → (r : Step) (ks' : List ℕ) (ds' es'' : List Float) (cs'' : List ℕ)
+      → ((t : State)
+      → Taken lean (getD cs 0 0) t n ks ds (w - 1) es' cs'
+      → ToldOnce seed f (getD cs 0 0) t
+      → Left lean (settle f (roomsOf ks cs') (getD cs 0 0) t) r ks' ds' es'' cs'')
+      → Left lean (take f (roomsOf ks cs) s) r ks' ds' es'' cs''
+  unfolding visit
+  take-settles a told r ks' ds' es'' cs'' did =
+      let o : member (getD cs 0 0) (keysOf (s .stored)) ≡ false = no-stored (getD cs 0 0) (s .stored) (here ∙ rw a) in
+      let once : ToldOnce seed f (getD cs 0 0) after =
+      subst (λ (k : ℕ). ToldOnce seed f k after) (sym key-is) (told (parts .0) (parts .1 .0) (parts .1 .1) (sym (ap (λ (k : ℕ). isStored k (s .stored)) key-is) ∙ o)) in
+      subst (λ (g : Going). Left lean g r ks' ds' es'' cs'') (sym (taken ∙ rw o))
+      (subst (λ (m : ℕ). Left lean (settle f (rooms (length ks) m) (getD cs 0 0) after) r ks' ds' es'' cs'') long
+      (did after
+      (record {
+        marked = marked-all;
+        heap = popped (parts .0) (parts .1 .0) full;
+        lattice = others-lattice;
+        places = h .front .places;
+        count = h .count;
+        new = o;
+      })
+      once))
+
+-- a settled distance is finite
+pub finite-by : (c : Course) (d : Float) (rs : List MarchedRow) (k : ℕ) → Fair c → d ≡ settled (latticeOf c) rs k → isFinite d ≡ true
+finite-by c d rs k fair e = rw e (settled-finite (latticeOf c) rs k (fair .least) (fair .finite))

@@ -1,0 +1,48 @@
+-- `fronts::sow_if` meets its contract, by its test.
+-- Assumes nothing.
+use mathlib.Core.Path.{_≡_, sym, _∙_}
+use Rattle.fronts.proofs.Marching.{sow-if-seed, sow-if-not}
+use borrow.Author.Needs.{needs}
+use Rattle.fronts.proofs.sow_if.Statement.{statement}
+use Rattle.fronts.proofs.sow_if.Tie as tie
+
+is-seed-requires : tie.Need-is-seed-requires
+is-seed-requires c κs = search needs
+
+sow-requires : tie.Need-sow-requires
+sow-requires c κs =
+    (c .before .before .before .before .before .before .before .before .before .before .before .before .before .pre .0, c .before .before .before .before .before .before .before .before .before .before .before .before .before .pre .1)
+
+same-length : tie.Need-same-length
+same-length c = search needs
+
+same-length-2 : tie.Need-same-length-2
+same-length-2 c = search needs
+
+same-length-3 : tie.Need-same-length-3
+same-length-3 c = search needs
+
+same-length-4 : tie.Need-same-length-4
+same-length-4 c = search needs
+
+returns : tie.Need-returns
+returns c =
+    λ s h new told.
+    let seeds = sym (c .before .before .before .before .before .before .before .before .before .before .before .before .before .before .is-seed .ensures) ∙ c .before .before .before .before .before .before .before .before .before .before .before .before .before .if1 .taken in
+    sow-if-seed _ _ _ _ _ s seeds _ _ _ _ _ (c .before .before .before .before .before .before .before .before .sow .ensures s h new (told seeds))
+
+returns-2 : tie.Need-returns-2
+returns-2 c = λ s h new told. sow-if-not _ _ _ _ _ s (sym (c .before .is-seed .ensures) ∙ c .if1 .left) _ _ _ _ _ _ h
+
+pub sow-if-spec : {M : Type 1} → statement M
+sow-if-spec =
+    tie.close
+    (tie.spec
+    is-seed-requires
+    sow-requires
+    same-length
+    same-length-2
+    same-length-3
+    same-length-4
+    returns
+    returns-2)

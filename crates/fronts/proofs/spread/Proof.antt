@@ -1,0 +1,57 @@
+-- `fronts::spread` meets its contract, by its test.
+-- Assumes nothing.
+use mathlib.Core.Path.{_≡_, sym, _∙_}
+use Rattle.marching.specs.March.{marchedRow}
+use Rattle.marching.specs.Lattice.{latticeOf}
+use Rattle.fronts.proofs.Stepping.{number-le, spread-waits, spread-stays}
+use borrow.Author.Needs.{needs}
+use Rattle.fronts.proofs.spread.Statement.{statement}
+use Rattle.fronts.proofs.spread.Tie as tie
+
+onward-requires : tie.Need-onward-requires
+onward-requires c κs = search needs
+
+spreads-requires : tie.Need-spreads-requires
+spreads-requires c κs = search needs
+
+wait-around-requires : tie.Need-wait-around-requires
+wait-around-requires c κs =
+    (c .before .before .before .before .before .before .before .before .before .before .before .before .before .before .pre .0, (c .before .before .before .before .before .before .before .before .before .before .before .before .before .before .pre .1, number-le _ _ (sym (c .before .before .before .before .before .spreads .ensures) ∙ c .before .before .before .before .if1 .taken)))
+
+same-length : tie.Need-same-length
+same-length c = search needs
+
+same-length-2 : tie.Need-same-length-2
+same-length-2 c = search needs
+
+same-length-3 : tie.Need-same-length-3
+same-length-3 c = search needs
+
+same-length-4 : tie.Need-same-length-4
+same-length-4 c = search needs
+
+returns : tie.Need-returns
+returns c =
+    let a = c .before .before .before .before .before .before .before .before .before .before .before .before .before .before .before .before .before .before .before .before .before .before .before .args in
+    spread-waits (a .lean) _ (latticeOf (a .course)) (marchedRow (a .key) (a .distance)) _ _ _ _ _ _ (c .before .before .before .before .before .before .before .before .before .before .before .before .before .before .before .onward .ensures) _ (c .before .before .before .before .before .before .before .before .before .before .before .before .before .before .spreads .ensures)
+    (c .before .before .before .before .before .before .before .before .before .before .before .before .before .if1 .taken) _ _ _ _ _ (c .before .before .before .before .before .before .before .before .wait-around .ensures)
+
+returns-2 : tie.Need-returns-2
+returns-2 c =
+    let a = c .before .before .before .before .before .before .before .before .before .before .args in
+    spread-stays (a .lean) _ (latticeOf (a .course)) (marchedRow (a .key) (a .distance)) _ _ _ _ _ _ (c .before .before .onward .ensures) _ (c .before .spreads .ensures)
+    (c .if1 .left)
+
+pub spread-spec : {M : Type 1} → statement M
+spread-spec =
+    tie.close
+    (tie.spec
+    onward-requires
+    spreads-requires
+    wait-around-requires
+    same-length
+    same-length-2
+    same-length-3
+    same-length-4
+    returns
+    returns-2)

@@ -1,0 +1,96 @@
+-- `fronts::take` meets its contract: a stored cell is skipped, another is settled.
+-- Assumes nothing.
+use mathlib.Core.Path.{_≡_, sym, _∙_}
+use native.Mathlib.Omega.{arith}
+use Rattle.table.specs.Table.{rowsOf}
+use Rattle.marching.specs.Lattice.{latticeOf}
+use Rattle.marching.specs.Spreading.{seedIn}
+use Rattle.hearing.proofs.Walking.{real-key}
+use Rattle.fronts.proofs.Stepping.{take-skips, take-settles}
+use borrow.Author.Needs.{needs}
+use Rattle.fronts.proofs.take.Statement.{statement}
+use Rattle.fronts.proofs.take.Tie as tie
+
+slice-read-key : tie.Need-slice-read-key
+slice-read-key c =
+    omega (arith, c .before .before .before .before .before .before .before .before .pre .1 .0, c .before .before .before .before .before .before .before .before .pre .1 .1 .0)
+
+pop-requires : tie.Need-pop-requires
+pop-requires c κs =
+    (c .before .before .before .before .before .before .before .before .before .before .pre .1 .0, omega (arith, c .before .before .before .before .before .before .before .before .before .before .pre .1 .1 .0, c .before .before .before .before .before .before .before .before .before .before .pre .0 .1 .1), c .before .before .before .before .before .before .before .before .before .before .pre .1 .1 .0)
+
+sub-left : tie.Need-sub-left
+sub-left c =
+    omega (arith, c .before .before .before .before .before .before .before .before .before .before .before .before .before .before .before .pre .1 .0)
+
+known-requires : tie.Need-known-requires
+known-requires c κs =
+    (c .before .before .before .before .before .before .before .before .before .before .before .before .before .before .before .before .before .pre .0 .1 .0, real-key _ (c .before .before .before .before .before .before .before .before .before .before .before .before .before .before .before .before .before .pre .1 .1 .1 .1))
+
+is-finite-requires : tie.Need-is-finite-requires
+is-finite-requires c κs = search needs
+
+same-length : tie.Need-same-length
+same-length c = search needs
+
+same-length-2 : tie.Need-same-length-2
+same-length-2 c = search needs
+
+same-length-3 : tie.Need-same-length-3
+same-length-3 c = search needs
+
+same-length-4 : tie.Need-same-length-4
+same-length-4 c = search needs
+
+returns : tie.Need-returns
+returns c =
+    let a = c .before .before .before .before .before .before .before .before .before .before .before .before .before .before .before .before .before .before .before .before .args in
+    λ s h told.
+    take-skips (a .lean) (seedIn (a .threshold) (rowsOf (a .fused-keys .now) (a .fused-distances .now) (a .fused-weights .now) (a .fused-count))) (latticeOf (a .course)) s _ _ _ _ _ _ h (c .before .before .before .before .before .before .before .before .before .before .before .before .before .before .before .before .before .before .before .before .pre .1 .0) _ _ (c .before .before .before .before .before .before .before .before .before .pop .ensures) (c .before .before .before .before .before .before .before .before .before .pop .kept .1 .0) (c .before .before .known .result) (c .before .before .known .ensures)
+    (sym (c .before .is-finite .ensures) ∙ c .if1 .taken)
+
+settle-requires : tie.Need-settle-requires
+settle-requires c κs =
+    let k = c .before .before .before .before .before .before .before .before .before .before .before .before .before .pop .kept in
+    let p = c .before .before .before .before .before .before .before .before .before .before .before .before .before .before .before .before .before .before .before .before .before .before .before .before .pre in
+    ((p .0 .0, (p .0 .1 .0, k .0 ∙ p .0 .1 .1 ∙ sym (k .1 .0))), (p .1 .1 .1 .1, p .1 .1 .1 .0))
+
+same-length-5 : tie.Need-same-length-5
+same-length-5 c = search needs
+
+same-length-6 : tie.Need-same-length-6
+same-length-6 c = search needs
+
+same-length-7 : tie.Need-same-length-7
+same-length-7 c = search needs
+
+same-length-8 : tie.Need-same-length-8
+same-length-8 c = search needs
+
+returns-2 : tie.Need-returns-2
+returns-2 c =
+    let a = c .before .before .before .before .before .before .before .before .before .before .before .before .before .before .before .before .before .before .before .before .before .before .before .before .before .before .before .before .before .before .before .before .before .args in
+    λ s h told.
+    take-settles (a .lean) _ (latticeOf (a .course)) s _ _ _ _ _ _ h (c .before .before .before .before .before .before .before .before .before .before .before .before .before .before .before .before .before .before .before .before .before .before .before .before .before .before .before .before .before .before .before .before .before .pre .1 .0) _ _ (c .before .before .before .before .before .before .before .before .before .before .before .before .before .before .before .before .before .before .before .before .before .before .pop .ensures) (c .before .before .before .before .before .before .before .before .before .before .before .before .before .before .before .before .before .before .before .before .before .before .pop .kept .1 .0) (c .before .before .before .before .before .before .before .before .before .before .before .before .before .before .before .known .result) (c .before .before .before .before .before .before .before .before .before .before .before .before .before .before .before .known .ensures)
+    (sym (c .before .before .before .before .before .before .before .before .before .before .before .before .before .before .is-finite .ensures) ∙ c .before .before .before .before .before .before .before .before .before .before .before .before .before .if1 .left) told _ _ _ _ _ (c .before .before .before .before .before .before .before .before .settle .ensures)
+
+pub take-spec : {M : Type 1} → statement M
+take-spec =
+    tie.close
+    (tie.spec
+    slice-read-key
+    pop-requires
+    sub-left
+    known-requires
+    is-finite-requires
+    same-length
+    same-length-2
+    same-length-3
+    same-length-4
+    returns
+    settle-requires
+    same-length-5
+    same-length-6
+    same-length-7
+    same-length-8
+    returns-2)

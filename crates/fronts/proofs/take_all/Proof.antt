@@ -1,0 +1,158 @@
+-- `fronts::take_all` meets its contract: what is left to take says what the whole does.
+-- Assumes nothing.
+use Prim.Native.Nat.{suc, _≤_, _-_}
+use mathlib.Core.Path.{_≡_, refl, sym, _∙_}
+use native.Mathlib.Omega.{arith}
+use lib.ListN.{length}
+use Rattle.neighbors.specs.Neighbors.{neighbours}
+use Rattle.table.specs.Table.{rowsOf}
+use Rattle.marching.specs.March.{State, seeds, takeUpTo}
+use Rattle.marching.specs.Lattice.{latticeOf}
+use Rattle.marching.specs.Spreading.{seedIn}
+use Rattle.marching.proofs.Facts.{back}
+use Rattle.fronts.specs.Fronts.{roomsOf, Sown, Emptied}
+use Rattle.fronts.proofs.Marching.{TakeAt, seeds-are, take-start, take-few, take-stop, take-more, take-finish, first-on-lattice}
+use borrow.Author.Needs.{needs}
+use Rattle.fronts.proofs.take_all.Statement.{statement}
+use Rattle.fronts.proofs.take_all.Tie as tie
+
+abbrev Inv-loop : tie.InvT-loop
+Inv-loop lean fused-keys fused-distances fused-weights fused-count threshold course keys₀ distances₀ count estimates₀ cells₀ waiting rows₀ held₀ takings₀
+    keys distances estimates cells rows held takings =
+    (length keys ≡ length keys₀)
+    × (length distances ≡ length distances₀)
+    × (length estimates ≡ length estimates₀)
+    × (length cells ≡ length cells₀)
+    × ((s : State)
+    → Sown (seeds threshold (rowsOf fused-keys fused-distances fused-weights fused-count)) neighbours lean s count keys₀ distances₀ waiting estimates₀ cells₀
+    → TakeAt lean (seedIn threshold (rowsOf fused-keys fused-distances fused-weights fused-count)) (latticeOf course) (roomsOf keys₀ cells₀)
+    (takeUpTo (latticeOf course) (roomsOf keys₀ cells₀) (suc (length keys₀)) s) takings rows keys distances
+    held estimates cells)
+
+abbrev μ-loop : tie.MeasureT-loop
+μ-loop lean fused-keys fused-distances fused-weights fused-count threshold course keys₀ distances₀ count estimates₀ cells₀ waiting rows₀ held₀ takings₀
+    keys distances estimates cells rows held takings =
+    suc (length keys₀) - takings
+
+loop-holds : tie.Need-loop-holds Inv-loop μ-loop
+loop-holds c =
+    let a = c .before .before .before .before .before .before .before .args in
+    let p = c .before .before .before .before .before .before .before .pre in (
+      refl,
+      refl,
+      refl,
+      refl,
+      λ s h.
+          take-start (a .lean) _ (latticeOf (a .course)) back _ (seeds-are (a .threshold) _ _ _ _ (p .0 .0 .lent)) s (a .count) (a .keys .now) (a .distances .now)
+          (a .waiting) (a .estimates .now) (a .cells .now) h,
+    )
+
+take-requires : tie.Need-take-requires Inv-loop μ-loop
+take-requires c κs =
+    let p = c .before .before .before .before .before .before .before .before .before .before .before .before .before .pre in
+    let at = c .before .before .before .before .before .loop .inv .4 (p .1 .0) (p .1 .1) in
+    let l = c .before .before .before .before .loop-test .taken in
+    ((p .0 .0 .lent, (at .held .front .marked .long, at .held .front .heap .long)),
+    (l, (at .held .front .heap .fits, (p .0 .1, first-on-lattice _ _ _ _ _ _ _ _ (at .held) l))))
+
+enum-known-why : tie.Need-enum-known-why Inv-loop μ-loop
+enum-known-why c = search needs
+
+same-length : tie.Need-same-length Inv-loop μ-loop
+same-length c = search needs
+
+same-length-2 : tie.Need-same-length-2 Inv-loop μ-loop
+same-length-2 c = search needs
+
+same-length-3 : tie.Need-same-length-3 Inv-loop μ-loop
+same-length-3 c = search needs
+
+same-length-4 : tie.Need-same-length-4 Inv-loop μ-loop
+same-length-4 c = search needs
+
+returns : tie.Need-returns Inv-loop μ-loop
+unfolding Emptied
+returns c =
+    let a = c .before .before .before .before .before .before .before .before .before .before .before .before .before .before .before .before .before .before .before .before .before .before .before .before .before .args in
+    let l = c .before .before .before .before .before .before .before .before .before .before .before .before .before .before .before .before .before .loop in
+    λ s h.
+    take-stop (a .lean) (seedIn (a .threshold) (rowsOf (a .fused-keys .now) (a .fused-distances .now) (a .fused-weights .now) (a .fused-count))) (latticeOf (a .course)) back (roomsOf (a .keys .now) (a .cells .now)) _ (l .takings) (l .rows)
+    (l .keys) (l .distances) (l .held) (l .estimates) (l .cells) (l .inv .4 s h) (c .before .before .before .before .before .before .before .before .before .before .before .before .before .before .before .before .loop-test .taken)
+    (l .inv .0) (l .inv .3) _ _ _ _ _ (c .before .before .before .before .before .before .before .before .before .before .before .take .ensures) _ (c .before .why .given .1)
+
+enum-known-n : tie.Need-enum-known-n Inv-loop μ-loop
+enum-known-n c = search needs
+
+add-takings : tie.Need-add-takings Inv-loop μ-loop
+add-takings c =
+    let a = c .before .before .before .before .before .before .before .before .before .before .before .before .before .before .before .before .before .before .before .before .before .before .before .before .before .args in
+    let p = c .before .before .before .before .before .before .before .before .before .before .before .before .before .before .before .before .before .before .before .before .before .before .before .before .before .pre in
+    let l = c .before .before .before .before .before .before .before .before .before .before .before .before .before .before .before .before .before .loop in
+    omega (arith, c .before .before .before .before .before .before .before .before .before .before .before .before .before .before .before .before .before .before .before .before .before .before .before .before .before .good .1 .1 .1 .1 .1 .1 .1 .0 .1, take-few (a .lean) (seedIn (a .threshold) (rowsOf (a .fused-keys .now) (a .fused-distances .now) (a .fused-weights .now) (a .fused-count))) (latticeOf (a .course)) back (roomsOf (a .keys .now) (a .cells .now)) _ (l .takings) (l .rows) (l .keys) (l .distances) (l .held) (l .estimates) (l .cells) (l .inv .4 (p .1 .0) (p .1 .1)))
+
+loop-less : tie.Need-loop-less Inv-loop μ-loop
+loop-less c =
+    let a = c .before .before .before .before .before .before .before .before .before .before .before .before .before .before .before .before .before .before .before .before .before .before .before .before .before .args in
+    let p = c .before .before .before .before .before .before .before .before .before .before .before .before .before .before .before .before .before .before .before .before .before .before .before .before .before .pre in
+    let l = c .before .before .before .before .before .before .before .before .before .before .before .before .before .before .before .before .before .loop in
+    omega (arith, c .before .before .before .before .before .before .before .before .before .before .before .before .before .before .before .before .before .before .before .before .before .before .before .before .before .good .1 .1 .1 .1 .1 .1 .1 .0 .1, take-few (a .lean) (seedIn (a .threshold) (rowsOf (a .fused-keys .now) (a .fused-distances .now) (a .fused-weights .now) (a .fused-count))) (latticeOf (a .course)) back (roomsOf (a .keys .now) (a .cells .now)) _ (l .takings) (l .rows) (l .keys) (l .distances) (l .held) (l .estimates) (l .cells) (l .inv .4 (p .1 .0) (p .1 .1)))
+
+loop-again : tie.Need-loop-again Inv-loop μ-loop
+loop-again c =
+    let a = c .before .before .before .before .before .before .before .before .before .before .before .before .before .before .before .before .before .before .before .before .before .before .before .before .before .args in
+    let l = c .before .before .before .before .before .before .before .before .before .before .before .before .before .before .before .before .before .loop in
+    let k = c .before .before .before .before .before .before .before .before .before .before .before .take .kept in
+    let i = l .inv in (
+      k .1 .1 .1 .1 .1 .1 .1 .0 ∙ i .0,
+      k .1 .1 .1 .1 .1 .1 .1 .1 .0 ∙ i .1,
+      k .1 .1 .1 .1 .1 .1 .1 .1 .1 .1 .0 ∙ i .2,
+      k .1 .1 .1 .1 .1 .1 .1 .1 .1 .1 .1 .0 ∙ i .3,
+      λ s h.
+          take-more (a .lean) (seedIn (a .threshold) (rowsOf (a .fused-keys .now) (a .fused-distances .now) (a .fused-weights .now) (a .fused-count))) (latticeOf (a .course)) back (roomsOf (a .keys .now) (a .cells .now)) _ (l .takings) (l .rows)
+          (l .keys) (l .distances) (l .held) (l .estimates) (l .cells) (i .4 s h) (c .before .before .before .before .before .before .before .before .before .before .before .before .before .before .before .before .loop-test .taken)
+          (i .0) (i .3) _ _ _ _ _ (c .before .before .before .before .before .before .before .before .before .before .before .take .ensures) _ _ (c .before .n .given .1),
+    )
+
+same-length-5 : tie.Need-same-length-5 Inv-loop μ-loop
+same-length-5 c = search needs
+
+same-length-6 : tie.Need-same-length-6 Inv-loop μ-loop
+same-length-6 c = search needs
+
+same-length-7 : tie.Need-same-length-7 Inv-loop μ-loop
+same-length-7 c = search needs
+
+same-length-8 : tie.Need-same-length-8 Inv-loop μ-loop
+same-length-8 c = search needs
+
+returns-2 : tie.Need-returns-2 Inv-loop μ-loop
+returns-2 c =
+    let a = c .before .before .before .before .before .before .before .before .before .args in
+    let l = c .before .loop in
+    λ s h.
+    take-finish (a .lean) (seedIn (a .threshold) (rowsOf (a .fused-keys .now) (a .fused-distances .now) (a .fused-weights .now) (a .fused-count))) (latticeOf (a .course)) back (roomsOf (a .keys .now) (a .cells .now)) _ (l .takings) (l .rows)
+    (l .keys) (l .distances) (l .held) (l .estimates) (l .cells) (l .inv .4 s h) (l .inv .0) (c .loop-test .left)
+
+pub take-all-spec : {M : Type 1} → statement M
+take-all-spec =
+    tie.close
+    (tie.spec
+    Inv-loop
+    μ-loop
+    loop-holds
+    take-requires
+    enum-known-why
+    same-length
+    same-length-2
+    same-length-3
+    same-length-4
+    returns
+    enum-known-n
+    add-takings
+    loop-less
+    loop-again
+    same-length-5
+    same-length-6
+    same-length-7
+    same-length-8
+    returns-2)
