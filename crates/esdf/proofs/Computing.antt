@@ -2,14 +2,15 @@
 use mathlib.Core.Path.{_≡_, refl, sym, ap, subst, _∙_}
 use mathlib.Core.Bool.{Bool, true, false, _&&_}
 use mathlib.Core.List.{List, [], _∷_}
-use Prim.Native.Nat.{ℕ, _-_}
-use native.Mathlib.Nat.{suc-ne-zero}
+use Prim.Native.Nat.{ℕ, zero, suc, _-_, _<_, _≤_}
+use native.Mathlib.Nat.{not-suc-le-zero, le-of-suc-le-suc}
 use native.Mathlib.Omega.{arith}
 use borrow.Author.Tests.{eqb-true}
 use lib.Dec.{eqb, leb}
-use lib.ListN.{length, take, replicate, length-replicate, length-map}
-use lib.Ieee.{Float}
-use Rattle.floats.specs.Floats.{zero32, isFinite}
+use lib.ListN.{length, getD, take, replicate, length-replicate, length-map}
+use lib.Seq.{getD-take, length-take-le}
+use lib.Ieee.{Float, nan, ofBits}
+use Rattle.floats.specs.Floats.{zero32, million, isFinite, within, between}
 use Rattle.lists.specs.Padding.{padded}
 use Rattle.lists.specs.Places.{filled}
 use Rattle.lists.proofs.Bools.{and-first, and-second}
@@ -17,18 +18,26 @@ use Rattle.lists.proofs.PaddingLaws.{padded-length}
 use Rattle.refusals.specs.declared.Refusal.{Refusal}
 use Rattle.refusals.specs.declared.Refusal.the-variants.{BadReading}
 use Rattle.search.specs.Keys.{ascending}
-use Rattle.table.specs.Table.{Table, table, rowsOf, rows, settingsOk, lengthsOk, rowsOk, need, checkWith}
+use Rattle.table.specs.Table.{Row, Table, table, rowsOf, rows, settingsOk, lengthsOk, rowOk, rowsOk, farthestOk, need, checkWith}
 use Rattle.table.specs.declared.Settings.{Settings}
 use Rattle.table.specs.declared.Checked.{Checked}
 use Rattle.table.specs.declared.Checked.the-variants as checked
 use Rattle.table.proofs.RowLaws.{lengths-known}
-use Rattle.marching.specs.March.{Cell, Rooms, rooms, Going, keysOf, distancesOf, cellsOf, nothing}
+use Rattle.marching.specs.March.{Rooms, rooms, Going, keysOf, distancesOf}
 use Rattle.marching.specs.Lattice.{marchFrom}
 use Rattle.table.proofs.Checking.{need-passed, sound, with-passed, went-on}
-use Rattle.esdf.proofs.Marching.{same-rooms}
+use Rattle.fronts.specs.Fronts.{Tabled, Fair, Blank, Laid, roomsOf}
+use Rattle.fronts.proofs.Marching.{same-rooms}
+use Rattle.hearing.specs.Hearing.{Lent}
+use Rattle.ids.specs.Key.{onLattice}
+use Rattle.floats.proofs.Order.{within-finite, between-finite}
+use Rattle.table.specs.Rows.{keysOf as tableKeys}
+use Rattle.table.proofs.Laying.{columns, distancesOf as tableDistances, weightsOf as tableWeights}
+use Rattle.table.proofs.SettingsLaws.{settings-known, farthest-known}
+use Rattle.marching.specs.declared.Course.{Course}
 use Rattle.esdf.specs.declared.Marched.{Marched}
 use Rattle.esdf.specs.declared.Marched.the-variants as marched
-use Rattle.esdf.specs.Steps.{estimatesOf, Held, roomsOf, Lent, Finished, MayMarch, tidied}
+use Rattle.esdf.specs.Steps.{Finished, MayMarch, tidied}
 use Rattle.esdf.specs.Compute.{Places, places, setOk, marchCheck, tested, marching, outcome, answerOf, keysLeft, distancesLeft, left, computed}
 
 -- ---- what passed
@@ -57,15 +66,51 @@ tests s t threshold fit e =
       reading = need-passed (isFinite threshold) BadReading checked.Passed (a .1) .0;
     }
 
--- the table's keys ascend
-pub tested-lent :
+-- each row is in its ranges
+rows-at : (most : Float) (rs : List Row) → rowsOk most rs ≡ true → (i : ℕ) → i < length rs
+    → rowOk most (getD (tableKeys rs) i 0) (getD (tableDistances rs) i nan) (getD (tableWeights rs) i nan) ≡ true
+unfolding rowsOk
+rows-at most [] h i l = absurd (not-suc-le-zero l)
+rows-at most (r ∷ rs) h zero l = and-first (rowOk most (r .key) (r .distance) (r .weight)) _ h
+rows-at most (r ∷ rs) h (suc i) l = rows-at most rs (and-second (rowOk most (r .key) (r .distance) (r .weight)) _ h) i (le-of-suc-le-suc l)
+
+-- the table's keys ascend and are on the lattice, its distances are finite
+pub tested-table :
     (s : Settings) (ks : List ℕ) (ds ws : List Float) (n : ℕ) (threshold : Float) (fit : Bool)
     → marchCheck s (table ks ds ws n) threshold fit ≡ checked.Passed
-    → Lent ks ds ws n
-tested-lent s ks ds ws n threshold fit e =
+    → Tabled ks ds ws n
+unfolding ofBits
+tested-table s ks ds ws n threshold fit e =
     let h = tests s (table ks ds ws n) threshold fit e in
     let l = lengths-known (length ks) (length ds) (length ws) n (h .lengths) in
-    record { fits = l .0; distances = l .1; weights = l .2; ascends = h .order }
+    record {
+      lent = record { fits = l .0; distances = l .1; weights = l .2; ascends = h .order };
+      lattice = λ i k. and-first (onLattice (getD ks i 0)) _ (at h l i k);
+      finite = λ i k. within-finite million (getD ds i nan) finite-million (and-first (within million (getD ds i nan)) _ (and-second (onLattice (getD ks i 0)) _ (at h l i k)));
+    }
+  where
+    finite-million : isFinite million ≡ true
+    finite-million = refl
+
+    at : Tested s (table ks ds ws n) threshold fit
+        → (n ≤ length ks) × (length ds ≡ length ks) × (length ws ≡ length ks) × (length ks ≤ 65536)
+        → (i : ℕ)
+        → i < n
+        → rowOk (s .«max_weight») (getD ks i 0) (getD ds i nan) (getD ws i nan) ≡ true
+    at h l i k =
+        let c = columns ks ds ws n (l .1) (l .2) in
+        let m : length (rowsOf ks ds ws n) ≡ n = sym (length-map (rowsOf ks ds ws n) (λ (r : Row). r .key)) ∙ ap length (c .0) ∙ length-take-le n ks (l .0) in
+        let r = rows-at (s .«max_weight») (rowsOf ks ds ws n) (h .rows) i (rw m k) in
+        rw (c .0, c .1, c .2, getD-take n ks i 0 k, getD-take n ds i nan k, getD-take n ws i nan k) at r
+
+-- the maximum distance is finite and at least 0
+pub tested-course : (s : Settings) (t : Table) (threshold : Float) (fit : Bool) → marchCheck s t threshold fit ≡ checked.Passed
+    → Fair (record { size = s .«voxel_size» .0; most = s .«max_distance» .0 })
+unfolding ofBits
+tested-course s t threshold fit e =
+    let f = settings-known s (tests s t threshold fit e .settings) .farthest in
+    let k = farthest-known (s .«max_distance» .0) f in
+    record { least = k .0; finite = between-finite zero32 million (s .«max_distance» .0) refl refl (and-first (between zero32 million (s .«max_distance» .0)) _ f) }
 
 -- the lists of a set are equally long
 sets-equal : (a b c d : ℕ) → setOk a b && setOk c d ≡ true → (b ≡ a) × (c ≡ d)
@@ -79,18 +124,18 @@ sets-equal a b c d h = (
 whole-room : (y : ℕ) → y - 0 ≡ y
 whole-room y = omega arith
 
--- lists of zeros hold nothing
+-- cleared lists of paired lengths are blank
 pub cleared :
     (ks₀ cs₀ : List ℕ) (ds₀ es₀ : List Float) (ks cs : List ℕ) (ds es : List Float)
-    → setOk (length ks₀) (length ds₀) && setOk (length es₀) (length cs₀) ≡ true
+    → length ds₀ ≡ length ks₀
+    → length es₀ ≡ length cs₀
     → ks ≡ filled 0 ks₀
     → ds ≡ filled zero32 ds₀
     → es ≡ filled zero32 es₀
     → cs ≡ filled 0 cs₀
-    → Held nothing 0 ks ds 0 es cs
-unfolding padded ascending
-cleared ks₀ cs₀ ds₀ es₀ ks cs ds es h a b c d =
-    let k = sets-equal (length ks₀) (length ds₀) (length es₀) (length cs₀) h in
+    → Blank ks ds es cs
+unfolding padded
+cleared ks₀ cs₀ ds₀ es₀ ks cs ds es p q a b c d =
     let l : length ks ≡ length ks₀ = ap length a ∙ length-replicate (length ks₀) 0 in
     let m : length cs ≡ length cs₀ = ap length d ∙ length-replicate (length cs₀) 0 in
     let x : length ks₀ ≡ length ks - 0 = omega arith in
@@ -98,19 +143,11 @@ cleared ks₀ cs₀ ds₀ es₀ ks cs ds es h a b c d =
     let z : length es₀ ≡ length cs - 0 = omega arith in
     let w : length cs₀ ≡ length cs - 0 = omega arith in
     record {
-      rows = record {
-        keys = a ∙ ap (λ (i : ℕ). replicate i 0) x;
-        distances = b ∙ ap (λ (i : ℕ). replicate i zero32) y;
-        count = refl;
-        fits = omega arith;
-        ascends = refl;
-      };
-      cells = record { estimates = c ∙ ap (λ (i : ℕ). replicate i zero32) z; cells = d ∙ ap (λ (i : ℕ). replicate i 0) w; count = refl; fits = omega arith };
+      keys = a ∙ ap (λ (i : ℕ). replicate i 0) x;
+      distances = b ∙ ap (λ (i : ℕ). replicate i zero32) y;
+      estimates = c ∙ ap (λ (i : ℕ). replicate i zero32) z;
+      cells = d ∙ ap (λ (i : ℕ). replicate i 0) w;
     }
-
-nil : (l : List Cell) → 0 ≡ length l → l ≡ []
-nil [] e = refl
-nil (c ∷ l) e = absurd (suc-ne-zero _ (sym e))
 
 five :
     {r r' : Marched} {ks ks' : List ℕ} {ds ds' es es' : List Float} {cs cs' : List ℕ}
@@ -133,25 +170,17 @@ module _ (p : Places) (g : Going) (ks : List ℕ) (ds es : List Float) (cs : Lis
   leaves (marched.Done n k) f =
       let s = f .0 in
       let h = f .1 .1 .1 in
-      let z : s .waiting ≡ [] = nil (s .waiting) (h .cells .count) in
       let b : length ds ≡ length ks =
-      ap length (h .rows .distances)
-      ∙ padded-length zero32 (length ks) (distancesOf (s .stored))
-      (rw length-map (let i = h .rows .count in let j = h .rows .fits in omega arith)) in
-      let e : length es ≡ length cs =
-      ap length (h .cells .estimates)
-      ∙ padded-length zero32 (length cs) (estimatesOf (s .waiting))
-      (rw length-map (let i = h .cells .count in let j = h .cells .fits in omega arith)) in
+      ap length (h .distances)
+      ∙ padded-length zero32 (length ks) (distancesOf (s .stored)) (rw length-map (let i = h .count in let j = h .fits in omega arith)) in
+      let e : length es ≡ length cs = ap length (h .estimates) ∙ padded-length zero32 (length cs) [] (omega arith) in
       rw (f .1 .0)
       (five
-      (ap (λ (i : ℕ). marched.Done i k) (h .rows .count) ∙ ap (marched.Done (length (s .stored))) (sym (f .1 .1 .0)))
-      (h .rows .keys ∙ ap (λ (i : ℕ). padded 0 i (keysOf (s .stored))) lk)
-      (h .rows .distances ∙ ap (λ (i : ℕ). padded zero32 i (distancesOf (s .stored))) (sym b ∙ ld))
-      (h .cells .estimates ∙ none zero32 (length cs) (p .estimates) (estimatesOf (s .waiting)) (ap estimatesOf z) (sym e ∙ le))
-      (h .cells .cells ∙ none 0 (length cs) (p .cells) (cellsOf (s .waiting)) (ap cellsOf z) lc))
-    where
-      none : {A : Type 0} (v : A) (a b : ℕ) (l : List A) → l ≡ [] → a ≡ b → padded v a l ≡ replicate b v
-      none v a b l e f = rw (e, f) (ap (λ (i : ℕ). replicate i v) (whole-room b))
+      (ap (λ (i : ℕ). marched.Done i k) (h .count) ∙ ap (marched.Done (length (s .stored))) (sym (f .1 .1 .0)))
+      (h .keys ∙ ap (λ (i : ℕ). padded 0 i (keysOf (s .stored))) lk)
+      (h .distances ∙ ap (λ (i : ℕ). padded zero32 i (distancesOf (s .stored))) (sym b ∙ ld))
+      (h .estimates ∙ ap (λ (i : ℕ). replicate i zero32) (whole-room (length cs) ∙ sym e ∙ le))
+      (h .cells ∙ ap (λ (i : ℕ). replicate i 0) (whole-room (length cs) ∙ lc)))
 
   pub tidied-left :
       (r : Marched) (ks' : List ℕ) (ds' es' : List Float) (cs' : List ℕ)
@@ -194,10 +223,14 @@ module _ (s : Settings) (tks : List ℕ) (tds tws : List Float) (n : ℕ) (thres
       → ds ≡ filled zero32 ds₀
       → es ≡ filled zero32 es₀
       → cs ≡ filled 0 cs₀
-      → MayMarch verdict tks tds tws n ks ds es cs
+      → MayMarch verdict (record { size = s .«voxel_size» .0; most = s .«max_distance» .0 }) tks tds tws n ks ds es cs
   may-march ks cs ds es {fit} p q a b c d e =
       let h = sym q ∙ e in
-      (tested-lent s tks tds tws n threshold fit h, cleared ks₀ cs₀ ds₀ es₀ ks cs ds es (sym p ∙ tests s (table tks tds tws n) threshold fit h .places) a b c d)
+      let k = sets-equal (length ks₀) (length ds₀) (length es₀) (length cs₀) (sym p ∙ tests s (table tks tds tws n) threshold fit h .places) in
+      (
+        (tested-table s tks tds tws n threshold fit h, tested-course s (table tks tds tws n) threshold fit h),
+        cleared ks₀ cs₀ ds₀ es₀ ks cs ds es (k .0) (k .1) a b c d,
+      )
 
   -- the whole call
   pub march-left :

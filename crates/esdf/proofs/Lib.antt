@@ -1,10 +1,5 @@
 -- Laws on the march's code.
-pub mod Walking
-pub mod Columns
-pub mod Holding
-pub mod Stepping
-pub mod Marching
-pub mod Choosing
 pub mod Computing
+pub mod Racing
 pub mod Determined
 pub mod Passing

@@ -11,10 +11,9 @@ enum-known-verdict c = search needs
 enum-told : tie.Need-enum-told
 enum-told c = search needs
 
-march-either-requires : tie.Need-march-either-requires
-march-either-requires c κs =
-    let at-pre = c .before .before .before .before .before .before .before .before .before .before .before .before .before in
-    at-pre .pre (c .before .before .before .before .enum-told .given .1)
+march-rows-requires : tie.Need-march-rows-requires
+march-rows-requires c κs =
+    c .before .before .before .before .before .before .before .before .before .before .before .before .before .pre (c .before .before .before .before .enum-told .given .1)
 
 returns : tie.Need-returns
 returns c = refused-first _ _ _ _ _ _ (c .before .verdict .given .1)
@@ -33,9 +32,7 @@ same-length-4 c = search needs
 
 returns-2 : tie.Need-returns-2
 returns-2 c =
-    let at-march-either = c .before .before .before .before .before .before .before .before in
-    let at-enum-told = at-march-either .before .before .before .before .before in
-    passed-first _ _ _ _ _ _ _ (at-enum-told .enum-told .given .1) (at-march-either .march-either .ensures)
+    passed-first _ _ _ _ _ _ _ (c .before .before .before .before .before .before .before .before .before .before .before .before .before .enum-told .given .1) (c .before .before .before .before .before .before .before .before .march-rows .ensures)
 
 pub march-if-spec : {M : Type 1} → statement M
 march-if-spec =
@@ -43,7 +40,7 @@ march-if-spec =
     (tie.spec
     enum-known-verdict
     enum-told
-    march-either-requires
+    march-rows-requires
     returns
     same-length
     same-length-2

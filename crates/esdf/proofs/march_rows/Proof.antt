@@ -1,36 +1,28 @@
--- `esdf::march_rows` meets its contract: the seeds are sown, then the cells are taken.
+-- `esdf::march_rows` meets its contract: the march with marks, unless they outgrew the lists; then the lean one.
 -- Assumes nothing.
+use mathlib.Core.Path.{_≡_, sym, _∙_}
 use Rattle.table.specs.Table.{rowsOf}
-use Rattle.esdf.proofs.Marching.{rows-ascend, march-refused, sown-all, march-taken}
+use Rattle.fronts.proofs.Finishing.{blank-long}
+use Rattle.esdf.proofs.Racing.{raced-marches, same-march, answered-as}
 use borrow.Author.Needs.{needs}
 use Rattle.esdf.proofs.march_rows.Statement.{statement}
 use Rattle.esdf.proofs.march_rows.Tie as tie
 
-sow-all-requires : tie.Need-sow-all-requires
-sow-all-requires c κs = search needs
+race-requires : tie.Need-race-requires
+race-requires c κs = c .before .before .before .before .before .before .before .before .before .before .before .pre
 
-enum-known-why : tie.Need-enum-known-why
-enum-known-why c = search needs
+outgrew-requires : tie.Need-outgrew-requires
+outgrew-requires c κs = search needs
 
-enum-known-rows : tie.Need-enum-known-rows
-enum-known-rows c = search needs
+march-again-requires : tie.Need-march-again-requires
+march-again-requires c κs =
+    let k = c .before .before .before .before .before .before .before .before .before .before .before .before .before .before .race .kept in
+    let p = c .before .before .before .before .before .before .before .before .before .before .before .before .before .before .before .before .before .before .before .before .before .before .before .before .before .before .pre in
+    (p .0,
+    (k .1 .1 .1 .1 .1 .1 .1 .1 .0 ∙ blank-long _ _ _ (p .1 .distances) ∙ sym (k .1 .1 .1 .1 .1 .1 .1 .0), k .1 .1 .1 .1 .1 .1 .1 .1 .1 .0 ∙ blank-long _ _ _ (p .1 .estimates) ∙ sym (k .1 .1 .1 .1 .1 .1 .1 .1 .1 .1 .0)))
 
-take-all-requires : tie.Need-take-all-requires
-take-all-requires c κs =
-    let at-sow-all = c .before .before .before .before .before .before .before .before .before .before .before .before .before .before .before in
-    let a = c .before .before .before .before .before .before .before .before .before .before .before .before .before
-    .before .before .before .before .before .before .before .before .before .before .before .before .before
-    .before .args in
-    let p = c .before .before .before .before .before .before .before .before .before .before .before .before .before
-    .before .before .before .before .before .before .before .before .before .before .before .before .before
-    .before .pre in
-    let x =
-    sown-all (a .size) (a .most) (a .threshold)
-    (rowsOf (a .fused-keys .now) (a .fused-distances .now) (a .fused-weights .now) (a .fused-count)) (a .keys .now)
-    (a .cells .now) _ _ _ _ _ (at-sow-all .sow-all .ensures) (rows-ascend _ _ _ _ (p .0))
-    (at-sow-all .sow-all .kept .1 .1 .1 .1 .1 .0) (at-sow-all .sow-all .kept .1 .1 .1 .1 .1 .1 .1 .1 .0) _ _
-    (c .before .before .before .before .before .rows .given .1) in
-    (_, (x .0, x .1 .1))
+marched-of-requires : tie.Need-marched-of-requires
+marched-of-requires c κs = search needs
 
 same-length : tie.Need-same-length
 same-length c = search needs
@@ -46,12 +38,10 @@ same-length-4 c = search needs
 
 returns : tie.Need-returns
 returns c =
-    let at-sow-all = c .before .before .before .before .before .before .before .before .before .before .before in
-    let a = c .before .before .before .before .before .before .before .before .before .before .before .before .before
-    .before .before .before .before .before .before .before .before .before .before .args in
-    march-refused (a .size) (a .most) (a .threshold)
-    (rowsOf (a .fused-keys .now) (a .fused-distances .now) (a .fused-weights .now) (a .fused-count)) (a .keys .now)
-    (a .cells .now) _ _ _ _ _ (at-sow-all .sow-all .ensures) _ (c .before .why .given .1)
+    let a = c .before .before .before .before .before .before .before .before .before .before .before .before .before .before .before .before .before .before .before .before .before .before .before .before .before .before .before .before .before .before .before .before .before .before .before .args in
+    let k = c .before .before .before .before .before .before .before .before .before .before .before .before .before .before .before .before .before .before .before .before .before .before .before .race .kept in
+    same-march (a .course .size) (a .course .most) (a .threshold) (rowsOf (a .fused-keys .now) (a .fused-distances .now) (a .fused-weights .now) (a .fused-count)) (a .keys .now) (a .cells .now) (c .before .before .before .before .before .before .before .before .before .before .before .before .before .before .before .before .before .before .before .before .before .before .before .race .last .1 .1 .1 .1 .1 .1 .1 .0) (c .before .before .before .before .before .before .before .before .before .before .before .before .before .before .before .before .before .before .before .before .before .before .before .race .last .1 .1 .1 .1 .1 .1 .1 .1 .1 .1 .0) (k .1 .1 .1 .1 .1 .1 .1 .0) (k .1 .1 .1 .1 .1 .1 .1 .1 .1 .1 .0) _ _ _ _ _
+    (c .before .before .before .before .before .before .before .before .march-again .ensures)
 
 same-length-5 : tie.Need-same-length-5
 same-length-5 c = search needs
@@ -67,29 +57,17 @@ same-length-8 c = search needs
 
 returns-2 : tie.Need-returns-2
 returns-2 c =
-    let at-take-all = c .before .before .before .before .before .before .before .before in
-    let at-rows = at-take-all .before .before .before .before .before .before in
-    let at-sow-all = at-rows .before .before .before .before .before .before .before .before .before .before in
-    let a = c .before .before .before .before .before .before .before .before .before .before .before .before .before
-    .before .before .before .before .before .before .before .before .before .before .before .before .before
-    .before .before .before .before .before .before .before .before .before .before .args in
-    let p = c .before .before .before .before .before .before .before .before .before .before .before .before .before
-    .before .before .before .before .before .before .before .before .before .before .before .before .before
-    .before .before .before .before .before .before .before .before .before .before .pre in
-    march-taken (a .size) (a .most) (a .threshold)
-    (rowsOf (a .fused-keys .now) (a .fused-distances .now) (a .fused-weights .now) (a .fused-count)) (a .keys .now)
-    (a .cells .now) _ _ _ _ _ (at-sow-all .sow-all .ensures) (rows-ascend _ _ _ _ (p .0))
-    (at-sow-all .sow-all .kept .1 .1 .1 .1 .1 .0) (at-sow-all .sow-all .kept .1 .1 .1 .1 .1 .1 .1 .1 .0) _ _
-    (at-rows .rows .given .1) _ _ _ _ _ (at-take-all .take-all .ensures)
+    answered-as _ _ _ _ _ _ _ (c .marched-of .ensures)
+    (raced-marches _ _ _ _ _ _ _ (c .before .before .before .before .before .before .before .before .before .before .before .race .ensures) (sym (c .before .before .outgrew .ensures) ∙ c .before .if1 .left))
 
 pub march-rows-spec : {M : Type 1} → statement M
 march-rows-spec =
     tie.close
     (tie.spec
-    sow-all-requires
-    enum-known-why
-    enum-known-rows
-    take-all-requires
+    race-requires
+    outgrew-requires
+    march-again-requires
+    marched-of-requires
     same-length
     same-length-2
     same-length-3
