@@ -226,8 +226,7 @@ module _ (s : Settings) (tks : List ℕ) (tds tws : List Float) (n : ℕ) (thres
       → MayMarch verdict (record { size = s .«voxel_size» .0; most = s .«max_distance» .0 }) tks tds tws n ks ds es cs
   may-march ks cs ds es {fit} p q a b c d e =
       let h = sym q ∙ e in
-      let k = sets-equal (length ks₀) (length ds₀) (length es₀) (length cs₀) (sym p ∙ tests s (table tks tds tws n) threshold fit h .places) in
-      (
+      let k = sets-equal (length ks₀) (length ds₀) (length es₀) (length cs₀) (sym p ∙ tests s (table tks tds tws n) threshold fit h .places) in (
         (tested-table s tks tds tws n threshold fit h, tested-course s (table tks tds tws n) threshold fit h),
         cleared ks₀ cs₀ ds₀ es₀ ks cs ds es (k .0) (k .1) a b c d,
       )

@@ -242,22 +242,21 @@ module _ (seed : ℕ → Bool) (f : Field) (from : ℕ) (e : Float) (k : ℕ) (o
       → ((l : List Cell) → Heaped l w es cs → eq e e ≡ true → waits k l ≡ false → Heaped (insert cellBefore (cell e k) l) (w + 1) es' cs')
       → LeftCells true (wait (length cs) e k s) s (Now (w + 1)) ks ds es' cs'
   unfolding LeftCells marking
-  lean-placed t l o es' cs' pushed =
+  lean-placed t l o es' cs' pushed = (
+    state (s .stored) (insert cellBefore (cell e k) (s .waiting)) (s .takings),
+    (
+      wait-goes true e k s w ks ds es cs h new (tells ∙ t) l,
       (
-        state (s .stored) (insert cellBefore (cell e k) (s .waiting)) (s .takings),
-        (
-          wait-goes true e k s w ks ds es cs h new (tells ∙ t) l,
-          (
-            refl,
-            record {
-              marked = h .marked;
-              heap = pushed (s .waiting) (h .heap) o (tells ∙ t);
-              lattice = lattice-more e k (s .waiting) on-lattice (h .lattice);
-              places = h .places;
-            },
-          ),
-        ),
-      )
+        refl,
+        record {
+          marked = h .marked;
+          heap = pushed (s .waiting) (h .heap) o (tells ∙ t);
+          lattice = lattice-more e k (s .waiting) on-lattice (h .lattice);
+          places = h .places;
+        },
+      ),
+    ),
+  )
 
 -- ---- storing
 

@@ -183,7 +183,14 @@ fn wait(
         )
     } else {
         wait_marked(
-            keys, distances, estimates, cells, waiting, place, estimate, key,
+            keys,
+            distances,
+            estimates,
+            cells,
+            waiting,
+            place,
+            estimate,
+            key,
         )
     }
 }
@@ -244,7 +251,14 @@ fn wait_around(
 }
 
 // A new row: its mark is its distance.
-fn store(lean: bool, keys: &mut [u64], distances: &mut [f32], count: usize, key: u64, distance: f32) -> Placed
+fn store(
+    lean: bool,
+    keys: &mut [u64],
+    distances: &mut [f32],
+    count: usize,
+    key: u64,
+    distance: f32,
+) -> Placed
     requires { ⌜ (length (now distances) ≡ length (now keys)) × (onLattice key ≡ true) ⌝ }
     ensures { λ r. ⌜ ((s : State) (ws vs : List ℕ)
         → Marked (s .stored) ws (now (keys .entry)) (now (distances .entry))

@@ -40,7 +40,14 @@ pub fn known(keys: &[u64], distances: &[f32], key: u64) -> f32
 }
 
 // The best so far, once the neighbour at a place is heard.
-fn hear(keys: &[u64], distances: &[f32], course: Course, best: f32, place: usize, neighbour: u64) -> f32
+fn hear(
+    keys: &[u64],
+    distances: &[f32],
+    course: Course,
+    best: f32,
+    place: usize,
+    neighbour: u64,
+) -> f32
     requires { ⌜ (length (now distances) ≡ length (now keys)) × (neighbour ≡ 1 → ⊥) ⌝ }
     ensures { λ r. ⌜ ((rs : List MarchedRow) (ws : List ℕ)
         → Marked rs ws (now (keys .entry)) (now (distances .entry))

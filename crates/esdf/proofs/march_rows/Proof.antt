@@ -17,9 +17,10 @@ outgrew-requires c κs = search needs
 march-again-requires : tie.Need-march-again-requires
 march-again-requires c κs =
     let k = c .before .before .before .before .before .before .before .before .before .before .before .before .before .before .race .kept in
-    let p = c .before .before .before .before .before .before .before .before .before .before .before .before .before .before .before .before .before .before .before .before .before .before .before .before .before .before .pre in
-    (p .0,
-    (k .1 .1 .1 .1 .1 .1 .1 .1 .0 ∙ blank-long _ _ _ (p .1 .distances) ∙ sym (k .1 .1 .1 .1 .1 .1 .1 .0), k .1 .1 .1 .1 .1 .1 .1 .1 .1 .0 ∙ blank-long _ _ _ (p .1 .estimates) ∙ sym (k .1 .1 .1 .1 .1 .1 .1 .1 .1 .1 .0)))
+    let p = c .before .before .before .before .before .before .before .before .before .before .before .before .before .before .before .before .before .before .before .before .before .before .before .before .before .before .pre in (
+      p .0,
+      (k .1 .1 .1 .1 .1 .1 .1 .1 .0 ∙ blank-long _ _ _ (p .1 .distances) ∙ sym (k .1 .1 .1 .1 .1 .1 .1 .0), k .1 .1 .1 .1 .1 .1 .1 .1 .1 .0 ∙ blank-long _ _ _ (p .1 .estimates) ∙ sym (k .1 .1 .1 .1 .1 .1 .1 .1 .1 .1 .0)),
+    )
 
 marched-of-requires : tie.Need-marched-of-requires
 marched-of-requires c κs = search needs

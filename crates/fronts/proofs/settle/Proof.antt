@@ -48,7 +48,7 @@ returns : tie.Need-returns
 returns c =
     let a = c .before .before .before .before .before .before .before .before .before .before .before .before .before .before .before .before .before .before .before .before .args in
     let at : (s : State) → Taken (a .lean) (a .key) s (a .count) (a .keys .now) (a .distances .now) (a .waiting) (a .estimates .now) (a .cells .now)
-        → c .before .before .before .before .before .before .before .before .before .before .settled .result ≡ settled (latticeOf (a .course)) (s .stored) (a .key) =
+    → c .before .before .before .before .before .before .before .before .before .before .settled .result ≡ settled (latticeOf (a .course)) (s .stored) (a .key) =
     λ s h. c .before .before .before .before .before .before .before .before .before .before .settled .ensures (s .stored) (markingAlso (a .lean) (a .key) (s .waiting)) (h .marked) in
     λ s h told. settle-by (a .lean) (latticeOf (a .course)) (roomsOf (a .keys .now) (a .cells .now)) (a .key) s (c .before .before .before .before .before .before .before .before .before .before .settled .result) (at s h) _ _ _ _ _
     (no-row (a .lean) (seedIn (a .threshold) (rowsOf (a .fused-keys .now) (a .fused-distances .now) (a .fused-weights .now) (a .fused-count))) (latticeOf (a .course)) (a .key) (store (length (a .keys .now)) (marchedRow (a .key) (c .before .before .before .before .before .before .before .before .before .before .settled .result)) s)
@@ -72,7 +72,7 @@ returns-2 : tie.Need-returns-2
 returns-2 c =
     let a = c .before .before .before .before .before .before .before .before .before .before .before .before .before .before .before .before .before .before .before .before .before .before .before .before .before .before .before .before .before .before .before .before .before .before .before .before .args in
     let at : (s : State) → Taken (a .lean) (a .key) s (a .count) (a .keys .now) (a .distances .now) (a .waiting) (a .estimates .now) (a .cells .now)
-        → c .before .before .before .before .before .before .before .before .before .before .before .before .before .before .before .before .before .before .before .before .before .before .before .before .before .before .settled .result ≡ settled (latticeOf (a .course)) (s .stored) (a .key) =
+    → c .before .before .before .before .before .before .before .before .before .before .before .before .before .before .before .before .before .before .before .before .before .before .before .before .before .before .settled .result ≡ settled (latticeOf (a .course)) (s .stored) (a .key) =
     λ s h. c .before .before .before .before .before .before .before .before .before .before .before .before .before .before .before .before .before .before .before .before .before .before .before .before .before .before .settled .ensures (s .stored) (markingAlso (a .lean) (a .key) (s .waiting)) (h .marked) in
     λ s h told. settle-by (a .lean) (latticeOf (a .course)) (roomsOf (a .keys .now) (a .cells .now)) (a .key) s (c .before .before .before .before .before .before .before .before .before .before .before .before .before .before .before .before .before .before .before .before .before .before .before .before .before .before .settled .result) (at s h) _ _ _ _ _
     (no-cell (a .lean) (seedIn (a .threshold) (rowsOf (a .fused-keys .now) (a .fused-distances .now) (a .fused-weights .now) (a .fused-count))) (latticeOf (a .course)) (a .key) (store (length (a .keys .now)) (marchedRow (a .key) (c .before .before .before .before .before .before .before .before .before .before .before .before .before .before .before .before .before .before .before .before .before .before .before .before .before .before .settled .result)) s)
@@ -97,7 +97,7 @@ returns-3 : tie.Need-returns-3
 returns-3 c =
     let a = c .before .before .before .before .before .before .before .before .before .before .before .before .before .before .before .before .before .before .before .before .before .before .before .before .before .before .before .before .before .before .before .before .before .before .before .before .args in
     let at : (s : State) → Taken (a .lean) (a .key) s (a .count) (a .keys .now) (a .distances .now) (a .waiting) (a .estimates .now) (a .cells .now)
-        → c .before .before .before .before .before .before .before .before .before .before .before .before .before .before .before .before .before .before .before .before .before .before .before .before .before .before .settled .result ≡ settled (latticeOf (a .course)) (s .stored) (a .key) =
+    → c .before .before .before .before .before .before .before .before .before .before .before .before .before .before .before .before .before .before .before .before .before .before .before .before .before .before .settled .result ≡ settled (latticeOf (a .course)) (s .stored) (a .key) =
     λ s h. c .before .before .before .before .before .before .before .before .before .before .before .before .before .before .before .before .before .before .before .before .before .before .before .before .before .before .settled .ensures (s .stored) (markingAlso (a .lean) (a .key) (s .waiting)) (h .marked) in
     λ s h told. settle-by (a .lean) (latticeOf (a .course)) (roomsOf (a .keys .now) (a .cells .now)) (a .key) s (c .before .before .before .before .before .before .before .before .before .before .before .before .before .before .before .before .before .before .before .before .before .before .before .before .before .before .settled .result) (at s h) _ _ _ _ _
     (both-done (a .lean) (seedIn (a .threshold) (rowsOf (a .fused-keys .now) (a .fused-distances .now) (a .fused-weights .now) (a .fused-count))) (latticeOf (a .course)) (a .key) (store (length (a .keys .now)) (marchedRow (a .key) (c .before .before .before .before .before .before .before .before .before .before .before .before .before .before .before .before .before .before .before .before .before .before .before .before .before .before .settled .result)) s)

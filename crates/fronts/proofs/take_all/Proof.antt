@@ -51,9 +51,10 @@ take-requires : tie.Need-take-requires Inv-loop μ-loop
 take-requires c κs =
     let p = c .before .before .before .before .before .before .before .before .before .before .before .before .before .pre in
     let at = c .before .before .before .before .before .loop .inv .4 (p .1 .0) (p .1 .1) in
-    let l = c .before .before .before .before .loop-test .taken in
-    ((p .0 .0 .lent, (at .held .front .marked .long, at .held .front .heap .long)),
-    (l, (at .held .front .heap .fits, (p .0 .1, first-on-lattice _ _ _ _ _ _ _ _ (at .held) l))))
+    let l = c .before .before .before .before .loop-test .taken in (
+      (p .0 .0 .lent, (at .held .front .marked .long, at .held .front .heap .long)),
+      (l, (at .held .front .heap .fits, (p .0 .1, first-on-lattice _ _ _ _ _ _ _ _ (at .held) l))),
+    )
 
 enum-known-why : tie.Need-enum-known-why Inv-loop μ-loop
 enum-known-why c = search needs

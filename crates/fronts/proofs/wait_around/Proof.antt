@@ -63,9 +63,10 @@ array-read-wait c = search needs
 wait-requires : tie.Need-wait-requires Inv-loop μ-loop
 wait-requires c κs =
     let i = c .before .before .before .before .before .loop .inv in
-    let p = c .before .before .before .before .before .before .before .before .before .before .before .before .before .before .before .pre in
-    ((p .0 .0, (i .5 ∙ p .0 .1 .0 ∙ sym (i .4), i .6 ∙ p .0 .1 .1 ∙ sym (i .7))),
-    (near-lattice (c .before .before .before .before .before .before .before .before .before .before .before .before .before .before .before .args .key) (p .1 .0) _ (i .0) _ (omega (arith, c .before .before .before .before .loop-test .taken, i .1)), p .1 .1))
+    let p = c .before .before .before .before .before .before .before .before .before .before .before .before .before .before .before .pre in (
+      (p .0 .0, (i .5 ∙ p .0 .1 .0 ∙ sym (i .4), i .6 ∙ p .0 .1 .1 ∙ sym (i .7))),
+      (near-lattice (c .before .before .before .before .before .before .before .before .before .before .before .before .before .before .before .args .key) (p .1 .0) _ (i .0) _ (omega (arith, c .before .before .before .before .loop-test .taken, i .1)), p .1 .1),
+    )
 
 enum-known-why : tie.Need-enum-known-why Inv-loop μ-loop
 enum-known-why c = search needs

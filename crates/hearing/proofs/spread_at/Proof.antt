@@ -22,8 +22,10 @@ unfolding hasSpread
 returns-2 c =
     let at-known = c .before .before in
     λ rs ws h.
-    rw (ne-eqb _ _ (at-known .before .if1 .left),
-    said-none (at-known .known .result) _ (at-known .known .ensures rs ws h) (no (c .before .is-finite .ensures) (c .if2 .taken)))
+    rw (
+      ne-eqb _ _ (at-known .before .if1 .left),
+      said-none (at-known .known .result) _ (at-known .known .ensures rs ws h) (no (c .before .is-finite .ensures) (c .if2 .taken)),
+    )
 
 has-spread-requires : tie.Need-has-spread-requires
 has-spread-requires c κs = c .before .before .before .before .before .before .before .before .before .pre .0
@@ -32,8 +34,10 @@ returns-3 : tie.Need-returns-3
 returns-3 c =
     let at-known = c .before .before .before in
     λ rs ws h.
-    rw (ne-eqb _ _ (at-known .before .if1 .left),
-    said-some (at-known .known .result) _ (at-known .known .ensures rs ws h) (yes (c .before .before .is-finite .ensures) (c .before .if2 .left)))
+    rw (
+      ne-eqb _ _ (at-known .before .if1 .left),
+      said-some (at-known .known .result) _ (at-known .known .ensures rs ws h) (yes (c .before .before .is-finite .ensures) (c .before .if2 .left)),
+    )
     (c .has-spread .ensures)
 
 pub spread-at-spec : {M : Type 1} → statement M
