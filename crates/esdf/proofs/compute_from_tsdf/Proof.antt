@@ -21,11 +21,16 @@ clear-requires c κs = search needs
 
 march-if-requires : tie.Need-march-if-requires
 march-if-requires c κs =
-    let a = c .before .before .before .before .before .before .before .before .before .before .before .before .before .before .before .before .before .before .before .before .before .before .before .before .before .before .before .args in
-    let e = c .before .before .before .before .before .before .before .before .before .before .before .before .clear .ensures in
+    let at-clear = c .before .before .before .before .before .before .before .before .before .before .before .before in
+    let at-check = at-clear .before .before .before .before .before in
+    let at-set-ok2 = at-check .before in
+    let at-set-ok = at-set-ok2 .before in
+    let at-start = at-set-ok .before .before .before .before .before .before .before .before in
+    let a = at-start .args in
+    let e = at-clear .clear .ensures in
     may-march (a .settings) (a .keys .now) (a .distances .now) (a .weights .now) (a .count) (a .threshold)
     (a .marched-keys .now) (a .waiting-keys .now) (a .marched-distances .now) (a .waiting-estimates .now) _ _ _ _
-    (and-eq (c .before .before .before .before .before .before .before .before .before .before .before .before .before .before .before .before .before .before .before .set-ok .ensures) (c .before .before .before .before .before .before .before .before .before .before .before .before .before .before .before .before .before .before .set-ok2 .ensures)) (c .before .before .before .before .before .before .before .before .before .before .before .before .before .before .before .before .before .check .ensures) (e .0) (e .1 .0) (e .1 .1 .0) (e .1 .1 .1)
+    (and-eq (at-set-ok .set-ok .ensures) (at-set-ok2 .set-ok2 .ensures)) (at-check .check .ensures) (e .0) (e .1 .0) (e .1 .1 .0) (e .1 .1 .1)
 
 tidy-requires : tie.Need-tidy-requires
 tidy-requires c κs = search needs
@@ -44,16 +49,23 @@ same-length-4 c = search needs
 
 returns : tie.Need-returns
 returns c =
-    let a = c .before .before .before .before .before .before .before .before .before .before .before .before .before .before .before .before .before .before .before .before .before .before .before .before .before .before .before .before .before .before .before .before .before .before .before .before .before .before .before .before .before .before .before .before .before .before .before .before .before .args in
-    let l = c .before .before .before .before .before .before .before .before .before .before .before .before .before .before .before .before .before .before .before .before .before .before .before .before .before .before .before .before .before .before .before .before .before .before .clear .last in
-    let k = c .before .before .before .before .before .before .before .before .before .before .before .before .before .before .before .before .before .before .before .before .before .before .before .before .before .before .before .before .before .before .before .before .before .before .clear .kept in
-    let m = c .before .before .before .before .before .before .before .before .before .before .before .before .before .before .before .before .before .before .before .before .before .march-if .kept in
-    let t = c .before .before .before .before .before .before .before .before .tidy .ensures in
+    let at-tidy = c .before .before .before .before .before .before .before .before in
+    let at-march-if = at-tidy .before .before .before .before .before .before .before .before .before .before .before .before .before in
+    let at-clear = at-march-if .before .before .before .before .before .before .before .before .before .before .before .before .before in
+    let at-check = at-clear .before .before .before .before .before in
+    let at-set-ok2 = at-check .before in
+    let at-set-ok = at-set-ok2 .before in
+    let at-start = at-set-ok .before .before .before .before .before .before .before .before in
+    let a = at-start .args in
+    let l = at-clear .clear .last in
+    let k = at-clear .clear .kept in
+    let m = at-march-if .march-if .kept in
+    let t = at-tidy .tidy .ensures in
     march-left (a .settings) (a .keys .now) (a .distances .now) (a .weights .now) (a .count) (a .threshold)
     (a .marched-keys .now) (a .waiting-keys .now) (a .marched-distances .now) (a .waiting-estimates .now) (l .0) (l .1 .1 .1 .0)
-    (and-eq (c .before .before .before .before .before .before .before .before .before .before .before .before .before .before .before .before .before .before .before .before .before .before .before .before .before .before .before .before .before .before .before .before .before .before .before .before .before .before .before .before .before .set-ok .ensures) (c .before .before .before .before .before .before .before .before .before .before .before .before .before .before .before .before .before .before .before .before .before .before .before .before .before .before .before .before .before .before .before .before .before .before .before .before .before .before .before .before .set-ok2 .ensures)) (c .before .before .before .before .before .before .before .before .before .before .before .before .before .before .before .before .before .before .before .before .before .before .before .before .before .before .before .before .before .before .before .before .before .before .before .before .before .before .before .check .ensures) (k .0) (k .1 .1 .1 .0) _ _ _ _
+    (and-eq (at-set-ok .set-ok .ensures) (at-set-ok2 .set-ok2 .ensures)) (at-check .check .ensures) (k .0) (k .1 .1 .1 .0) _ _ _ _
     (m .1 .1 .1 .1 .1 .1 .1 .0 ∙ k .0) (m .1 .1 .1 .1 .1 .1 .1 .1 .0 ∙ k .1 .0) (m .1 .1 .1 .1 .1 .1 .1 .1 .1 .0 ∙ k .1 .1 .0) (m .1 .1 .1 .1 .1 .1 .1 .1 .1 .1 .0 ∙ k .1 .1 .1 .0) _
-    (c .before .before .before .before .before .before .before .before .before .before .before .before .before .before .before .before .before .before .before .before .before .march-if .ensures) _ _ _ _ (t .0) (t .1 .0) (t .1 .1 .0) (t .1 .1 .1)
+    (at-march-if .march-if .ensures) _ _ _ _ (t .0) (t .1 .0) (t .1 .1 .0) (t .1 .1 .1)
 
 pub compute-from-tsdf-spec : {M : Type 1} → statement M
 compute-from-tsdf-spec =

@@ -13,9 +13,11 @@ clear-requires c κs = search needs
 
 race-requires : tie.Need-race-requires
 race-requires c κs =
-    let e = c .before .before .before .before .before .before .before .before .before .before .before .before .clear .ensures in
-    let p = c .before .before .before .before .before .before .before .before .before .before .before .before .before .before .before .before .before .before .before .before .before .before .before .before .pre in
-    let a = c .before .before .before .before .before .before .before .before .before .before .before .before .before .before .before .before .before .before .before .before .before .before .before .before .args in
+    let at-clear = c .before .before .before .before .before .before .before .before .before .before .before .before in
+    let at-start = at-clear .before .before .before .before .before .before .before .before .before .before .before .before in
+    let e = at-clear .clear .ensures in
+    let p = at-start .pre in
+    let a = at-start .args in
     (p .0, cleared (a .keys .now) (a .cells .now) (a .distances .now) (a .estimates .now) _ _ _ _ (p .1 .0) (p .1 .1) (e .0) (e .1 .0) (e .1 .1 .0) (e .1 .1 .1))
 
 marched-of-requires : tie.Need-marched-of-requires
@@ -35,11 +37,14 @@ same-length-4 c = search needs
 
 returns : tie.Need-returns
 returns c =
-    let a = c .before .before .before .before .before .before .before .before .before .before .before .before .before .before .before .before .before .before .before .before .before .before .before .before .before .before .before .before .before .before .before .before .before .before .args in
-    let k = c .before .before .before .before .before .before .before .before .before .before .before .before .before .before .before .before .before .before .before .before .before .before .clear .kept in
-    let did = c .before .before .before .before .before .before .before .before .before .race .ensures in
+    let at-race = c .before .before .before .before .before .before .before .before .before in
+    let at-clear = at-race .before .before .before .before .before .before .before .before .before .before .before .before .before in
+    let at-start = at-clear .before .before .before .before .before .before .before .before .before .before .before .before in
+    let a = at-start .args in
+    let k = at-clear .clear .kept in
+    let did = at-race .race .ensures in
     answered-as _ _ _ _ _ _ _ (c .marched-of .ensures)
-    (same-march (a .course .size) (a .course .most) (a .threshold) (rowsOf (a .fused-keys .now) (a .fused-distances .now) (a .fused-weights .now) (a .fused-count)) (a .keys .now) (a .cells .now) (c .before .before .before .before .before .before .before .before .before .before .before .before .before .before .before .before .before .before .before .before .before .before .clear .last .0) (c .before .before .before .before .before .before .before .before .before .before .before .before .before .before .before .before .before .before .before .before .before .before .clear .last .1 .1 .1 .0) (k .0) (k .1 .1 .1 .0) _ _ _ _ _
+    (same-march (a .course .size) (a .course .most) (a .threshold) (rowsOf (a .fused-keys .now) (a .fused-distances .now) (a .fused-weights .now) (a .fused-count)) (a .keys .now) (a .cells .now) (at-clear .clear .last .0) (at-clear .clear .last .1 .1 .1 .0) (k .0) (k .1 .1 .1 .0) _ _ _ _ _
     (raced-marches _ _ _ _ _ _ _ did (lean-suffices _ _ _ _ _ _ did)))
 
 pub march-again-spec : {M : Type 1} → statement M

@@ -13,7 +13,9 @@ enum-told c = search needs
 
 march-rows-requires : tie.Need-march-rows-requires
 march-rows-requires c κs =
-    c .before .before .before .before .before .before .before .before .before .before .before .before .before .pre (c .before .before .before .before .enum-told .given .1)
+    let at-enum-told = c .before .before .before .before in
+    let at-start = at-enum-told .before .before .before .before .before .before .before .before .before in
+    at-start .pre (at-enum-told .enum-told .given .1)
 
 returns : tie.Need-returns
 returns c = refused-first _ _ _ _ _ _ (c .before .verdict .given .1)
@@ -32,7 +34,9 @@ same-length-4 c = search needs
 
 returns-2 : tie.Need-returns-2
 returns-2 c =
-    passed-first _ _ _ _ _ _ _ (c .before .before .before .before .before .before .before .before .before .before .before .before .before .enum-told .given .1) (c .before .before .before .before .before .before .before .before .march-rows .ensures)
+    let at-march-rows = c .before .before .before .before .before .before .before .before in
+    let at-enum-told = at-march-rows .before .before .before .before .before in
+    passed-first _ _ _ _ _ _ _ (at-enum-told .enum-told .given .1) (at-march-rows .march-rows .ensures)
 
 pub march-if-spec : {M : Type 1} → statement M
 march-if-spec =

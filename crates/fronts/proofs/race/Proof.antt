@@ -10,7 +10,8 @@ use Rattle.fronts.proofs.race.Tie as tie
 
 sow-all-requires : tie.Need-sow-all-requires
 sow-all-requires c κs =
-    (c .before .before .before .before .before .before .before .before .before .before .before .pre .0 .0, c .before .before .before .before .before .before .before .before .before .before .before .pre .1)
+    let at-start = c .before .before .before .before .before .before .before .before .before .before .before in
+    (at-start .pre .0 .0, at-start .pre .1)
 
 enum-known-why : tie.Need-enum-known-why
 enum-known-why c = search needs
@@ -20,12 +21,15 @@ enum-known-rows c = search needs
 
 take-all-requires : tie.Need-take-all-requires
 take-all-requires c κs =
-    let a = c .before .before .before .before .before .before .before .before .before .before .before .before .before .before .before .before .before .before .before .before .before .before .before .before .before .before .before .args in
+    let at-rows = c .before .before .before .before .before in
+    let at-sow-all = at-rows .before .before .before .before .before .before .before .before .before .before in
+    let at-start = at-sow-all .before .before .before .before .before .before .before .before .before .before .before .before in
+    let a = at-start .args in
     let x = sown-all (a .lean) (a .course) (a .threshold) (rowsOf (a .fused-keys .now) (a .fused-distances .now) (a .fused-weights .now) (a .fused-count)) (a .keys .now)
-    (a .cells .now) _ _ _ _ _ (c .before .before .before .before .before .before .before .before .before .before .before .before .before .before .before .sow-all .ensures)
-    (rows-ascend _ _ _ _ (c .before .before .before .before .before .before .before .before .before .before .before .before .before .before .before .before .before .before .before .before .before .before .before .before .before .before .before .pre .0 .0 .lent))
-    (c .before .before .before .before .before .before .before .before .before .before .before .before .before .before .before .sow-all .kept .1 .1 .1 .1 .1 .1 .1 .0) (c .before .before .before .before .before .before .before .before .before .before .before .before .before .before .before .sow-all .kept .1 .1 .1 .1 .1 .1 .1 .1 .1 .1 .0) _ _ (c .before .before .before .before .before .rows .given .1) in
-    (c .before .before .before .before .before .before .before .before .before .before .before .before .before .before .before .before .before .before .before .before .before .before .before .before .before .before .before .pre .0, (x .0, x .1 .1))
+    (a .cells .now) _ _ _ _ _ (at-sow-all .sow-all .ensures)
+    (rows-ascend _ _ _ _ (at-start .pre .0 .0 .lent))
+    (at-sow-all .sow-all .kept .1 .1 .1 .1 .1 .1 .1 .0) (at-sow-all .sow-all .kept .1 .1 .1 .1 .1 .1 .1 .1 .1 .1 .0) _ _ (at-rows .rows .given .1) in
+    (at-start .pre .0, (x .0, x .1 .1))
 
 enum-known-why-2 : tie.Need-enum-known-why-2
 enum-known-why-2 c = search needs
@@ -35,9 +39,13 @@ enum-known-n c = search needs
 
 sort-rows-requires : tie.Need-sort-rows-requires
 sort-rows-requires c κs =
-    let p = c .before .before .before .before .before .before .before .before .before .before .before .before .before .before .before .before .before .before .before .before .before .before .before .before .before .before .before .before .before .before .before .before .before .before .before .before .before .before .before .before .before .pre .1 in
-    let k = c .before .before .before .before .before .before .before .before .before .before .before .before .before .before .before .before .before .before .before .before .before .before .before .before .before .before .before .before .before .sow-all .kept in
-    let m = c .before .before .before .before .before .before .before .before .before .before .before .before .before .take-all .kept in
+    let at-take-all = c .before .before .before .before .before .before .before .before .before .before .before .before .before in
+    let at-sow-all = at-take-all .before .before .before .before .before .before .before .before .before .before .before .before .before .before .before
+    .before in
+    let at-start = at-sow-all .before .before .before .before .before .before .before .before .before .before .before .before in
+    let p = at-start .pre .1 in
+    let k = at-sow-all .sow-all .kept in
+    let m = at-take-all .take-all .kept in
     m .1 .1 .1 .1 .1 .1 .1 .1 .0 ∙ k .1 .1 .1 .1 .1 .1 .1 .1 .0 ∙ blank-long _ _ _ (p .distances) ∙ sym (k .1 .1 .1 .1 .1 .1 .1 .0) ∙ sym (m .1 .1 .1 .1 .1 .1 .1 .0)
 
 unlabel-requires : tie.Need-unlabel-requires
@@ -57,9 +65,12 @@ same-length-4 c = search needs
 
 returns : tie.Need-returns
 returns c =
-    let a = c .before .before .before .before .before .before .before .before .before .before .before .before .before .before .before .before .before .before .before .before .before .before .before .args in
+    let at-why = c .before in
+    let at-sow-all = at-why .before .before .before .before .before .before .before .before .before .before in
+    let at-start = at-sow-all .before .before .before .before .before .before .before .before .before .before .before .before in
+    let a = at-start .args in
     march-stopped (a .lean) (a .course) (a .threshold) (rowsOf (a .fused-keys .now) (a .fused-distances .now) (a .fused-weights .now) (a .fused-count)) (a .keys .now)
-    (a .cells .now) _ _ _ _ _ (c .before .before .before .before .before .before .before .before .before .before .before .sow-all .ensures) _ (c .before .why .given .1) _ _ _ _
+    (a .cells .now) _ _ _ _ _ (at-sow-all .sow-all .ensures) _ (at-why .why .given .1) _ _ _ _
 
 same-length-5 : tie.Need-same-length-5
 same-length-5 c = search needs
@@ -75,19 +86,33 @@ same-length-8 c = search needs
 
 returns-2 : tie.Need-returns-2
 returns-2 c =
-    let a = c .before .before .before .before .before .before .before .before .before .before .before .before .before .before .before .before .before .before .before .before .before .before .before .before .before .before .before .before .before .before .before .before .before .before .before .before .before .before .before .args in
+    let at-why2 = c .before in
+    let at-take-all = at-why2 .before .before .before .before .before .before .before .before .before .before in
+    let at-rows = at-take-all .before .before .before .before .before .before in
+    let at-sow-all = at-rows .before .before .before .before .before .before .before .before .before .before in
+    let at-start = at-sow-all .before .before .before .before .before .before .before .before .before .before .before .before in
+    let a = at-start .args in
     march-halted (a .lean) (a .course) (a .threshold) (rowsOf (a .fused-keys .now) (a .fused-distances .now) (a .fused-weights .now) (a .fused-count)) (a .keys .now)
-    (a .cells .now) _ _ _ _ _ (c .before .before .before .before .before .before .before .before .before .before .before .before .before .before .before .before .before .before .before .before .before .before .before .before .before .before .before .sow-all .ensures)
-    (rows-ascend _ _ _ _ (c .before .before .before .before .before .before .before .before .before .before .before .before .before .before .before .before .before .before .before .before .before .before .before .before .before .before .before .before .before .before .before .before .before .before .before .before .before .before .before .pre .0 .0 .lent))
-    (c .before .before .before .before .before .before .before .before .before .before .before .before .before .before .before .before .before .before .before .before .before .before .before .before .before .before .before .sow-all .kept .1 .1 .1 .1 .1 .1 .1 .0) (c .before .before .before .before .before .before .before .before .before .before .before .before .before .before .before .before .before .before .before .before .before .before .before .before .before .before .before .sow-all .kept .1 .1 .1 .1 .1 .1 .1 .1 .1 .1 .0) _ _ (c .before .before .before .before .before .before .before .before .before .before .before .before .before .before .before .before .before .rows .given .1) _ _ _ _ _ (c .before .before .before .before .before .before .before .before .before .before .before .take-all .ensures) _ (c .before .why2 .given .1)
+    (a .cells .now) _ _ _ _ _ (at-sow-all .sow-all .ensures)
+    (rows-ascend _ _ _ _ (at-start .pre .0 .0 .lent))
+    (at-sow-all .sow-all .kept .1 .1 .1 .1 .1 .1 .1 .0) (at-sow-all .sow-all .kept .1 .1 .1 .1 .1 .1 .1 .1 .1 .1 .0) _ _ (at-rows .rows .given .1) _ _ _ _ _ (at-take-all .take-all .ensures) _ (at-why2 .why2 .given .1)
 
 same-length-9 : tie.Need-same-length-9
 same-length-9 c =
-    c .before .before .unlabel .kept .0 ∙ c .before .before .before .before .before .before .before .before .sort-rows .kept .0 ∙ c .before .before .before .before .before .before .before .before .before .before .before .before .before .before .before .before .before .before .before .before .before .before .take-all .kept .1 .1 .1 .1 .1 .1 .1 .0 ∙ c .before .before .before .before .before .before .before .before .before .before .before .before .before .before .before .before .before .before .before .before .before .before .before .before .before .before .before .before .before .before .before .before .before .before .before .before .before .before .sow-all .kept .1 .1 .1 .1 .1 .1 .1 .0
+    let at-unlabel = c .before .before in
+    let at-sort-rows = at-unlabel .before .before .before .before .before .before in
+    let at-take-all = at-sort-rows .before .before .before .before .before .before .before .before .before .before .before .before .before .before in
+    let at-sow-all = at-take-all .before .before .before .before .before .before .before .before .before .before .before .before .before .before .before
+    .before in
+    at-unlabel .unlabel .kept .0 ∙ at-sort-rows .sort-rows .kept .0 ∙ at-take-all .take-all .kept .1 .1 .1 .1 .1 .1 .1 .0 ∙ at-sow-all .sow-all .kept .1 .1 .1 .1 .1 .1 .1 .0
 
 same-length-10 : tie.Need-same-length-10
 same-length-10 c =
-    c .before .before .before .before .before .before .before .before .sort-rows .kept .1 .0 ∙ c .before .before .before .before .before .before .before .before .before .before .before .before .before .before .before .before .before .before .before .before .before .before .take-all .kept .1 .1 .1 .1 .1 .1 .1 .1 .0 ∙ c .before .before .before .before .before .before .before .before .before .before .before .before .before .before .before .before .before .before .before .before .before .before .before .before .before .before .before .before .before .before .before .before .before .before .before .before .before .before .sow-all .kept .1 .1 .1 .1 .1 .1 .1 .1 .0
+    let at-sort-rows = c .before .before .before .before .before .before .before .before in
+    let at-take-all = at-sort-rows .before .before .before .before .before .before .before .before .before .before .before .before .before .before in
+    let at-sow-all = at-take-all .before .before .before .before .before .before .before .before .before .before .before .before .before .before .before
+    .before in
+    at-sort-rows .sort-rows .kept .1 .0 ∙ at-take-all .take-all .kept .1 .1 .1 .1 .1 .1 .1 .1 .0 ∙ at-sow-all .sow-all .kept .1 .1 .1 .1 .1 .1 .1 .1 .0
 
 same-length-11 : tie.Need-same-length-11
 same-length-11 c = search needs
@@ -97,13 +122,20 @@ same-length-12 c = search needs
 
 returns-3 : tie.Need-returns-3
 returns-3 c =
-    let a = c .before .before .before .before .before .before .before .before .before .before .before .before .before .before .before .before .before .before .before .before .before .before .before .before .before .before .before .before .before .before .before .before .before .before .before .before .before .before .before .before .before .before .before .before .before .before .before .before .before .before .args in
+    let at-unlabel = c .before .before in
+    let at-sort-rows = at-unlabel .before .before .before .before .before .before in
+    let at-n = at-sort-rows .before .before .before .before in
+    let at-take-all = at-n .before .before .before .before .before .before .before .before .before .before in
+    let at-rows = at-take-all .before .before .before .before .before .before in
+    let at-sow-all = at-rows .before .before .before .before .before .before .before .before .before .before in
+    let at-start = at-sow-all .before .before .before .before .before .before .before .before .before .before .before .before in
+    let a = at-start .args in
     march-done (a .lean) (a .course) (a .threshold) (rowsOf (a .fused-keys .now) (a .fused-distances .now) (a .fused-weights .now) (a .fused-count)) (a .keys .now)
-    (a .cells .now) _ _ _ _ _ (c .before .before .before .before .before .before .before .before .before .before .before .before .before .before .before .before .before .before .before .before .before .before .before .before .before .before .before .before .before .before .before .before .before .before .before .before .before .before .sow-all .ensures)
-    (rows-ascend _ _ _ _ (c .before .before .before .before .before .before .before .before .before .before .before .before .before .before .before .before .before .before .before .before .before .before .before .before .before .before .before .before .before .before .before .before .before .before .before .before .before .before .before .before .before .before .before .before .before .before .before .before .before .before .pre .0 .0 .lent))
-    (c .before .before .before .before .before .before .before .before .before .before .before .before .before .before .before .before .before .before .before .before .before .before .before .before .before .before .before .before .before .before .before .before .before .before .before .before .before .before .sow-all .kept .1 .1 .1 .1 .1 .1 .1 .0) (c .before .before .before .before .before .before .before .before .before .before .before .before .before .before .before .before .before .before .before .before .before .before .before .before .before .before .before .before .before .before .before .before .before .before .before .before .before .before .sow-all .kept .1 .1 .1 .1 .1 .1 .1 .1 .1 .1 .0) _ _ (c .before .before .before .before .before .before .before .before .before .before .before .before .before .before .before .before .before .before .before .before .before .before .before .before .before .before .before .before .rows .given .1) _ _ _ _ _ (c .before .before .before .before .before .before .before .before .before .before .before .before .before .before .before .before .before .before .before .before .before .before .take-all .ensures)
-    (rows-lattice _ _ _ _ (c .before .before .before .before .before .before .before .before .before .before .before .before .before .before .before .before .before .before .before .before .before .before .before .before .before .before .before .before .before .before .before .before .before .before .before .before .before .before .before .before .before .before .before .before .before .before .before .before .before .before .pre .0 .0)) _ _ (c .before .before .before .before .before .before .before .before .before .before .before .before .n .given .1) _ _ _
-    (c .before .before .unlabel .kept .0 ∙ c .before .before .before .before .before .before .before .before .sort-rows .kept .0) (c .before .before .before .before .before .before .before .before .sort-rows .ensures) (c .before .before .unlabel .ensures)
+    (a .cells .now) _ _ _ _ _ (at-sow-all .sow-all .ensures)
+    (rows-ascend _ _ _ _ (at-start .pre .0 .0 .lent))
+    (at-sow-all .sow-all .kept .1 .1 .1 .1 .1 .1 .1 .0) (at-sow-all .sow-all .kept .1 .1 .1 .1 .1 .1 .1 .1 .1 .1 .0) _ _ (at-rows .rows .given .1) _ _ _ _ _ (at-take-all .take-all .ensures)
+    (rows-lattice _ _ _ _ (at-start .pre .0 .0)) _ _ (at-n .n .given .1) _ _ _
+    (at-unlabel .unlabel .kept .0 ∙ at-sort-rows .sort-rows .kept .0) (at-sort-rows .sort-rows .ensures) (at-unlabel .unlabel .ensures)
 
 pub race-spec : {M : Type 1} → statement M
 race-spec =

@@ -14,11 +14,13 @@ use Rattle.fronts.proofs.settle.Tie as tie
 
 settled-requires : tie.Need-settled-requires
 settled-requires c κs =
-    (c .before .before .before .before .before .before .before .before .before .pre .0 .1 .0, c .before .before .before .before .before .before .before .before .before .pre .1 .0)
+    let at-start = c .before .before .before .before .before .before .before .before .before in
+    (at-start .pre .0 .1 .0, at-start .pre .1 .0)
 
 store-requires : tie.Need-store-requires
 store-requires c κs =
-    (c .before .before .before .before .before .before .before .before .before .before .before .before .pre .0 .1 .0, c .before .before .before .before .before .before .before .before .before .before .before .before .pre .1 .0)
+    let at-start = c .before .before .before .before .before .before .before .before .before .before .before .before in
+    (at-start .pre .0 .1 .0, at-start .pre .1 .0)
 
 enum-known-why : tie.Need-enum-known-why
 enum-known-why c = search needs
@@ -28,8 +30,10 @@ enum-known-rows c = search needs
 
 spread-requires : tie.Need-spread-requires
 spread-requires c κs =
-    let k = c .before .before .before .before .before .before .before .before .before .before .before .store .kept in
-    let p = c .before .before .before .before .before .before .before .before .before .before .before .before .before .before .before .before .before .before .before .before .before .before .before .before .pre in
+    let at-store = c .before .before .before .before .before .before .before .before .before .before .before in
+    let at-start = at-store .before .before .before .before .before .before .before .before .before .before .before .before .before in
+    let k = at-store .store .kept in
+    let p = at-start .pre in
     ((p .0 .0, (k .1 .1 .0 ∙ p .0 .1 .0 ∙ sym (k .1 .0), p .0 .1 .1)), p .1 .0)
 
 enum-known-why-2 : tie.Need-enum-known-why-2
@@ -46,15 +50,19 @@ same-length-2 c = search needs
 
 returns : tie.Need-returns
 returns c =
-    let a = c .before .before .before .before .before .before .before .before .before .before .before .before .before .before .before .before .before .before .before .before .args in
+    let at-why = c .before in
+    let at-store = at-why .before .before .before .before .before .before in
+    let at-settled = at-store .before .before .before in
+    let at-start = at-settled .before .before .before .before .before .before .before .before .before .before in
+    let a = at-start .args in
     let at : (s : State) → Taken (a .lean) (a .key) s (a .count) (a .keys .now) (a .distances .now) (a .waiting) (a .estimates .now) (a .cells .now)
-    → c .before .before .before .before .before .before .before .before .before .before .settled .result ≡ settled (latticeOf (a .course)) (s .stored) (a .key) =
-    λ s h. c .before .before .before .before .before .before .before .before .before .before .settled .ensures (s .stored) (markingAlso (a .lean) (a .key) (s .waiting)) (h .marked) in
-    λ s h told. settle-by (a .lean) (latticeOf (a .course)) (roomsOf (a .keys .now) (a .cells .now)) (a .key) s (c .before .before .before .before .before .before .before .before .before .before .settled .result) (at s h) _ _ _ _ _
-    (no-row (a .lean) (seedIn (a .threshold) (rowsOf (a .fused-keys .now) (a .fused-distances .now) (a .fused-weights .now) (a .fused-count))) (latticeOf (a .course)) (a .key) (store (length (a .keys .now)) (marchedRow (a .key) (c .before .before .before .before .before .before .before .before .before .before .settled .result)) s)
-    (spread (latticeOf (a .course)) (length (a .cells .now)) (marchedRow (a .key) (c .before .before .before .before .before .before .before .before .before .before .settled .result))) s _ _ _ (h .heap) (h .lattice) _ _ _
-    (c .before .before .before .before .before .before .before .store .ensures s (markingAlso (a .lean) (a .key) (s .waiting)) (marking (a .lean) (s .waiting)) (h .marked) (taken-same (a .lean) (a .key) (s .waiting))
-    (λ t. (h .places t, taken-spare (a .lean) (a .key) (s .waiting) t)) (finite-by (a .course) _ _ _ (c .before .before .before .before .before .before .before .before .before .before .before .before .before .before .before .before .before .before .before .before .pre .1 .1) (at s h)) (h .count) (h .new)) _ (c .before .why .given .1) _ _)
+    → at-settled .settled .result ≡ settled (latticeOf (a .course)) (s .stored) (a .key) =
+    λ s h. at-settled .settled .ensures (s .stored) (markingAlso (a .lean) (a .key) (s .waiting)) (h .marked) in
+    λ s h told. settle-by (a .lean) (latticeOf (a .course)) (roomsOf (a .keys .now) (a .cells .now)) (a .key) s (at-settled .settled .result) (at s h) _ _ _ _ _
+    (no-row (a .lean) (seedIn (a .threshold) (rowsOf (a .fused-keys .now) (a .fused-distances .now) (a .fused-weights .now) (a .fused-count))) (latticeOf (a .course)) (a .key) (store (length (a .keys .now)) (marchedRow (a .key) (at-settled .settled .result)) s)
+    (spread (latticeOf (a .course)) (length (a .cells .now)) (marchedRow (a .key) (at-settled .settled .result))) s _ _ _ (h .heap) (h .lattice) _ _ _
+    (at-store .store .ensures s (markingAlso (a .lean) (a .key) (s .waiting)) (marking (a .lean) (s .waiting)) (h .marked) (taken-same (a .lean) (a .key) (s .waiting))
+    (λ t. (h .places t, taken-spare (a .lean) (a .key) (s .waiting) t)) (finite-by (a .course) _ _ _ (at-start .pre .1 .1) (at s h)) (h .count) (h .new)) _ (at-why .why .given .1) _ _)
 
 same-length-3 : tie.Need-same-length-3
 same-length-3 c = search needs
@@ -70,16 +78,22 @@ same-length-6 c = search needs
 
 returns-2 : tie.Need-returns-2
 returns-2 c =
-    let a = c .before .before .before .before .before .before .before .before .before .before .before .before .before .before .before .before .before .before .before .before .before .before .before .before .before .before .before .before .before .before .before .before .before .before .before .before .args in
+    let at-why2 = c .before in
+    let at-spread = at-why2 .before .before .before .before .before .before .before .before .before .before in
+    let at-rows = at-spread .before .before .before .before .before .before in
+    let at-store = at-rows .before .before .before .before .before .before in
+    let at-settled = at-store .before .before .before in
+    let at-start = at-settled .before .before .before .before .before .before .before .before .before .before in
+    let a = at-start .args in
     let at : (s : State) → Taken (a .lean) (a .key) s (a .count) (a .keys .now) (a .distances .now) (a .waiting) (a .estimates .now) (a .cells .now)
-    → c .before .before .before .before .before .before .before .before .before .before .before .before .before .before .before .before .before .before .before .before .before .before .before .before .before .before .settled .result ≡ settled (latticeOf (a .course)) (s .stored) (a .key) =
-    λ s h. c .before .before .before .before .before .before .before .before .before .before .before .before .before .before .before .before .before .before .before .before .before .before .before .before .before .before .settled .ensures (s .stored) (markingAlso (a .lean) (a .key) (s .waiting)) (h .marked) in
-    λ s h told. settle-by (a .lean) (latticeOf (a .course)) (roomsOf (a .keys .now) (a .cells .now)) (a .key) s (c .before .before .before .before .before .before .before .before .before .before .before .before .before .before .before .before .before .before .before .before .before .before .before .before .before .before .settled .result) (at s h) _ _ _ _ _
-    (no-cell (a .lean) (seedIn (a .threshold) (rowsOf (a .fused-keys .now) (a .fused-distances .now) (a .fused-weights .now) (a .fused-count))) (latticeOf (a .course)) (a .key) (store (length (a .keys .now)) (marchedRow (a .key) (c .before .before .before .before .before .before .before .before .before .before .before .before .before .before .before .before .before .before .before .before .before .before .before .before .before .before .settled .result)) s)
-    (spread (latticeOf (a .course)) (length (a .cells .now)) (marchedRow (a .key) (c .before .before .before .before .before .before .before .before .before .before .before .before .before .before .before .before .before .before .before .before .before .before .before .before .before .before .settled .result))) s _ _ _ (h .heap) (h .lattice) _ _ _
-    (c .before .before .before .before .before .before .before .before .before .before .before .before .before .before .before .before .before .before .before .before .before .before .before .store .ensures s (markingAlso (a .lean) (a .key) (s .waiting)) (marking (a .lean) (s .waiting)) (h .marked) (taken-same (a .lean) (a .key) (s .waiting))
-    (λ t. (h .places t, taken-spare (a .lean) (a .key) (s .waiting) t)) (finite-by (a .course) _ _ _ (c .before .before .before .before .before .before .before .before .before .before .before .before .before .before .before .before .before .before .before .before .before .before .before .before .before .before .before .before .before .before .before .before .before .before .before .before .pre .1 .1) (at s h)) (h .count) (h .new))
-    (λ t e. told-stored _ (latticeOf (a .course)) (a .key) s told _ _ t e) _ (c .before .before .before .before .before .before .before .before .before .before .before .before .before .before .before .before .before .rows .given .1) _ _ _ _ _ (c .before .before .before .before .before .before .before .before .before .before .before .spread .ensures) _ (c .before .why2 .given .1))
+    → at-settled .settled .result ≡ settled (latticeOf (a .course)) (s .stored) (a .key) =
+    λ s h. at-settled .settled .ensures (s .stored) (markingAlso (a .lean) (a .key) (s .waiting)) (h .marked) in
+    λ s h told. settle-by (a .lean) (latticeOf (a .course)) (roomsOf (a .keys .now) (a .cells .now)) (a .key) s (at-settled .settled .result) (at s h) _ _ _ _ _
+    (no-cell (a .lean) (seedIn (a .threshold) (rowsOf (a .fused-keys .now) (a .fused-distances .now) (a .fused-weights .now) (a .fused-count))) (latticeOf (a .course)) (a .key) (store (length (a .keys .now)) (marchedRow (a .key) (at-settled .settled .result)) s)
+    (spread (latticeOf (a .course)) (length (a .cells .now)) (marchedRow (a .key) (at-settled .settled .result))) s _ _ _ (h .heap) (h .lattice) _ _ _
+    (at-store .store .ensures s (markingAlso (a .lean) (a .key) (s .waiting)) (marking (a .lean) (s .waiting)) (h .marked) (taken-same (a .lean) (a .key) (s .waiting))
+    (λ t. (h .places t, taken-spare (a .lean) (a .key) (s .waiting) t)) (finite-by (a .course) _ _ _ (at-start .pre .1 .1) (at s h)) (h .count) (h .new))
+    (λ t e. told-stored _ (latticeOf (a .course)) (a .key) s told _ _ t e) _ (at-rows .rows .given .1) _ _ _ _ _ (at-spread .spread .ensures) _ (at-why2 .why2 .given .1))
 
 same-length-7 : tie.Need-same-length-7
 same-length-7 c = search needs
@@ -95,16 +109,22 @@ same-length-10 c = search needs
 
 returns-3 : tie.Need-returns-3
 returns-3 c =
-    let a = c .before .before .before .before .before .before .before .before .before .before .before .before .before .before .before .before .before .before .before .before .before .before .before .before .before .before .before .before .before .before .before .before .before .before .before .before .args in
+    let at-held = c .before in
+    let at-spread = at-held .before .before .before .before .before .before .before .before .before .before in
+    let at-rows = at-spread .before .before .before .before .before .before in
+    let at-store = at-rows .before .before .before .before .before .before in
+    let at-settled = at-store .before .before .before in
+    let at-start = at-settled .before .before .before .before .before .before .before .before .before .before in
+    let a = at-start .args in
     let at : (s : State) → Taken (a .lean) (a .key) s (a .count) (a .keys .now) (a .distances .now) (a .waiting) (a .estimates .now) (a .cells .now)
-    → c .before .before .before .before .before .before .before .before .before .before .before .before .before .before .before .before .before .before .before .before .before .before .before .before .before .before .settled .result ≡ settled (latticeOf (a .course)) (s .stored) (a .key) =
-    λ s h. c .before .before .before .before .before .before .before .before .before .before .before .before .before .before .before .before .before .before .before .before .before .before .before .before .before .before .settled .ensures (s .stored) (markingAlso (a .lean) (a .key) (s .waiting)) (h .marked) in
-    λ s h told. settle-by (a .lean) (latticeOf (a .course)) (roomsOf (a .keys .now) (a .cells .now)) (a .key) s (c .before .before .before .before .before .before .before .before .before .before .before .before .before .before .before .before .before .before .before .before .before .before .before .before .before .before .settled .result) (at s h) _ _ _ _ _
-    (both-done (a .lean) (seedIn (a .threshold) (rowsOf (a .fused-keys .now) (a .fused-distances .now) (a .fused-weights .now) (a .fused-count))) (latticeOf (a .course)) (a .key) (store (length (a .keys .now)) (marchedRow (a .key) (c .before .before .before .before .before .before .before .before .before .before .before .before .before .before .before .before .before .before .before .before .before .before .before .before .before .before .settled .result)) s)
-    (spread (latticeOf (a .course)) (length (a .cells .now)) (marchedRow (a .key) (c .before .before .before .before .before .before .before .before .before .before .before .before .before .before .before .before .before .before .before .before .before .before .before .before .before .before .settled .result))) s _ _ _ (h .heap) (h .lattice) _ _ _
-    (c .before .before .before .before .before .before .before .before .before .before .before .before .before .before .before .before .before .before .before .before .before .before .before .store .ensures s (markingAlso (a .lean) (a .key) (s .waiting)) (marking (a .lean) (s .waiting)) (h .marked) (taken-same (a .lean) (a .key) (s .waiting))
-    (λ t. (h .places t, taken-spare (a .lean) (a .key) (s .waiting) t)) (finite-by (a .course) _ _ _ (c .before .before .before .before .before .before .before .before .before .before .before .before .before .before .before .before .before .before .before .before .before .before .before .before .before .before .before .before .before .before .before .before .before .before .before .before .pre .1 .1) (at s h)) (h .count) (h .new))
-    (λ t e. told-stored _ (latticeOf (a .course)) (a .key) s told _ _ t e) _ (c .before .before .before .before .before .before .before .before .before .before .before .before .before .before .before .before .before .rows .given .1) _ _ _ _ _ (c .before .before .before .before .before .before .before .before .before .before .before .spread .ensures) _ (c .before .held .given .1))
+    → at-settled .settled .result ≡ settled (latticeOf (a .course)) (s .stored) (a .key) =
+    λ s h. at-settled .settled .ensures (s .stored) (markingAlso (a .lean) (a .key) (s .waiting)) (h .marked) in
+    λ s h told. settle-by (a .lean) (latticeOf (a .course)) (roomsOf (a .keys .now) (a .cells .now)) (a .key) s (at-settled .settled .result) (at s h) _ _ _ _ _
+    (both-done (a .lean) (seedIn (a .threshold) (rowsOf (a .fused-keys .now) (a .fused-distances .now) (a .fused-weights .now) (a .fused-count))) (latticeOf (a .course)) (a .key) (store (length (a .keys .now)) (marchedRow (a .key) (at-settled .settled .result)) s)
+    (spread (latticeOf (a .course)) (length (a .cells .now)) (marchedRow (a .key) (at-settled .settled .result))) s _ _ _ (h .heap) (h .lattice) _ _ _
+    (at-store .store .ensures s (markingAlso (a .lean) (a .key) (s .waiting)) (marking (a .lean) (s .waiting)) (h .marked) (taken-same (a .lean) (a .key) (s .waiting))
+    (λ t. (h .places t, taken-spare (a .lean) (a .key) (s .waiting) t)) (finite-by (a .course) _ _ _ (at-start .pre .1 .1) (at s h)) (h .count) (h .new))
+    (λ t e. told-stored _ (latticeOf (a .course)) (a .key) s told _ _ t e) _ (at-rows .rows .given .1) _ _ _ _ _ (at-spread .spread .ensures) _ (at-held .held .given .1))
 
 pub settle-spec : {M : Type 1} → statement M
 settle-spec =

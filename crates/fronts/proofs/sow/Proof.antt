@@ -17,7 +17,8 @@ use Rattle.fronts.proofs.sow.Tie as tie
 
 store-requires : tie.Need-store-requires
 store-requires c κs =
-    (c .before .before .before .before .before .before .before .before .before .pre .0 .1 .0, c .before .before .before .before .before .before .before .before .before .pre .1 .0)
+    let at-start = c .before .before .before .before .before .before .before .before .before in
+    (at-start .pre .0 .1 .0, at-start .pre .1 .0)
 
 enum-known-why : tie.Need-enum-known-why
 enum-known-why c = search needs
@@ -30,9 +31,11 @@ size-requires c κs = search needs
 
 wait-around-requires : tie.Need-wait-around-requires
 wait-around-requires c κs =
-    let k = c .before .before .before .before .before .before .before .before .before .before .before .before .store .kept in
-    let p = c .before .before .before .before .before .before .before .before .before .before .before .before .before .before .before .before .before .before .before .before .before .before .pre in
-    ((p .0 .0, (k .1 .1 .0 ∙ p .0 .1 .0 ∙ sym (k .1 .0), p .0 .1 .1)), (p .1 .0, rw (c .size .ensures) (seed-number (c .before .before .before .before .before .before .before .before .before .before .before .before .before .before .before .before .before .before .before .before .before .before .args .distance) (p .1 .1))))
+    let at-store = c .before .before .before .before .before .before .before .before .before .before .before .before in
+    let at-start = at-store .before .before .before .before .before .before .before .before .before .before in
+    let k = at-store .store .kept in
+    let p = at-start .pre in
+    ((p .0 .0, (k .1 .1 .0 ∙ p .0 .1 .0 ∙ sym (k .1 .0), p .0 .1 .1)), (p .1 .0, rw (c .size .ensures) (seed-number (at-start .args .distance) (p .1 .1))))
 
 enum-known-why-2 : tie.Need-enum-known-why-2
 enum-known-why-2 c = search needs
@@ -49,12 +52,15 @@ same-length-2 c = search needs
 returns : tie.Need-returns
 unfolding sow
 returns c =
-    let a = c .before .before .before .before .before .before .before .before .before .before .before .before .before .before .before .before .before .args in
+    let at-why = c .before in
+    let at-store = at-why .before .before .before .before .before .before in
+    let at-start = at-store .before .before .before .before .before .before .before .before .before .before in
+    let a = at-start .args in
     λ s h o told.
     no-row (a .lean) (seedIn (a .threshold) (rowsOf (a .fused-keys .now) (a .fused-distances .now) (a .fused-weights .now) (a .fused-count))) (latticeOf (a .course)) (a .key) (store (length (a .keys .now)) (marchedRow (a .key) (a .distance)) s)
     (waitAll (length (a .cells .now)) (sizeOf (a .distance)) (neighbours (a .key))) s _ _ _ (h .front .heap) (h .front .lattice) _ _ _
-    (c .before .before .before .before .before .before .before .store .ensures s (marking (a .lean) (s .waiting)) (marking (a .lean) (s .waiting)) (h .front .marked) (λ j _. refl)
-    (λ t. (h .front .places t, sow-spare (a .lean) (a .key) (s .waiting) t)) (c .before .before .before .before .before .before .before .before .before .before .before .before .before .before .before .before .before .pre .1 .1) (h .count) o) _ (c .before .why .given .1) _ _
+    (at-store .store .ensures s (marking (a .lean) (s .waiting)) (marking (a .lean) (s .waiting)) (h .front .marked) (λ j _. refl)
+    (λ t. (h .front .places t, sow-spare (a .lean) (a .key) (s .waiting) t)) (at-start .pre .1 .1) (h .count) o) _ (at-why .why .given .1) _ _
 
 same-length-3 : tie.Need-same-length-3
 same-length-3 c = search needs
@@ -71,14 +77,20 @@ same-length-6 c = search needs
 returns-2 : tie.Need-returns-2
 unfolding sow
 returns-2 c =
-    let a = c .before .before .before .before .before .before .before .before .before .before .before .before .before .before .before .before .before .before .before .before .before .before .before .before .before .before .before .before .before .before .before .before .before .before .args in
+    let at-why2 = c .before in
+    let at-wait-around = at-why2 .before .before .before .before .before .before .before .before .before .before in
+    let at-size = at-wait-around .before in
+    let at-rows = at-size .before .before .before .before .before .before in
+    let at-store = at-rows .before .before .before .before .before .before in
+    let at-start = at-store .before .before .before .before .before .before .before .before .before .before in
+    let a = at-start .args in
     λ s h o told.
     no-cell (a .lean) (seedIn (a .threshold) (rowsOf (a .fused-keys .now) (a .fused-distances .now) (a .fused-weights .now) (a .fused-count))) (latticeOf (a .course)) (a .key) (store (length (a .keys .now)) (marchedRow (a .key) (a .distance)) s)
     (waitAll (length (a .cells .now)) (sizeOf (a .distance)) (neighbours (a .key))) s _ _ _ (h .front .heap) (h .front .lattice) _ _ _
-    (c .before .before .before .before .before .before .before .before .before .before .before .before .before .before .before .before .before .before .before .before .before .before .before .before .store .ensures s (marking (a .lean) (s .waiting)) (marking (a .lean) (s .waiting)) (h .front .marked) (λ j _. refl)
-    (λ t. (h .front .places t, sow-spare (a .lean) (a .key) (s .waiting) t)) (c .before .before .before .before .before .before .before .before .before .before .before .before .before .before .before .before .before .before .before .before .before .before .before .before .before .before .before .before .before .before .before .before .before .before .pre .1 .1) (h .count) o)
-    (λ t e. told-stored _ (latticeOf (a .course)) (a .key) s told _ _ t e) _ (c .before .before .before .before .before .before .before .before .before .before .before .before .before .before .before .before .before .before .rows .given .1) _ _ _ _ _
-    (with-size (a .lean) _ (latticeOf (a .course)) (a .key) _ _ _ _ _ _ _ _ _ _ _ _ _ _ (c .before .before .before .before .before .before .before .before .before .before .before .before .size .ensures) (c .before .before .before .before .before .before .before .before .before .before .before .wait-around .ensures)) _ (c .before .why2 .given .1)
+    (at-store .store .ensures s (marking (a .lean) (s .waiting)) (marking (a .lean) (s .waiting)) (h .front .marked) (λ j _. refl)
+    (λ t. (h .front .places t, sow-spare (a .lean) (a .key) (s .waiting) t)) (at-start .pre .1 .1) (h .count) o)
+    (λ t e. told-stored _ (latticeOf (a .course)) (a .key) s told _ _ t e) _ (at-rows .rows .given .1) _ _ _ _ _
+    (with-size (a .lean) _ (latticeOf (a .course)) (a .key) _ _ _ _ _ _ _ _ _ _ _ _ _ _ (at-size .size .ensures) (at-wait-around .wait-around .ensures)) _ (at-why2 .why2 .given .1)
 
 same-length-7 : tie.Need-same-length-7
 same-length-7 c = search needs
@@ -95,14 +107,20 @@ same-length-10 c = search needs
 returns-3 : tie.Need-returns-3
 unfolding sow
 returns-3 c =
-    let a = c .before .before .before .before .before .before .before .before .before .before .before .before .before .before .before .before .before .before .before .before .before .before .before .before .before .before .before .before .before .before .before .before .before .before .args in
+    let at-held = c .before in
+    let at-wait-around = at-held .before .before .before .before .before .before .before .before .before .before in
+    let at-size = at-wait-around .before in
+    let at-rows = at-size .before .before .before .before .before .before in
+    let at-store = at-rows .before .before .before .before .before .before in
+    let at-start = at-store .before .before .before .before .before .before .before .before .before .before in
+    let a = at-start .args in
     λ s h o told.
     both-done (a .lean) (seedIn (a .threshold) (rowsOf (a .fused-keys .now) (a .fused-distances .now) (a .fused-weights .now) (a .fused-count))) (latticeOf (a .course)) (a .key) (store (length (a .keys .now)) (marchedRow (a .key) (a .distance)) s)
     (waitAll (length (a .cells .now)) (sizeOf (a .distance)) (neighbours (a .key))) s _ _ _ (h .front .heap) (h .front .lattice) _ _ _
-    (c .before .before .before .before .before .before .before .before .before .before .before .before .before .before .before .before .before .before .before .before .before .before .before .before .store .ensures s (marking (a .lean) (s .waiting)) (marking (a .lean) (s .waiting)) (h .front .marked) (λ j _. refl)
-    (λ t. (h .front .places t, sow-spare (a .lean) (a .key) (s .waiting) t)) (c .before .before .before .before .before .before .before .before .before .before .before .before .before .before .before .before .before .before .before .before .before .before .before .before .before .before .before .before .before .before .before .before .before .before .pre .1 .1) (h .count) o)
-    (λ t e. told-stored _ (latticeOf (a .course)) (a .key) s told _ _ t e) _ (c .before .before .before .before .before .before .before .before .before .before .before .before .before .before .before .before .before .before .rows .given .1) _ _ _ _ _
-    (with-size (a .lean) _ (latticeOf (a .course)) (a .key) _ _ _ _ _ _ _ _ _ _ _ _ _ _ (c .before .before .before .before .before .before .before .before .before .before .before .before .size .ensures) (c .before .before .before .before .before .before .before .before .before .before .before .wait-around .ensures)) _ (c .before .held .given .1)
+    (at-store .store .ensures s (marking (a .lean) (s .waiting)) (marking (a .lean) (s .waiting)) (h .front .marked) (λ j _. refl)
+    (λ t. (h .front .places t, sow-spare (a .lean) (a .key) (s .waiting) t)) (at-start .pre .1 .1) (h .count) o)
+    (λ t e. told-stored _ (latticeOf (a .course)) (a .key) s told _ _ t e) _ (at-rows .rows .given .1) _ _ _ _ _
+    (with-size (a .lean) _ (latticeOf (a .course)) (a .key) _ _ _ _ _ _ _ _ _ _ _ _ _ _ (at-size .size .ensures) (at-wait-around .wait-around .ensures)) _ (at-held .held .given .1)
 
 pub sow-spec : {M : Type 1} → statement M
 sow-spec =

@@ -34,8 +34,9 @@ abbrev μ-loop : tie.MeasureT-loop
 
 loop-holds : tie.Need-loop-holds Inv-loop μ-loop
 loop-holds c =
-    let a = c .before .before .before .before .before .before .before .args in
-    let p = c .before .before .before .before .before .before .before .pre in (
+    let at-start = c .before .before .before .before .before .before .before in
+    let a = at-start .args in
+    let p = at-start .pre in (
       search needs,
       refl,
       refl,
@@ -48,33 +49,48 @@ loop-holds c =
 
 mul-sow-if : tie.Need-mul-sow-if Inv-loop μ-loop
 mul-sow-if c =
-    let p = c .before .before .before .before .before .before .before .before .before .before .before .before .before .pre .0 .lent in omega (arith, c .before .before .before .before .loop-test .taken, p .fits)
+    let at-loop-test = c .before .before .before .before in
+    let at-start = at-loop-test .before .before .before .before .before .before .before .before .before in
+    let p = at-start .pre .0 .lent in omega (arith, at-loop-test .loop-test .taken, p .fits)
 
 shared-slice-read-sow-if : tie.Need-shared-slice-read-sow-if Inv-loop μ-loop
 shared-slice-read-sow-if c =
-    let p = c .before .before .before .before .before .before .before .before .before .before .before .before .before .before .pre .0 .lent in omega (arith, c .before .before .before .before .before .loop-test .taken, p .fits)
+    let at-loop-test = c .before .before .before .before .before in
+    let at-start = at-loop-test .before .before .before .before .before .before .before .before .before in
+    let p = at-start .pre .0 .lent in omega (arith, at-loop-test .loop-test .taken, p .fits)
 
 mul-sow-if-2 : tie.Need-mul-sow-if-2 Inv-loop μ-loop
 mul-sow-if-2 c =
-    let p = c .before .before .before .before .before .before .before .before .before .before .before .before .before .before .pre .0 .lent in omega (arith, c .before .before .before .before .before .loop-test .taken, p .fits, p .distances)
+    let at-loop-test = c .before .before .before .before .before in
+    let at-start = at-loop-test .before .before .before .before .before .before .before .before .before in
+    let p = at-start .pre .0 .lent in omega (arith, at-loop-test .loop-test .taken, p .fits, p .distances)
 
 shared-slice-read-sow-if-2 : tie.Need-shared-slice-read-sow-if-2 Inv-loop μ-loop
 shared-slice-read-sow-if-2 c =
-    let p = c .before .before .before .before .before .before .before .before .before .before .before .before .before .before .before .pre .0 .lent in omega (arith, c .before .before .before .before .before .before .loop-test .taken, p .fits, p .distances)
+    let at-loop-test = c .before .before .before .before .before .before in
+    let at-start = at-loop-test .before .before .before .before .before .before .before .before .before in
+    let p = at-start .pre .0 .lent in omega (arith, at-loop-test .loop-test .taken, p .fits, p .distances)
 
 mul-sow-if-3 : tie.Need-mul-sow-if-3 Inv-loop μ-loop
 mul-sow-if-3 c =
-    let p = c .before .before .before .before .before .before .before .before .before .before .before .before .before .before .before .pre .0 .lent in omega (arith, c .before .before .before .before .before .before .loop-test .taken, p .fits, p .weights)
+    let at-loop-test = c .before .before .before .before .before .before in
+    let at-start = at-loop-test .before .before .before .before .before .before .before .before .before in
+    let p = at-start .pre .0 .lent in omega (arith, at-loop-test .loop-test .taken, p .fits, p .weights)
 
 shared-slice-read-sow-if-3 : tie.Need-shared-slice-read-sow-if-3 Inv-loop μ-loop
 shared-slice-read-sow-if-3 c =
-    let p = c .before .before .before .before .before .before .before .before .before .before .before .before .before .before .before .before .pre .0 .lent in omega (arith, c .before .before .before .before .before .before .before .loop-test .taken, p .fits, p .weights)
+    let at-loop-test = c .before .before .before .before .before .before .before in
+    let at-start = at-loop-test .before .before .before .before .before .before .before .before .before in
+    let p = at-start .pre .0 .lent in omega (arith, at-loop-test .loop-test .taken, p .fits, p .weights)
 
 sow-if-requires : tie.Need-sow-if-requires Inv-loop μ-loop
 sow-if-requires c κs =
-    let p = c .before .before .before .before .before .before .before .before .before .before .before .before .before .before .before .before .pre in
-    let i = c .before .before .before .before .before .before .before .before .loop .inv in
-    let l = c .before .before .before .before .before .before .before .loop-test .taken in
+    let at-loop-test = c .before .before .before .before .before .before .before in
+    let at-loop = at-loop-test .before in
+    let at-start = at-loop .before .before .before .before .before .before .before .before in
+    let p = at-start .pre in
+    let i = at-loop .loop .inv in
+    let l = at-loop-test .loop-test .taken in
     ((p .0 .lent, (i .2 ∙ blank-long _ _ _ (p .1 .distances) ∙ sym (i .1), i .3 ∙ blank-long _ _ _ (p .1 .estimates) ∙ sym (i .4))), (p .0 .lattice _ l, p .0 .finite _ l))
 
 enum-known-why : tie.Need-enum-known-why Inv-loop μ-loop
@@ -94,43 +110,58 @@ same-length-4 c = search needs
 
 returns : tie.Need-returns Inv-loop μ-loop
 returns c =
-    let a = c .before .before .before .before .before .before .before .before .before .before .before .before .before .before .before .before .before .before .before .before .before .before .before .before .before .before .before .before .args in
-    let p = c .before .before .before .before .before .before .before .before .before .before .before .before .before .before .before .before .before .before .before .before .before .before .before .before .before .before .before .before .pre .0 .lent in
-    let l = c .before .before .before .before .before .before .before .before .before .before .before .before .before .before .before .before .before .before .before .before .loop in
+    let at-why = c .before in
+    let at-sow-if = at-why .before .before .before .before .before .before .before .before .before .before in
+    let at-loop-test = at-sow-if .before .before .before .before .before .before .before .before in
+    let at-loop = at-loop-test .before in
+    let at-start = at-loop .before .before .before .before .before .before .before .before in
+    let a = at-start .args in
+    let p = at-start .pre .0 .lent in
+    let l = at-loop .loop in
     let here =
-    row-at (a .fused-keys .now) (a .fused-distances .now) (a .fused-weights .now) (a .fused-count) (l .i) (p .distances) (p .weights) (c .before .before .before .before .before .before .before .before .before .before .before .before .before .before .before .before .before .before .before .loop-test .taken) (p .fits) in
+    row-at (a .fused-keys .now) (a .fused-distances .now) (a .fused-weights .now) (a .fused-count) (l .i) (p .distances) (p .weights) (at-loop-test .loop-test .taken) (p .fits) in
     sow-stop (a .lean) (seedIn (a .threshold) (rowsOf (a .fused-keys .now) (a .fused-distances .now) (a .fused-weights .now) (a .fused-count))) (latticeOf (a .course)) back (a .threshold) (roomsOf (a .keys .now) (a .cells .now))
     (rowsOf (a .fused-keys .now) (a .fused-distances .now) (a .fused-weights .now) (a .fused-count)) (l .i) (l .rows) (l .keys) (l .distances) (l .held) (l .estimates) (l .cells) (l .inv .5) _ here (l .inv .1) (l .inv .4) _ _ _ _ _
-    (c .before .before .before .before .before .before .before .before .before .before .before .sow-if .ensures) _ (c .before .why .given .1)
+    (at-sow-if .sow-if .ensures) _ (at-why .why .given .1)
 
 enum-known-n : tie.Need-enum-known-n Inv-loop μ-loop
 enum-known-n c = search needs
 
 add-i : tie.Need-add-i Inv-loop μ-loop
 add-i c =
-    omega (arith, c .before .before .before .before .before .before .before .before .before .before .before .before .before .before .before .before .before .before .before .loop-test .taken, c .before .before .before .before .before .before .before .before .before .before .before .before .before .before .before .before .before .before .before .before .before .before .before .before .before .before .before .before .fits .fused-count)
+    let at-loop-test = c .before .before .before .before .before .before .before .before .before .before .before .before .before .before .before
+    .before .before .before .before in
+    let at-start = at-loop-test .before .before .before .before .before .before .before .before .before in
+    omega (arith, at-loop-test .loop-test .taken, at-start .fits .fused-count)
 
 loop-less : tie.Need-loop-less Inv-loop μ-loop
 loop-less c =
-    omega (arith, c .before .before .before .before .before .before .before .before .before .before .before .before .before .before .before .before .before .before .before .loop-test .taken)
+    let at-loop-test = c .before .before .before .before .before .before .before .before .before .before .before .before .before .before .before
+    .before .before .before .before in
+    omega (arith, at-loop-test .loop-test .taken)
 
 loop-again : tie.Need-loop-again Inv-loop μ-loop
 loop-again c =
-    let a = c .before .before .before .before .before .before .before .before .before .before .before .before .before .before .before .before .before .before .before .before .before .before .before .before .before .before .before .before .args in
-    let p = c .before .before .before .before .before .before .before .before .before .before .before .before .before .before .before .before .before .before .before .before .before .before .before .before .before .before .before .before .pre .0 .lent in
-    let l = c .before .before .before .before .before .before .before .before .before .before .before .before .before .before .before .before .before .before .before .before .loop in
+    let at-n = c .before in
+    let at-sow-if = at-n .before .before .before .before .before .before .before .before .before .before in
+    let at-loop-test = at-sow-if .before .before .before .before .before .before .before .before in
+    let at-loop = at-loop-test .before in
+    let at-start = at-loop .before .before .before .before .before .before .before .before in
+    let a = at-start .args in
+    let p = at-start .pre .0 .lent in
+    let l = at-loop .loop in
     let here =
-    row-at (a .fused-keys .now) (a .fused-distances .now) (a .fused-weights .now) (a .fused-count) (l .i) (p .distances) (p .weights) (c .before .before .before .before .before .before .before .before .before .before .before .before .before .before .before .before .before .before .before .loop-test .taken) (p .fits) in
-    let k = c .before .before .before .before .before .before .before .before .before .before .before .sow-if .kept in
+    row-at (a .fused-keys .now) (a .fused-distances .now) (a .fused-weights .now) (a .fused-count) (l .i) (p .distances) (p .weights) (at-loop-test .loop-test .taken) (p .fits) in
+    let k = at-sow-if .sow-if .kept in
     let i = l .inv in (
-      omega (arith, c .before .before .before .before .before .before .before .before .before .before .before .before .before .before .before .before .before .before .before .loop-test .taken),
+      omega (arith, at-loop-test .loop-test .taken),
       k .1 .1 .1 .1 .1 .1 .1 .0 ∙ i .1,
       k .1 .1 .1 .1 .1 .1 .1 .1 .0 ∙ i .2,
       k .1 .1 .1 .1 .1 .1 .1 .1 .1 .1 .0 ∙ i .3,
       k .1 .1 .1 .1 .1 .1 .1 .1 .1 .1 .1 .0 ∙ i .4,
       sow-more (a .lean) (seedIn (a .threshold) (rowsOf (a .fused-keys .now) (a .fused-distances .now) (a .fused-weights .now) (a .fused-count))) (latticeOf (a .course)) back (a .threshold) (roomsOf (a .keys .now) (a .cells .now))
           (rowsOf (a .fused-keys .now) (a .fused-distances .now) (a .fused-weights .now) (a .fused-count)) (l .i) (l .rows) (l .keys) (l .distances) (l .held) (l .estimates) (l .cells) (l .inv .5) _ here (i .1) (i .4) _ _ _ _ _
-          (c .before .before .before .before .before .before .before .before .before .before .before .sow-if .ensures) _ _ (c .before .n .given .1),
+          (at-sow-if .sow-if .ensures) _ _ (at-n .n .given .1),
     )
 
 same-length-5 : tie.Need-same-length-5 Inv-loop μ-loop
@@ -147,8 +178,10 @@ same-length-8 c = search needs
 
 returns-2 : tie.Need-returns-2 Inv-loop μ-loop
 returns-2 c =
-    let a = c .before .before .before .before .before .before .before .before .before .args in
-    let l = c .before .loop in
+    let at-loop = c .before in
+    let at-start = at-loop .before .before .before .before .before .before .before .before in
+    let a = at-start .args in
+    let l = at-loop .loop in
     sow-finish (a .lean) (seedIn (a .threshold) (rowsOf (a .fused-keys .now) (a .fused-distances .now) (a .fused-weights .now) (a .fused-count))) (latticeOf (a .course)) back (a .threshold) (roomsOf (a .keys .now) (a .cells .now))
     (rowsOf (a .fused-keys .now) (a .fused-distances .now) (a .fused-weights .now) (a .fused-count)) (l .i) (l .rows) (l .keys) (l .distances) (l .held) (l .estimates) (l .cells) (l .inv .5) (rows-past (a .fused-keys .now) (a .fused-distances .now) (a .fused-weights .now) (a .fused-count) (l .i) (c .loop-test .left))
 

@@ -11,7 +11,8 @@ is-seed-requires c κs = search needs
 
 sow-requires : tie.Need-sow-requires
 sow-requires c κs =
-    (c .before .before .before .before .before .before .before .before .before .before .before .before .before .pre .0, c .before .before .before .before .before .before .before .before .before .before .before .before .before .pre .1)
+    let at-start = c .before .before .before .before .before .before .before .before .before .before .before .before .before in
+    (at-start .pre .0, at-start .pre .1)
 
 same-length : tie.Need-same-length
 same-length c = search needs
@@ -27,9 +28,12 @@ same-length-4 c = search needs
 
 returns : tie.Need-returns
 returns c =
+    let at-sow = c .before .before .before .before .before .before .before .before in
+    let at-if1 = at-sow .before .before .before .before .before in
+    let at-is-seed = at-if1 .before in
     λ s h new told.
-    let seeds = sym (c .before .before .before .before .before .before .before .before .before .before .before .before .before .before .is-seed .ensures) ∙ c .before .before .before .before .before .before .before .before .before .before .before .before .before .if1 .taken in
-    sow-if-seed _ _ _ _ _ s seeds _ _ _ _ _ (c .before .before .before .before .before .before .before .before .sow .ensures s h new (told seeds))
+    let seeds = sym (at-is-seed .is-seed .ensures) ∙ at-if1 .if1 .taken in
+    sow-if-seed _ _ _ _ _ s seeds _ _ _ _ _ (at-sow .sow .ensures s h new (told seeds))
 
 returns-2 : tie.Need-returns-2
 returns-2 c = λ s h new told. sow-if-not _ _ _ _ _ s (sym (c .before .is-seed .ensures) ∙ c .if1 .left) _ _ _ _ _ _ h

@@ -16,7 +16,10 @@ spreads-requires c κs = search needs
 
 wait-around-requires : tie.Need-wait-around-requires
 wait-around-requires c κs =
-    (c .before .before .before .before .before .before .before .before .before .before .before .before .before .before .pre .0, (c .before .before .before .before .before .before .before .before .before .before .before .before .before .before .pre .1, number-le _ _ (sym (c .before .before .before .before .before .spreads .ensures) ∙ c .before .before .before .before .if1 .taken)))
+    let at-if1 = c .before .before .before .before in
+    let at-spreads = at-if1 .before in
+    let at-start = at-spreads .before .before .before .before .before .before .before .before .before in
+    (at-start .pre .0, (at-start .pre .1, number-le _ _ (sym (at-spreads .spreads .ensures) ∙ at-if1 .if1 .taken)))
 
 same-length : tie.Need-same-length
 same-length c = search needs
@@ -32,14 +35,22 @@ same-length-4 c = search needs
 
 returns : tie.Need-returns
 returns c =
-    let a = c .before .before .before .before .before .before .before .before .before .before .before .before .before .before .before .before .before .before .before .before .before .before .before .args in
-    spread-waits (a .lean) _ (latticeOf (a .course)) (marchedRow (a .key) (a .distance)) _ _ _ _ _ _ (c .before .before .before .before .before .before .before .before .before .before .before .before .before .before .before .onward .ensures) _ (c .before .before .before .before .before .before .before .before .before .before .before .before .before .before .spreads .ensures)
-    (c .before .before .before .before .before .before .before .before .before .before .before .before .before .if1 .taken) _ _ _ _ _ (c .before .before .before .before .before .before .before .before .wait-around .ensures)
+    let at-wait-around = c .before .before .before .before .before .before .before .before in
+    let at-if1 = at-wait-around .before .before .before .before .before in
+    let at-spreads = at-if1 .before in
+    let at-onward = at-spreads .before in
+    let at-start = at-onward .before .before .before .before .before .before .before .before in
+    let a = at-start .args in
+    spread-waits (a .lean) _ (latticeOf (a .course)) (marchedRow (a .key) (a .distance)) _ _ _ _ _ _ (at-onward .onward .ensures) _ (at-spreads .spreads .ensures)
+    (at-if1 .if1 .taken) _ _ _ _ _ (at-wait-around .wait-around .ensures)
 
 returns-2 : tie.Need-returns-2
 returns-2 c =
-    let a = c .before .before .before .before .before .before .before .before .before .before .args in
-    spread-stays (a .lean) _ (latticeOf (a .course)) (marchedRow (a .key) (a .distance)) _ _ _ _ _ _ (c .before .before .onward .ensures) _ (c .before .spreads .ensures)
+    let at-spreads = c .before in
+    let at-onward = at-spreads .before in
+    let at-start = at-onward .before .before .before .before .before .before .before .before in
+    let a = at-start .args in
+    spread-stays (a .lean) _ (latticeOf (a .course)) (marchedRow (a .key) (a .distance)) _ _ _ _ _ _ (at-onward .onward .ensures) _ (at-spreads .spreads .ensures)
     (c .if1 .left)
 
 pub spread-spec : {M : Type 1} → statement M

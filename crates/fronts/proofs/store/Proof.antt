@@ -11,8 +11,9 @@ use Rattle.fronts.proofs.store.Tie as tie
 
 returns : tie.Need-returns
 returns c =
-    let a = c .before .before .before .args in
-    let p = c .before .before .before .pre in
+    let at-start = c .before .before .before in
+    let a = at-start .args in
+    let p = at-start .pre in
     λ s ws vs h same spare f n o. store-full (a .lean) (a .key) (p .1) (a .distance) f s ws vs (a .count) (a .keys .now) (a .distances .now) h same spare n o (c .if1 .taken)
 
 find-requires : tie.Need-find-requires
@@ -23,11 +24,17 @@ enum-known-place c = search needs
 
 mul-distances : tie.Need-mul-distances
 mul-distances c =
-    omega (arith, place-in _ _ _ (sym (c .before .before .before .find .ensures) ∙ c .before .place .given .1), c .before .before .before .before .before .before .before .before .pre .0)
+    let at-place = c .before in
+    let at-find = at-place .before .before in
+    let at-start = at-find .before .before .before .before .before in
+    omega (arith, place-in _ _ _ (sym (at-find .find .ensures) ∙ at-place .place .given .1), at-start .pre .0)
 
 slice-write-distances : tie.Need-slice-write-distances
 slice-write-distances c =
-    omega (arith, place-in _ _ _ (sym (c .before .before .before .find .ensures) ∙ c .before .place .given .1), c .before .before .before .before .before .before .before .before .pre .0)
+    let at-place = c .before in
+    let at-find = at-place .before .before in
+    let at-start = at-find .before .before .before .before .before in
+    omega (arith, place-in _ _ _ (sym (at-find .find .ensures) ∙ at-place .place .given .1), at-start .pre .0)
 
 add-t16 : tie.Need-add-t16
 add-t16 c = search needs
@@ -36,7 +43,9 @@ enum-known-place-2 : tie.Need-enum-known-place-2
 enum-known-place-2 c = search needs
 
 enter-requires : tie.Need-enter-requires
-enter-requires c κs = c .before .before .before .before .before .before .before .before .before .before .pre .0
+enter-requires c κs =
+    let at-start = c .before .before .before .before .before .before .before .before .before .before in
+    at-start .pre .0
 
 same-length : tie.Need-same-length
 same-length c = search needs
@@ -46,11 +55,16 @@ same-length-2 c = search needs
 
 returns-2 : tie.Need-returns-2
 returns-2 c =
-    let a = c .before .before .before .before .before .before .before .before .before .before .before .before .before .before .before .before .args in
-    let p = c .before .before .before .before .before .before .before .before .before .before .before .before .before .before .before .before .pre in
+    let at-enter = c .before .before .before .before .before in
+    let at-place2 = at-enter .before .before .before .before in
+    let at-find = at-place2 .before .before in
+    let at-if1 = at-find .before .before in
+    let at-start = at-if1 .before .before .before in
+    let a = at-start .args in
+    let p = at-start .pre in
     λ s ws vs h same spare f n o.
-    store-none (a .lean) (a .key) (p .1) (a .distance) f s ws vs (a .count) (a .keys .now) (a .distances .now) h same spare n o (c .before .before .before .before .before .before .before .before .before .before .before .before .before .if1 .left)
-    (not-entered _ _ _ _ _ _ _ _ (c .before .before .before .before .before .enter .ensures) (not-true _ (c .if2 .taken)) (h .kept) (h .long) (sym (c .before .before .before .before .before .before .before .before .before .before .before .find .ensures) ∙ c .before .before .before .before .before .before .before .before .before .place2 .given .1)) _ _
+    store-none (a .lean) (a .key) (p .1) (a .distance) f s ws vs (a .count) (a .keys .now) (a .distances .now) h same spare n o (at-if1 .if1 .left)
+    (not-entered _ _ _ _ _ _ _ _ (at-enter .enter .ensures) (not-true _ (c .if2 .taken)) (h .kept) (h .long) (sym (at-find .find .ensures) ∙ at-place2 .place2 .given .1)) _ _
 
 add-t25 : tie.Need-add-t25
 add-t25 c = search needs
@@ -63,10 +77,14 @@ same-length-4 c = search needs
 
 returns-3 : tie.Need-returns-3
 returns-3 c =
-    let a = c .before .before .before .before .before .before .before .before .args in
-    let p = c .before .before .before .before .before .before .before .before .pre in
+    let at-place = c .before in
+    let at-find = at-place .before .before in
+    let at-if1 = at-find .before .before in
+    let at-start = at-if1 .before .before .before in
+    let a = at-start .args in
+    let p = at-start .pre in
     λ s ws vs h same spare f n o.
-    store-at (a .lean) (a .key) (p .1) (a .distance) f s ws vs (a .count) (a .keys .now) (a .distances .now) h same spare n o (c .before .before .before .before .before .if1 .left) _ (sym (c .before .before .before .find .ensures) ∙ c .before .place .given .1)
+    store-at (a .lean) (a .key) (p .1) (a .distance) f s ws vs (a .count) (a .keys .now) (a .distances .now) h same spare n o (at-if1 .if1 .left) _ (sym (at-find .find .ensures) ∙ at-place .place .given .1)
 
 same-length-5 : tie.Need-same-length-5
 same-length-5 c = search needs
@@ -76,11 +94,16 @@ same-length-6 c = search needs
 
 returns-4 : tie.Need-returns-4
 returns-4 c =
-    let a = c .before .before .before .before .before .before .before .before .before .before .before .before .before .before .before .before .args in
-    let p = c .before .before .before .before .before .before .before .before .before .before .before .before .before .before .before .before .pre in
+    let at-enter = c .before .before .before .before .before in
+    let at-place2 = at-enter .before .before .before .before in
+    let at-find = at-place2 .before .before in
+    let at-if1 = at-find .before .before in
+    let at-start = at-if1 .before .before .before in
+    let a = at-start .args in
+    let p = at-start .pre in
     λ s ws vs h same spare f n o.
-    store-put (a .lean) (a .key) (p .1) (a .distance) f s ws vs (a .count) (a .keys .now) (a .distances .now) h same spare n o (c .before .before .before .before .before .before .before .before .before .before .before .before .before .if1 .left) _ _
-    (entered-by _ _ _ _ _ _ _ _ (c .before .before .before .before .before .enter .ensures) (not-false _ (c .if2 .left)) (h .kept) (h .long) (sym (c .before .before .before .before .before .before .before .before .before .before .before .find .ensures) ∙ c .before .before .before .before .before .before .before .before .before .place2 .given .1))
+    store-put (a .lean) (a .key) (p .1) (a .distance) f s ws vs (a .count) (a .keys .now) (a .distances .now) h same spare n o (at-if1 .if1 .left) _ _
+    (entered-by _ _ _ _ _ _ _ _ (at-enter .enter .ensures) (not-false _ (c .if2 .left)) (h .kept) (h .long) (sym (at-find .find .ensures) ∙ at-place2 .place2 .given .1))
 
 pub store-spec : {M : Type 1} → statement M
 store-spec =

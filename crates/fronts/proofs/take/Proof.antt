@@ -13,19 +13,24 @@ use Rattle.fronts.proofs.take.Tie as tie
 
 slice-read-key : tie.Need-slice-read-key
 slice-read-key c =
-    omega (arith, c .before .before .before .before .before .before .before .before .pre .1 .0, c .before .before .before .before .before .before .before .before .pre .1 .1 .0)
+    let at-start = c .before .before .before .before .before .before .before .before in
+    omega (arith, at-start .pre .1 .0, at-start .pre .1 .1 .0)
 
 pop-requires : tie.Need-pop-requires
 pop-requires c κs =
-    (c .before .before .before .before .before .before .before .before .before .before .pre .1 .0, omega (arith, c .before .before .before .before .before .before .before .before .before .before .pre .1 .1 .0, c .before .before .before .before .before .before .before .before .before .before .pre .0 .1 .1), c .before .before .before .before .before .before .before .before .before .before .pre .1 .1 .0)
+    let at-start = c .before .before .before .before .before .before .before .before .before .before in
+    (at-start .pre .1 .0, omega (arith, at-start .pre .1 .1 .0, at-start .pre .0 .1 .1), at-start .pre .1 .1 .0)
 
 sub-left : tie.Need-sub-left
 sub-left c =
-    omega (arith, c .before .before .before .before .before .before .before .before .before .before .before .before .before .before .before .pre .1 .0)
+    let at-start = c .before .before .before .before .before .before .before .before .before .before .before .before .before .before .before in
+    omega (arith, at-start .pre .1 .0)
 
 known-requires : tie.Need-known-requires
 known-requires c κs =
-    (c .before .before .before .before .before .before .before .before .before .before .before .before .before .before .before .before .before .pre .0 .1 .0, real-key _ (c .before .before .before .before .before .before .before .before .before .before .before .before .before .before .before .before .before .pre .1 .1 .1 .1))
+    let at-start = c .before .before .before .before .before .before .before .before .before .before .before .before .before .before .before
+    .before .before in
+    (at-start .pre .0 .1 .0, real-key _ (at-start .pre .1 .1 .1 .1))
 
 is-finite-requires : tie.Need-is-finite-requires
 is-finite-requires c κs = search needs
@@ -44,15 +49,21 @@ same-length-4 c = search needs
 
 returns : tie.Need-returns
 returns c =
-    let a = c .before .before .before .before .before .before .before .before .before .before .before .before .before .before .before .before .before .before .before .before .args in
+    let at-is-finite = c .before in
+    let at-known = at-is-finite .before in
+    let at-pop = at-known .before .before .before .before .before .before .before in
+    let at-start = at-pop .before .before .before .before .before .before .before .before .before .before .before in
+    let a = at-start .args in
     λ s h told.
-    take-skips (a .lean) (seedIn (a .threshold) (rowsOf (a .fused-keys .now) (a .fused-distances .now) (a .fused-weights .now) (a .fused-count))) (latticeOf (a .course)) s _ _ _ _ _ _ h (c .before .before .before .before .before .before .before .before .before .before .before .before .before .before .before .before .before .before .before .before .pre .1 .0) _ _ (c .before .before .before .before .before .before .before .before .before .pop .ensures) (c .before .before .before .before .before .before .before .before .before .pop .kept .1 .0) (c .before .before .known .result) (c .before .before .known .ensures)
-    (sym (c .before .is-finite .ensures) ∙ c .if1 .taken)
+    take-skips (a .lean) (seedIn (a .threshold) (rowsOf (a .fused-keys .now) (a .fused-distances .now) (a .fused-weights .now) (a .fused-count))) (latticeOf (a .course)) s _ _ _ _ _ _ h (at-start .pre .1 .0) _ _ (at-pop .pop .ensures) (at-pop .pop .kept .1 .0) (at-known .known .result) (at-known .known .ensures)
+    (sym (at-is-finite .is-finite .ensures) ∙ c .if1 .taken)
 
 settle-requires : tie.Need-settle-requires
 settle-requires c κs =
-    let k = c .before .before .before .before .before .before .before .before .before .before .before .before .before .pop .kept in
-    let p = c .before .before .before .before .before .before .before .before .before .before .before .before .before .before .before .before .before .before .before .before .before .before .before .before .pre in
+    let at-pop = c .before .before .before .before .before .before .before .before .before .before .before .before .before in
+    let at-start = at-pop .before .before .before .before .before .before .before .before .before .before .before in
+    let k = at-pop .pop .kept in
+    let p = at-start .pre in
     ((p .0 .0, (p .0 .1 .0, k .0 ∙ p .0 .1 .1 ∙ sym (k .1 .0))), (p .1 .1 .1 .1, p .1 .1 .1 .0))
 
 same-length-5 : tie.Need-same-length-5
@@ -69,10 +80,16 @@ same-length-8 c = search needs
 
 returns-2 : tie.Need-returns-2
 returns-2 c =
-    let a = c .before .before .before .before .before .before .before .before .before .before .before .before .before .before .before .before .before .before .before .before .before .before .before .before .before .before .before .before .before .before .before .before .before .args in
+    let at-settle = c .before .before .before .before .before .before .before .before in
+    let at-if1 = at-settle .before .before .before .before .before in
+    let at-is-finite = at-if1 .before in
+    let at-known = at-is-finite .before in
+    let at-pop = at-known .before .before .before .before .before .before .before in
+    let at-start = at-pop .before .before .before .before .before .before .before .before .before .before .before in
+    let a = at-start .args in
     λ s h told.
-    take-settles (a .lean) _ (latticeOf (a .course)) s _ _ _ _ _ _ h (c .before .before .before .before .before .before .before .before .before .before .before .before .before .before .before .before .before .before .before .before .before .before .before .before .before .before .before .before .before .before .before .before .before .pre .1 .0) _ _ (c .before .before .before .before .before .before .before .before .before .before .before .before .before .before .before .before .before .before .before .before .before .before .pop .ensures) (c .before .before .before .before .before .before .before .before .before .before .before .before .before .before .before .before .before .before .before .before .before .before .pop .kept .1 .0) (c .before .before .before .before .before .before .before .before .before .before .before .before .before .before .before .known .result) (c .before .before .before .before .before .before .before .before .before .before .before .before .before .before .before .known .ensures)
-    (sym (c .before .before .before .before .before .before .before .before .before .before .before .before .before .before .is-finite .ensures) ∙ c .before .before .before .before .before .before .before .before .before .before .before .before .before .if1 .left) told _ _ _ _ _ (c .before .before .before .before .before .before .before .before .settle .ensures)
+    take-settles (a .lean) _ (latticeOf (a .course)) s _ _ _ _ _ _ h (at-start .pre .1 .0) _ _ (at-pop .pop .ensures) (at-pop .pop .kept .1 .0) (at-known .known .result) (at-known .known .ensures)
+    (sym (at-is-finite .is-finite .ensures) ∙ at-if1 .if1 .left) told _ _ _ _ _ (at-settle .settle .ensures)
 
 pub take-spec : {M : Type 1} → statement M
 take-spec =

@@ -36,8 +36,9 @@ abbrev μ-loop : tie.MeasureT-loop
 
 loop-holds : tie.Need-loop-holds Inv-loop μ-loop
 loop-holds c =
-    let a = c .before .before .before .before .before .before .before .args in
-    let p = c .before .before .before .before .before .before .before .pre in (
+    let at-start = c .before .before .before .before .before .before .before in
+    let a = at-start .args in
+    let p = at-start .pre in (
       refl,
       refl,
       refl,
@@ -49,9 +50,12 @@ loop-holds c =
 
 take-requires : tie.Need-take-requires Inv-loop μ-loop
 take-requires c κs =
-    let p = c .before .before .before .before .before .before .before .before .before .before .before .before .before .pre in
-    let at = c .before .before .before .before .before .loop .inv .4 (p .1 .0) (p .1 .1) in
-    let l = c .before .before .before .before .loop-test .taken in (
+    let at-loop-test = c .before .before .before .before in
+    let at-loop = at-loop-test .before in
+    let at-start = at-loop .before .before .before .before .before .before .before .before in
+    let p = at-start .pre in
+    let at = at-loop .loop .inv .4 (p .1 .0) (p .1 .1) in
+    let l = at-loop-test .loop-test .taken in (
       (p .0 .0 .lent, (at .held .front .marked .long, at .held .front .heap .long)),
       (l, (at .held .front .heap .fits, (p .0 .1, first-on-lattice _ _ _ _ _ _ _ _ (at .held) l))),
     )
@@ -74,35 +78,51 @@ same-length-4 c = search needs
 returns : tie.Need-returns Inv-loop μ-loop
 unfolding Emptied
 returns c =
-    let a = c .before .before .before .before .before .before .before .before .before .before .before .before .before .before .before .before .before .before .before .before .before .before .before .before .before .args in
-    let l = c .before .before .before .before .before .before .before .before .before .before .before .before .before .before .before .before .before .loop in
+    let at-why = c .before in
+    let at-take = at-why .before .before .before .before .before .before .before .before .before .before in
+    let at-loop-test = at-take .before .before .before .before .before in
+    let at-loop = at-loop-test .before in
+    let at-start = at-loop .before .before .before .before .before .before .before .before in
+    let a = at-start .args in
+    let l = at-loop .loop in
     λ s h.
     take-stop (a .lean) (seedIn (a .threshold) (rowsOf (a .fused-keys .now) (a .fused-distances .now) (a .fused-weights .now) (a .fused-count))) (latticeOf (a .course)) back (roomsOf (a .keys .now) (a .cells .now)) _ (l .takings) (l .rows)
-    (l .keys) (l .distances) (l .held) (l .estimates) (l .cells) (l .inv .4 s h) (c .before .before .before .before .before .before .before .before .before .before .before .before .before .before .before .before .loop-test .taken)
-    (l .inv .0) (l .inv .3) _ _ _ _ _ (c .before .before .before .before .before .before .before .before .before .before .before .take .ensures) _ (c .before .why .given .1)
+    (l .keys) (l .distances) (l .held) (l .estimates) (l .cells) (l .inv .4 s h) (at-loop-test .loop-test .taken)
+    (l .inv .0) (l .inv .3) _ _ _ _ _ (at-take .take .ensures) _ (at-why .why .given .1)
 
 enum-known-n : tie.Need-enum-known-n Inv-loop μ-loop
 enum-known-n c = search needs
 
 add-takings : tie.Need-add-takings Inv-loop μ-loop
 add-takings c =
-    let a = c .before .before .before .before .before .before .before .before .before .before .before .before .before .before .before .before .before .before .before .before .before .before .before .before .before .args in
-    let p = c .before .before .before .before .before .before .before .before .before .before .before .before .before .before .before .before .before .before .before .before .before .before .before .before .before .pre in
-    let l = c .before .before .before .before .before .before .before .before .before .before .before .before .before .before .before .before .before .loop in
-    omega (arith, c .before .before .before .before .before .before .before .before .before .before .before .before .before .before .before .before .before .before .before .before .before .before .before .before .before .good .1 .1 .1 .1 .1 .1 .1 .0 .1, take-few (a .lean) (seedIn (a .threshold) (rowsOf (a .fused-keys .now) (a .fused-distances .now) (a .fused-weights .now) (a .fused-count))) (latticeOf (a .course)) back (roomsOf (a .keys .now) (a .cells .now)) _ (l .takings) (l .rows) (l .keys) (l .distances) (l .held) (l .estimates) (l .cells) (l .inv .4 (p .1 .0) (p .1 .1)))
+    let at-loop = c .before .before .before .before .before .before .before .before .before .before .before .before .before .before .before
+    .before .before in
+    let at-start = at-loop .before .before .before .before .before .before .before .before in
+    let a = at-start .args in
+    let p = at-start .pre in
+    let l = at-loop .loop in
+    omega (arith, at-start .good .1 .1 .1 .1 .1 .1 .1 .0 .1, take-few (a .lean) (seedIn (a .threshold) (rowsOf (a .fused-keys .now) (a .fused-distances .now) (a .fused-weights .now) (a .fused-count))) (latticeOf (a .course)) back (roomsOf (a .keys .now) (a .cells .now)) _ (l .takings) (l .rows) (l .keys) (l .distances) (l .held) (l .estimates) (l .cells) (l .inv .4 (p .1 .0) (p .1 .1)))
 
 loop-less : tie.Need-loop-less Inv-loop μ-loop
 loop-less c =
-    let a = c .before .before .before .before .before .before .before .before .before .before .before .before .before .before .before .before .before .before .before .before .before .before .before .before .before .args in
-    let p = c .before .before .before .before .before .before .before .before .before .before .before .before .before .before .before .before .before .before .before .before .before .before .before .before .before .pre in
-    let l = c .before .before .before .before .before .before .before .before .before .before .before .before .before .before .before .before .before .loop in
-    omega (arith, c .before .before .before .before .before .before .before .before .before .before .before .before .before .before .before .before .before .before .before .before .before .before .before .before .before .good .1 .1 .1 .1 .1 .1 .1 .0 .1, take-few (a .lean) (seedIn (a .threshold) (rowsOf (a .fused-keys .now) (a .fused-distances .now) (a .fused-weights .now) (a .fused-count))) (latticeOf (a .course)) back (roomsOf (a .keys .now) (a .cells .now)) _ (l .takings) (l .rows) (l .keys) (l .distances) (l .held) (l .estimates) (l .cells) (l .inv .4 (p .1 .0) (p .1 .1)))
+    let at-loop = c .before .before .before .before .before .before .before .before .before .before .before .before .before .before .before
+    .before .before in
+    let at-start = at-loop .before .before .before .before .before .before .before .before in
+    let a = at-start .args in
+    let p = at-start .pre in
+    let l = at-loop .loop in
+    omega (arith, at-start .good .1 .1 .1 .1 .1 .1 .1 .0 .1, take-few (a .lean) (seedIn (a .threshold) (rowsOf (a .fused-keys .now) (a .fused-distances .now) (a .fused-weights .now) (a .fused-count))) (latticeOf (a .course)) back (roomsOf (a .keys .now) (a .cells .now)) _ (l .takings) (l .rows) (l .keys) (l .distances) (l .held) (l .estimates) (l .cells) (l .inv .4 (p .1 .0) (p .1 .1)))
 
 loop-again : tie.Need-loop-again Inv-loop μ-loop
 loop-again c =
-    let a = c .before .before .before .before .before .before .before .before .before .before .before .before .before .before .before .before .before .before .before .before .before .before .before .before .before .args in
-    let l = c .before .before .before .before .before .before .before .before .before .before .before .before .before .before .before .before .before .loop in
-    let k = c .before .before .before .before .before .before .before .before .before .before .before .take .kept in
+    let at-n = c .before in
+    let at-take = at-n .before .before .before .before .before .before .before .before .before .before in
+    let at-loop-test = at-take .before .before .before .before .before in
+    let at-loop = at-loop-test .before in
+    let at-start = at-loop .before .before .before .before .before .before .before .before in
+    let a = at-start .args in
+    let l = at-loop .loop in
+    let k = at-take .take .kept in
     let i = l .inv in (
       k .1 .1 .1 .1 .1 .1 .1 .0 ∙ i .0,
       k .1 .1 .1 .1 .1 .1 .1 .1 .0 ∙ i .1,
@@ -110,8 +130,8 @@ loop-again c =
       k .1 .1 .1 .1 .1 .1 .1 .1 .1 .1 .1 .0 ∙ i .3,
       λ s h.
           take-more (a .lean) (seedIn (a .threshold) (rowsOf (a .fused-keys .now) (a .fused-distances .now) (a .fused-weights .now) (a .fused-count))) (latticeOf (a .course)) back (roomsOf (a .keys .now) (a .cells .now)) _ (l .takings) (l .rows)
-          (l .keys) (l .distances) (l .held) (l .estimates) (l .cells) (i .4 s h) (c .before .before .before .before .before .before .before .before .before .before .before .before .before .before .before .before .loop-test .taken)
-          (i .0) (i .3) _ _ _ _ _ (c .before .before .before .before .before .before .before .before .before .before .before .take .ensures) _ _ (c .before .n .given .1),
+          (l .keys) (l .distances) (l .held) (l .estimates) (l .cells) (i .4 s h) (at-loop-test .loop-test .taken)
+          (i .0) (i .3) _ _ _ _ _ (at-take .take .ensures) _ _ (at-n .n .given .1),
     )
 
 same-length-5 : tie.Need-same-length-5 Inv-loop μ-loop
@@ -128,8 +148,10 @@ same-length-8 c = search needs
 
 returns-2 : tie.Need-returns-2 Inv-loop μ-loop
 returns-2 c =
-    let a = c .before .before .before .before .before .before .before .before .before .args in
-    let l = c .before .loop in
+    let at-loop = c .before in
+    let at-start = at-loop .before .before .before .before .before .before .before .before in
+    let a = at-start .args in
+    let l = at-loop .loop in
     λ s h.
     take-finish (a .lean) (seedIn (a .threshold) (rowsOf (a .fused-keys .now) (a .fused-distances .now) (a .fused-weights .now) (a .fused-count))) (latticeOf (a .course)) back (roomsOf (a .keys .now) (a .cells .now)) _ (l .takings) (l .rows)
     (l .keys) (l .distances) (l .held) (l .estimates) (l .cells) (l .inv .4 s h) (l .inv .0) (c .loop-test .left)

@@ -21,16 +21,24 @@ same-length c = search needs
 
 returns : tie.Need-returns
 returns c =
+    let at-find = c .before .before in
+    let at-start = at-find .before .before .before .before .before .before .before .before .before in
     λ s h told.
-    wait-marked _ _ _ (real-key _ (c .before .before .before .before .before .before .before .before .before .before .before .pre .1 .0)) s _ _ _ _ _ h _ (sym (c .before .before .find .ensures) ∙ c .enum-told .given .1)
+    wait-marked _ _ _ (real-key _ (at-start .pre .1 .0)) s _ _ _ _ _ h _ (sym (at-find .find .ensures) ∙ c .enum-told .given .1)
 
 wait-lean-requires : tie.Need-wait-lean-requires
 wait-lean-requires c κs =
-    (c .before .before .before .before .before .before .before .before .before .before .before .before .before .before .before .before .before .pre .0, (sym (c .before .before .before .before .before .before .before .before .find .ensures) ∙ c .before .before .before .before .before .before .place .given .1, c .before .before .before .before .before .before .before .before .before .before .before .before .before .before .before .before .before .pre .1))
+    let at-place = c .before .before .before .before .before .before in
+    let at-find = at-place .before .before in
+    let at-start = at-find .before .before .before .before .before .before .before .before .before in
+    (at-start .pre .0, (sym (at-find .find .ensures) ∙ at-place .place .given .1, at-start .pre .1))
 
 wait-marked-requires : tie.Need-wait-marked-requires
 wait-marked-requires c κs =
-    (c .before .before .before .before .before .before .before .before .before .before .before .before .before .before .before .before .before .pre .0 .1, (sym (c .before .before .before .before .before .before .before .before .find .ensures) ∙ c .before .before .before .before .before .before .place .given .1, c .before .before .before .before .before .before .before .before .before .before .before .before .before .before .before .before .before .pre .1))
+    let at-place = c .before .before .before .before .before .before in
+    let at-find = at-place .before .before in
+    let at-start = at-find .before .before .before .before .before .before .before .before .before in
+    (at-start .pre .0 .1, (sym (at-find .find .ensures) ∙ at-place .place .given .1, at-start .pre .1))
 
 same-length-2 : tie.Need-same-length-2
 same-length-2 c = search needs
@@ -46,7 +54,9 @@ same-length-5 c = search needs
 
 returns-2 : tie.Need-returns-2
 returns-2 c =
-    wait-as _ _ _ _ _ _ _ _ _ _ _ _ _ _ _ _ _ (c .before .before .before .before .before .before .before .before .before .if1 .taken) (c .before .before .before .before .wait-lean .ensures)
+    let at-wait-lean = c .before .before .before .before in
+    let at-if1 = at-wait-lean .before .before .before .before .before in
+    wait-as _ _ _ _ _ _ _ _ _ _ _ _ _ _ _ _ _ (at-if1 .if1 .taken) (at-wait-lean .wait-lean .ensures)
 
 same-length-6 : tie.Need-same-length-6
 same-length-6 c = search needs
@@ -62,7 +72,9 @@ same-length-9 c = search needs
 
 returns-3 : tie.Need-returns-3
 returns-3 c =
-    wait-as _ _ _ _ _ _ _ _ _ _ _ _ _ _ _ _ _ (c .before .before .before .before .before .before .before .before .before .before .before .before .before .if1 .left) (λ s h told. c .before .before .before .before .before .before .before .before .wait-marked .ensures s h)
+    let at-wait-marked = c .before .before .before .before .before .before .before .before in
+    let at-if1 = at-wait-marked .before .before .before .before .before in
+    wait-as _ _ _ _ _ _ _ _ _ _ _ _ _ _ _ _ _ (at-if1 .if1 .left) (λ s h told. at-wait-marked .wait-marked .ensures s h)
 
 pub wait-spec : {M : Type 1} → statement M
 wait-spec =

@@ -40,8 +40,10 @@ around-requires c κs = search needs
 
 loop-holds : tie.Need-loop-holds Inv-loop μ-loop
 loop-holds c =
-    let a = c .before .before .before .before .before .before .before .before .before .args in
-    let f = near-list (a .key) _ (c .before .around .ensures) in (
+    let at-around = c .before in
+    let at-start = at-around .before .before .before .before .before .before .before .before in
+    let a = at-start .args in
+    let f = near-list (a .key) _ (at-around .around .ensures) in (
       f .0,
       f .1,
       f .2,
@@ -62,10 +64,13 @@ array-read-wait c = search needs
 
 wait-requires : tie.Need-wait-requires Inv-loop μ-loop
 wait-requires c κs =
-    let i = c .before .before .before .before .before .loop .inv in
-    let p = c .before .before .before .before .before .before .before .before .before .before .before .before .before .before .before .pre in (
+    let at-loop-test = c .before .before .before .before in
+    let at-loop = at-loop-test .before in
+    let at-start = at-loop .before .before .before .before .before .before .before .before .before .before in
+    let i = at-loop .loop .inv in
+    let p = at-start .pre in (
       (p .0 .0, (i .5 ∙ p .0 .1 .0 ∙ sym (i .4), i .6 ∙ p .0 .1 .1 ∙ sym (i .7))),
-      (near-lattice (c .before .before .before .before .before .before .before .before .before .before .before .before .before .before .before .args .key) (p .1 .0) _ (i .0) _ (omega (arith, c .before .before .before .before .loop-test .taken, i .1)), p .1 .1),
+      (near-lattice (at-start .args .key) (p .1 .0) _ (i .0) _ (omega (arith, at-loop-test .loop-test .taken, i .1)), p .1 .1),
     )
 
 enum-known-why : tie.Need-enum-known-why Inv-loop μ-loop
@@ -85,13 +90,18 @@ same-length-4 c = search needs
 
 returns : tie.Need-returns Inv-loop μ-loop
 returns c =
-    let l = c .before .before .before .before .before .before .before .before .before .before .before .before .before .before .before .before .before in
-    let a = c .before .before .before .before .before .before .before .before .before .before .before .before .before .before .before .before .before .before .before .before .before .before .before .before .before .before .before .args in
+    let at-why = c .before in
+    let at-wait = at-why .before .before .before .before .before .before .before .before .before .before in
+    let at-loop-test = at-wait .before .before .before .before .before in
+    let at-loop = at-loop-test .before in
+    let at-start = at-loop .before .before .before .before .before .before .before .before .before .before in
+    let l = at-loop in
+    let a = at-start .args in
     rest-stop (a .lean) _ (latticeOf (a .course)) (a .key) (a .estimate) (neighbours (a .key)) _ (l .loop .inv .0) (neighbours-once (a .key)) (a .keys .now) (a .distances .now) (a .waiting)
     (a .estimates .now) (a .cells .now)
     (l .loop .i) (l .loop .keys) (l .loop .distances) (l .loop .held)
     (l .loop .estimates) (l .loop .cells) (l .loop .inv .8) (l .loop .inv .7)
-    (omega (arith, c .before .before .before .before .before .before .before .before .before .before .before .before .before .before .before .before .loop-test .taken, l .loop .inv .1)) _ _ _ _ _ (c .before .before .before .before .before .before .before .before .before .before .before .wait .ensures) _ (c .before .why .given .1)
+    (omega (arith, at-loop-test .loop-test .taken, l .loop .inv .1)) _ _ _ _ _ (at-wait .wait .ensures) _ (at-why .why .given .1)
 
 enum-known-more : tie.Need-enum-known-more Inv-loop μ-loop
 enum-known-more c = search needs
@@ -104,14 +114,19 @@ loop-less c = search needs
 
 loop-again : tie.Need-loop-again Inv-loop μ-loop
 loop-again c =
-    let l = c .before .before .before .before .before .before .before .before .before .before .before .before .before .before .before .before .before in
+    let at-more = c .before in
+    let at-wait = at-more .before .before .before .before .before .before .before .before .before .before in
+    let at-loop-test = at-wait .before .before .before .before .before in
+    let at-loop = at-loop-test .before in
+    let at-start = at-loop .before .before .before .before .before .before .before .before .before .before in
+    let l = at-loop in
     let i = l .loop .inv in
-    let k = c .before .before .before .before .before .before .before .before .before .before .before .wait .kept in
-    let a = c .before .before .before .before .before .before .before .before .before .before .before .before .before .before .before .before .before .before .before .before .before .before .before .before .before .before .before .args in (
+    let k = at-wait .wait .kept in
+    let a = at-start .args in (
       i .0,
       i .1,
       i .2,
-      omega (arith, c .before .before .before .before .before .before .before .before .before .before .before .before .before .before .before .before .loop-test .taken),
+      omega (arith, at-loop-test .loop-test .taken),
       k .1 .1 .1 .1 .1 .1 .1 .0 ∙ i .4,
       k .1 .1 .1 .1 .1 .1 .1 .1 .0 ∙ i .5,
       k .1 .1 .1 .1 .1 .1 .1 .1 .1 .0 ∙ i .6,
@@ -120,7 +135,7 @@ loop-again c =
           (a .estimates .now) (a .cells .now)
           (l .loop .i) (l .loop .keys) (l .loop .distances) (l .loop .held)
           (l .loop .estimates) (l .loop .cells) (l .loop .inv .8) (i .7)
-          (omega (arith, c .before .before .before .before .before .before .before .before .before .before .before .before .before .before .before .before .loop-test .taken, i .1)) _ _ _ _ _ (c .before .before .before .before .before .before .before .before .before .before .before .wait .ensures) _ (c .before .more .given .1),
+          (omega (arith, at-loop-test .loop-test .taken, i .1)) _ _ _ _ _ (at-wait .wait .ensures) _ (at-more .more .given .1),
     )
 
 same-length-5 : tie.Need-same-length-5 Inv-loop μ-loop
@@ -137,8 +152,10 @@ same-length-8 c = search needs
 
 returns-2 : tie.Need-returns-2 Inv-loop μ-loop
 returns-2 c =
-    let l = c .before in
-    let a = c .before .before .before .before .before .before .before .before .before .before .before .args in
+    let at-loop = c .before in
+    let at-start = at-loop .before .before .before .before .before .before .before .before .before .before in
+    let l = at-loop in
+    let a = at-start .args in
     rest-none (a .lean) _ (latticeOf (a .course)) (a .key) (a .estimate) (neighbours (a .key)) _ (l .loop .inv .0) (neighbours-once (a .key)) (a .keys .now) (a .distances .now) (a .waiting)
     (a .estimates .now) (a .cells .now)
     (l .loop .i) (l .loop .keys) (l .loop .distances) (l .loop .held)

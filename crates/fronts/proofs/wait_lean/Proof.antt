@@ -9,19 +9,25 @@ use Rattle.fronts.proofs.wait_lean.Tie as tie
 
 other-spread-requires : tie.Need-other-spread-requires
 other-spread-requires c κs =
-    (c .before .before .before .before .before .before .before .pre .0 .0, (c .before .before .before .before .before .before .before .pre .0 .1 .0, c .before .before .before .before .before .before .before .pre .1 .1 .0))
+    let at-start = c .before .before .before .before .before .before .before in
+    (at-start .pre .0 .0, (at-start .pre .0 .1 .0, at-start .pre .1 .1 .0))
 
 returns : tie.Need-returns
 returns c =
-    let s = c .before .before .before .before .before .before .before .before .before in
+    let at-other-spread = c .before in
+    let at-start = at-other-spread .before .before .before .before .before .before .before .before in
+    let s = at-start in
     λ st h told.
-    lean-already _ _ _ _ _ (s .pre .1 .1 .0) st _ _ _ _ _ h told _ (s .pre .1 .0) _ (c .before .other-spread .ensures _ _ (h .marked)) (c .if1 .taken)
+    lean-already _ _ _ _ _ (s .pre .1 .1 .0) st _ _ _ _ _ h told _ (s .pre .1 .0) _ (at-other-spread .other-spread .ensures _ _ (h .marked)) (c .if1 .taken)
 
 returns-2 : tie.Need-returns-2
 returns-2 c =
-    let s = c .before .before .before .before .before .before .before .before .before .before in
+    let at-if1 = c .before in
+    let at-other-spread = at-if1 .before in
+    let at-start = at-other-spread .before .before .before .before .before .before .before .before in
+    let s = at-start in
     λ st h told.
-    lean-full _ _ _ _ _ (s .pre .1 .1 .0) st _ _ _ _ _ h told _ (s .pre .1 .0) _ (c .before .before .other-spread .ensures _ _ (h .marked)) (c .before .if1 .left)
+    lean-full _ _ _ _ _ (s .pre .1 .1 .0) st _ _ _ _ _ h told _ (s .pre .1 .0) _ (at-other-spread .other-spread .ensures _ _ (h .marked)) (at-if1 .if1 .left)
     (c .if2 .taken)
 
 add-held : tie.Need-add-held
@@ -29,7 +35,9 @@ add-held c = search needs
 
 push-requires : tie.Need-push-requires
 push-requires c κs =
-    (omega (arith, c .before .before .if2 .left, c .before .before .before .before .before .before .before .before .before .before .before .before .pre .0 .1 .1), omega (arith, c .before .before .if2 .left))
+    let at-if2 = c .before .before in
+    let at-start = at-if2 .before .before .before .before .before .before .before .before .before .before in
+    (omega (arith, at-if2 .if2 .left, at-start .pre .0 .1 .1), omega (arith, at-if2 .if2 .left))
 
 same-length : tie.Need-same-length
 same-length c = search needs
@@ -39,10 +47,15 @@ same-length-2 c = search needs
 
 returns-3 : tie.Need-returns-3
 returns-3 c =
-    let s = c .before .before .before .before .before .before .before .before .before .before .before .before .before .before .before .before .before in
+    let at-push = c .before .before .before .before in
+    let at-if2 = at-push .before .before .before in
+    let at-if1 = at-if2 .before in
+    let at-other-spread = at-if1 .before in
+    let at-start = at-other-spread .before .before .before .before .before .before .before .before in
+    let s = at-start in
     λ st h told.
-    lean-placed _ _ _ _ _ (s .pre .1 .1 .0) st _ _ _ _ _ h told _ (s .pre .1 .0) _ (c .before .before .before .before .before .before .before .before .before .other-spread .ensures _ _ (h .marked)) (c .before .before .before .before .before .before .before .before .if1 .left)
-    (c .before .before .before .before .before .before .before .if2 .left) (s .pre .1 .1 .1) _ _ (c .before .before .before .before .push .ensures)
+    lean-placed _ _ _ _ _ (s .pre .1 .1 .0) st _ _ _ _ _ h told _ (s .pre .1 .0) _ (at-other-spread .other-spread .ensures _ _ (h .marked)) (at-if1 .if1 .left)
+    (at-if2 .if2 .left) (s .pre .1 .1 .1) _ _ (at-push .push .ensures)
 
 pub wait-lean-spec : {M : Type 1} → statement M
 wait-lean-spec =

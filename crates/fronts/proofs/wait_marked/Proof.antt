@@ -14,14 +14,17 @@ use Rattle.fronts.proofs.wait_marked.Tie as tie
 
 returns : tie.Need-returns
 returns c =
-    λ s h. mark-full _ _ (c .before .before .before .before .before .pre .1 .1 .0) s _ _ _ _ _ h _ (c .before .before .before .before .before .pre .1 .0) (c .if1 .taken)
+    let at-start = c .before .before .before .before .before in
+    λ s h. mark-full _ _ (at-start .pre .1 .1 .0) s _ _ _ _ _ h _ (at-start .pre .1 .0) (c .if1 .taken)
 
 float-from-bits-enter : tie.Need-float-from-bits-enter
 unfolding nanBits
 float-from-bits-enter c = search needs
 
 enter-requires : tie.Need-enter-requires
-enter-requires c κs = c .before .before .before .before .before .before .before .pre .0 .0
+enter-requires c κs =
+    let at-start = c .before .before .before .before .before .before .before in
+    at-start .pre .0 .0
 
 same-length : tie.Need-same-length
 same-length c = search needs
@@ -38,7 +41,9 @@ add-held c = search needs
 
 push-requires : tie.Need-push-requires
 push-requires c κs =
-    (omega (arith, c .before .before .before .before .before .before .before .before .before .before .if1 .left, c .before .before .before .before .before .before .before .before .before .before .before .before .before .before .before .pre .0 .1), omega (arith, c .before .before .before .before .before .before .before .before .before .before .if1 .left))
+    let at-if1 = c .before .before .before .before .before .before .before .before .before .before in
+    let at-start = at-if1 .before .before .before .before .before in
+    (omega (arith, at-if1 .if1 .left, at-start .pre .0 .1), omega (arith, at-if1 .if1 .left))
 
 same-length-3 : tie.Need-same-length-3
 same-length-3 c = search needs
@@ -55,11 +60,16 @@ same-length-6 c = search needs
 returns-3 : tie.Need-returns-3
 unfolding ofBits
 returns-3 c =
-    let s = c .before .before .before .before .before .before .before .before .before .before .before .before .before .before .before .before .before .before .before .before in
+    let at-push = c .before .before .before .before in
+    let at-if2 = at-push .before .before .before in
+    let at-enter = at-if2 .before .before .before .before .before in
+    let at-if1 = at-enter .before .before .before in
+    let at-start = at-if1 .before .before .before .before .before in
+    let s = at-start in
     λ st h.
     mark-placed _ _ (s .pre .1 .1 .0) st _ _ _ _ _ h _ (s .pre .1 .0) _ _
-    (entered-by _ _ _ _ _ _ _ _ (c .before .before .before .before .before .before .before .before .before .before .before .before .enter .ensures) (not-false _ (c .before .before .before .before .before .before .before .if2 .left)) (h .marked .kept) (h .marked .long) (s .pre .1 .0))
-    (c .before .before .before .before .before .before .before .before .before .before .before .before .before .before .before .if1 .left) (s .pre .1 .1 .1) _ _ (c .before .before .before .before .push .ensures)
+    (entered-by _ _ _ _ _ _ _ _ (at-enter .enter .ensures) (not-false _ (at-if2 .if2 .left)) (h .marked .kept) (h .marked .long) (s .pre .1 .0))
+    (at-if1 .if1 .left) (s .pre .1 .1 .1) _ _ (at-push .push .ensures)
 
 pub wait-marked-spec : {M : Type 1} → statement M
 wait-marked-spec =
