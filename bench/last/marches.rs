@@ -28,10 +28,10 @@ fn done(name: &'static str, (keys, distances): (Vec<u64>, Vec<f32>), cells: f32,
     March { name, keys, distances, far: cells * SIZE, places, waiting: LONGEST, answer: DONE }
 }
 
-// A march of the last without a limit on its way.
-fn refused(name: &'static str, places: usize, waiting: usize, answer: u32) -> March {
+// A march of the last that is refused, so far or without a limit on its way.
+fn refused(name: &'static str, far: f32, places: usize, waiting: usize, answer: u32) -> March {
     let (keys, distances) = rows_nearest(16_384);
-    March { name, keys, distances, far: NO_LIMIT, places, waiting, answer }
+    March { name, keys, distances, far, places, waiting, answer }
 }
 
 // Seeds at keys, all at distance 0.
@@ -55,10 +55,12 @@ fn apart(n: usize) -> (Vec<u64>, Vec<f32>) {
 fn marches() -> Vec<March> {
     vec![
         done("an ordinary one", rows_nearest(16_384), 41.8, LONGEST),
-        refused("refused for room at 200,000 places", 200_000, LONGEST, NO_PLACE),
-        refused("refused for room at 1,048,576 places", LONGEST, LONGEST, NO_PLACE),
-        refused("refused for waiting room at 8 places", LONGEST, 8, NO_WAITING_PLACE),
-        refused("refused for waiting room at 50,000 places", LONGEST, 50_000, NO_WAITING_PLACE),
+        refused("refused for room at 200,000 places", NO_LIMIT, 200_000, LONGEST, NO_PLACE),
+        refused("refused for room at 1,048,576 places", NO_LIMIT, LONGEST, LONGEST, NO_PLACE),
+        refused("the ordinary one, refused for room at 200,000 places", 41.8 * SIZE, 200_000, LONGEST, NO_PLACE),
+        refused("twice as far as 1,048,576 places have room", 150.0 * SIZE, LONGEST, LONGEST, NO_PLACE),
+        refused("refused for waiting room at 8 places", NO_LIMIT, LONGEST, 8, NO_WAITING_PLACE),
+        refused("refused for waiting room at 50,000 places", NO_LIMIT, LONGEST, 50_000, NO_WAITING_PLACE),
         done("one cell under 1,024 heads", heads(1_024), 10.0, LONGEST),
         done("one cell under 4,096 heads", heads(4_096), 6.5, LONGEST),
         done("16,384 seeds apart", apart(16_384), 1.8, LONGEST),

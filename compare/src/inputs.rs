@@ -1,13 +1,16 @@
-// What the cases of each call hold: how many have a cell at the ends of the lattice on one, two and three axes, odd floats, weights 0, which heads.
+// What the cases of each call hold: how many have a cell at the ends of the lattice on one, two and three axes, odd floats, weights 0, which
+// heads and how many, key 0, a lent list of fewer than nine places.
 use crate::case::Case;
 use crate::make::rust_key;
-use crate::plain::keys::coords_of;
+use crate::plain::keys::{coords_of, head_of};
 use crate::plain::stl::{length_ok, vertices_in};
 use crate::rng::Rng;
 use crate::table::{Compared, COMPARED};
+use std::collections::BTreeSet;
 
-const COLUMNS: [&str; 15] = [
-    "cases", "at 0: 1", "2", "3 axes", "at end: 1", "2", "3 axes", "+0", "-0", "subnormal", "+1e-30", "-1e-30", "weight 0", "8000-BFFF", "20 rows",
+const COLUMNS: [&str; 18] = [
+    "cases", "at 0: 1", "2", "3 axes", "at end: 1", "2", "3 axes", "+0", "-0", "subnormal", "+1e-30", "-1e-30", "weight 0", "8000-BFFF", "20 rows", "heads",
+    "key 0", "short",
 ];
 
 fn cells(c: &Case) -> Vec<[u16; 3]> {
@@ -33,13 +36,14 @@ fn floats(c: &Case) -> Vec<f32> {
     all
 }
 
-fn held(c: &Case) -> [bool; 15] {
+fn held(c: &Case) -> [bool; 18] {
     let (cells, floats) = (cells(c), floats(c));
     let any = |is: &dyn Fn(f32) -> bool| floats.iter().any(|&x| is(x));
     // the lattice ends at 0 or 1, and at 65,534 or 65,535, by parity
     let at = |axes: usize, end: fn(u16) -> bool| cells.iter().any(|p| p.iter().filter(|&&v| end(v)).count() == axes);
     let (low, high) = (|v: u16| v < 2, |v: u16| v > 65_533);
-    let keys: Vec<u64> = c.keys[..c.count.min(c.keys.len())].iter().chain([&c.key]).copied().collect();
+    let rows = &c.keys[..c.count.min(c.keys.len())];
+    let keys: Vec<u64> = rows.iter().chain([&c.key]).copied().collect();
     [
         true,
         at(1, low),
@@ -55,13 +59,16 @@ fn held(c: &Case) -> [bool; 15] {
         any(&|x| x == -1e-30),
         c.weights.iter().take(c.count).any(|&w| w == 0.0),
         keys.iter().all(|&k| rust_key(k)) || (0x8000..=0xbfff).contains(&c.head),
-        c.count.min(c.keys.len()) >= 20,
+        rows.len() >= 20,
+        rows.iter().map(|&k| head_of(k)).collect::<BTreeSet<_>>().len() > 1,
+        rows.contains(&0),
+        c.rooms.iter().any(|&n| n < 9),
     ]
 }
 
 fn line(c: &Compared, seed: u64, cases: usize) {
     let mut r = Rng::new(seed, c.name);
-    let mut counts = [0; 15];
+    let mut counts = [0; 18];
     for _ in 0..cases {
         for (n, h) in counts.iter_mut().zip(held(&(c.make)(&mut r))) {
             *n += h as usize;

@@ -215,10 +215,9 @@ fn tail(r: &mut Rng, c: &mut Case, more: usize) {
     }
 }
 
-// An accepted table with some places to spare.
-pub fn table(r: &mut Rng) -> Case {
-    let mut c = Case { settings: settings(r), ..Case::default() };
-    c.keys = if r.one_in(40) { Vec::new() } else { clump(r) };
+// An accepted table over these keys, with some places to spare.
+fn table_at(r: &mut Rng, settings: [f32; 4], keys: Vec<u64>) -> Case {
+    let mut c = Case { settings, keys, ..Case::default() };
     c.distances = distances(r, &c.keys.clone(), &c);
     c.weights = weights(r, c.keys.len(), c.settings[1]);
     c.count = c.keys.len();
@@ -227,6 +226,13 @@ pub fn table(r: &mut Rng) -> Case {
     c.key = asked_key(r, &c.keys[..c.count].to_vec());
     c.reals[0] = threshold(r, &c);
     c
+}
+
+// An accepted table.
+pub fn table(r: &mut Rng) -> Case {
+    let settings = settings(r);
+    let keys = if r.one_in(40) { Vec::new() } else { clump(r) };
+    table_at(r, settings, keys)
 }
 
 fn threshold(r: &mut Rng, c: &Case) -> f32 {
@@ -584,9 +590,44 @@ pub fn for_edges(r: &mut Rng) -> Case {
     c
 }
 
+// One cell or two under up to eight heads: keys that differ in their high bits alone.
+fn under_many_heads(r: &mut Rng) -> Vec<u64> {
+    let at = corner(r, &[2, 2, 2]);
+    let (base, apart) = (head(r), r.pick(&[1, 1, 0x10, 0x800]));
+    let heads = (0..1 + r.below(8) as u16).map(|i| base.wrapping_add(apart * i));
+    let odd = (at[0] & 1) as u16;
+    let [x, y, z] = at.map(|v| v as u16 & !1 | odd);
+    let mut keys: Vec<u64> = heads.flat_map(|head| [key_of(head, x, y, z), key_of(head, x ^ 1, y ^ 1, z ^ 1)]).filter(|_| !r.one_in(3)).collect();
+    keys.sort_unstable();
+    keys
+}
+
+// Cells about (0, 0, 0) under head 0, whose key is 0, that cell among them.
+fn about_key_0(r: &mut Rng) -> Vec<u64> {
+    let near = neighbours(0).into_iter().filter(|_| r.one_in(3));
+    let mut keys: Vec<u64> = [0].into_iter().chain(near).collect();
+    keys.sort_unstable();
+    keys
+}
+
+// A table to march over: in one of six under several heads, in one of six about key 0.
+fn marchable(r: &mut Rng) -> Case {
+    match r.below(6) {
+        0 => {
+            let (settings, keys) = (settings(r), under_many_heads(r));
+            table_at(r, settings, keys)
+        }
+        1 => {
+            let (settings, keys) = (settings(r), about_key_0(r));
+            table_at(r, settings, keys)
+        }
+        _ => table(r),
+    }
+}
+
 // A march's rooms are kept small, so that one that would fill the lattice is refused soon.
 pub fn for_march(r: &mut Rng) -> Case {
-    let mut c = table(r);
+    let mut c = marchable(r);
     if c.count > 12 && r.one_in(2) {
         // a few rows give most of the ways to tie
         c.count = 1 + r.below(12);
@@ -603,11 +644,19 @@ pub fn for_march(r: &mut Rng) -> Case {
     }
     let (rows, waiting, _) = march::rooms(c.settings(), &rows_of(c.table()), c.reals[0], 300 + 3 * c.count, 700 + 3 * c.count);
     let (a, b) = (room(r, rows), room(r, waiting));
-    // one of the two is enough in most cases
-    c.rooms = match r.below(4) {
+    // one of the two is enough in most cases; lists of a few places, and of any number too small, the fourth and the fifth
+    c.rooms = match r.below(7) {
         0 => vec![a, a, waiting, waiting],
         1 => vec![rows + 3, rows + 3, b, b],
         2 => vec![a, a, b, b],
+        3 => {
+            let (few, fewer) = (r.below(9), r.below(20));
+            vec![few, few, fewer, fewer]
+        }
+        4 => {
+            let some = r.below(rows + 1);
+            vec![some, some, waiting + 40, waiting + 40]
+        }
         _ => vec![rows, rows, waiting + 2, waiting + 2],
     };
     damaged(r, &mut c, &[spoil_table, spoil_rooms, |r, c| c.reals[0] = odd_float(r)]);
