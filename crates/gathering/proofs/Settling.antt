@@ -7,8 +7,8 @@ use native.Mathlib.Omega.{arith}
 use lib.ListN.{length, getD, take, drop, set, length-append, length-take, length-drop, length-set, take-append-drop}
 use lib.Seq.{length-take-le, take-take, take-append-le, drop-append-le, drop-cons, getD-set-same, take-set-le, drop-set-lt, drop-at}
 use Rattle.table.specs.Table.{laid}
-use Rattle.gathering.specs.Gathering.{below, above, Within, InOrder, seated}
-use Rattle.gathering.specs.Steps.{slid}
+use Rattle.gathering.specs.Gathering.{below, above, Within, InOrder, seated, settledIn, Settles}
+use Rattle.gathering.specs.Steps.{slid, seatPlace, seatedAt}
 use Rattle.gathering.proofs.Seated.{seated-no-shorter, seated-last, seated-waits}
 
 -- what the first j own values and the first r of the column make
@@ -27,34 +27,42 @@ pub record Settling (A : Type 0) (ss : List ℕ) (vs before : List A) (n m r j w
   pub kept : take r held ≡ take r before
   pub whole : rest ss vs before j r ++ drop w held ≡ laid (rest ss vs before m n) before
 
-module _ {A : Type 0} (d : A) (ss : List ℕ) (vs before : List A) (n m : ℕ) (fits : n ≤ length before) (seats : m ≤ length ss)
-    (values : m ≤ length vs) where
+-- a value put by its seat, once what is above the seat was slid
+pub seat-put : {A : Type 0} (l l' : List A) (seat r w from q : ℕ) (v : A)
+    → from ≡ above seat
+    → q + r ≡ w + from
+    → l' ≡ slid l q from r w
+    → (q - 1 ≡ seatPlace seat r w) × (set l' (q - 1) v ≡ seatedAt seat r w v l)
+seat-put l l' seat r w from q v f e p =
+    let same : q ≡ w + above seat - r = omega (arith, f, e) in (ap (λ (t : ℕ). t - 1) same, rw (p, f, same) refl)
+
+module _ {A : Type 0} (d : A) {ss : List ℕ} {vs before : List A} {n m total : ℕ} (h : Settles before n ss vs m total) where
   -- a place is as far up as the values left
   reaches : (r j w : ℕ) → r ≤ n → w ≡ length (rest ss vs before j r) → r ≤ w
-  reaches r j w h e = omega (arith, seated-no-shorter (take j ss) (take j vs) (take r before), length-take-le r before (omega arith))
+  reaches r j w inside e = omega (arith, seated-no-shorter (take j ss) (take j vs) (take r before), length-take-le r before (omega (arith, h .column)))
 
-  pub begins : (total : ℕ) → Within n ss m → total ≡ length (rest ss vs before m n) → total ≤ length before → Settling A ss vs before n m n m total before
-  begins total i e l =
+  pub begins : Within n ss m → Settling A ss vs before n m n m total before
+  begins i =
       record {
         inside = omega arith;
         left = omega arith;
         within = i;
-        place = e;
-        reach = reaches n m total (omega arith) e;
-        room = l;
+        place = h .makes;
+        reach = reaches n m total (omega arith) (h .makes);
+        room = h .room;
         size = refl;
         kept = refl;
-        whole = ap (λ (t : ℕ). rest ss vs before m n ++ drop t before) e;
+        whole = ap (λ (t : ℕ). rest ss vs before m n ++ drop t before) (h .makes);
       }
 
-  module _ (r j w : ℕ) (held : List A) (s : Settling A ss vs before n m r j w held) where
+  module _ {r j w : ℕ} {held : List A} (s : Settling A ss vs before n m r j w held) where
     -- no own value is left
-    pub ended : j ≤ 0 → held ≡ laid (rest ss vs before m n) before
+    pub ended : j ≤ 0 → held ≡ settledIn before n ss vs m
     unfolding seated
     ended z =
         let none : j ≡ 0 = omega arith in
         let made : rest ss vs before j r ≡ take r before = ap (λ (i : ℕ). rest ss vs before i r) none in
-        let here : w ≡ r = s .place ∙ ap length made ∙ length-take-le r before (omega (arith, s .inside)) in
+        let here : w ≡ r = s .place ∙ ap length made ∙ length-take-le r before (omega (arith, s .inside, h .column)) in
         sym (take-append-drop r held)
         ∙ ap (λ (t : List A). t ++ drop r held) (s .kept)
         ∙ ap (λ (i : ℕ). take r before ++ drop i held) (sym here)
@@ -65,7 +73,8 @@ module _ {A : Type 0} (d : A) (ss : List ℕ) (vs before : List A) (n m : ℕ) (
     pub waits : (i : ℕ) → j ≡ suc i → getD ss i 0 ≡ 0 → Settling A ss vs before n m r i w held
     waits i e z =
         let same : rest ss vs before j r ≡ rest ss vs before i r =
-        ap (λ (t : ℕ). rest ss vs before t r) e ∙ seated-waits ss vs (take r before) i (omega (arith, s .left)) (omega (arith, s .left)) z in
+        ap (λ (t : ℕ). rest ss vs before t r) e
+        ∙ seated-waits ss vs (take r before) i (omega (arith, s .left, h .seats)) (omega (arith, s .left, h .values)) z in
         record {
           inside = s .inside;
           left = omega (arith, s .left);
@@ -91,12 +100,12 @@ module _ {A : Type 0} (d : A) (ss : List ℕ) (vs before : List A) (n m : ℕ) (
       low = omega (arith, ea)
 
       size-left : length (take r before) ≡ r
-      size-left = length-take-le r before (omega (arith, s .inside))
+      size-left = length-take-le r before (omega (arith, s .inside, h .column))
 
       splits : rest ss vs before j r ≡ rest ss vs before i b ++ getD vs i d ∷ drop from (take r before)
       splits =
           ap (λ (t : ℕ). rest ss vs before t r) e
-          ∙ seated-last d ss vs (take r before) i (omega (arith, s .left)) (omega (arith, s .left)) some
+          ∙ seated-last d ss vs (take r before) i (omega (arith, s .left, h .seats)) (omega (arith, s .left, h .values)) some
           (λ t h. order t i h (omega (arith, s .left)) some) (omega (arith, inner, low, size-left))
           ∙ rw (← ea, take-take b r before (omega (arith, inner, low))) refl
 
@@ -114,7 +123,7 @@ module _ {A : Type 0} (d : A) (ss : List ℕ) (vs before : List A) (n m : ℕ) (
           )
 
       -- the place is there
-      pub here : (0 < q) × (q ≤ length held)
+      here : (0 < q) × (q ≤ length held)
       here = (omega (arith, spot), omega (arith, inner, moved, s .room))
 
       fit : (q ≤ w) × (b ≤ q - 1)
@@ -161,10 +170,34 @@ module _ {A : Type 0} (d : A) (ss : List ℕ) (vs before : List A) (n m : ℕ) (
                 ∙ s .whole;
           }
 
-      -- the same of the list that was slid
-      pub put-down :
+      -- the same of any such list
+      put-down :
           (slid-list : List A) (r' : ℕ)
           → slid-list ≡ slid held q from r w
           → r' ≡ b
           → Settling A ss vs before n m r' i (q - 1) (set slid-list (q - 1) (getD vs i d))
       put-down l r' p q = rw (p, q) settles
+
+    -- the seat's place is there
+    pub seat-fits : (i : ℕ)
+        → j ≡ suc i
+        → 0 < getD ss i 0
+        → InOrder ss m
+        → (above (getD ss i 0) ≤ r) × (r ≤ w) × (w ≤ length held) × (r < w + above (getD ss i 0))
+    seat-fits i e some order =
+        let there = here i e some order (above (getD ss i 0)) (w + above (getD ss i 0) - r) refl (omega (arith, s .reach)) in
+        (s .within i (omega arith), s .reach, s .room, omega (arith, there .0))
+
+    -- the last own value is put by its seat
+    pub seat-down : (i : ℕ)
+        → j ≡ suc i
+        → 0 < getD ss i 0
+        → InOrder ss m
+        → (r' w' : ℕ) (held' : List A)
+        → r' ≡ below (getD ss i 0)
+        → w' ≡ seatPlace (getD ss i 0) r w
+        → held' ≡ seatedAt (getD ss i 0) r w (getD vs i d) held
+        → Settling A ss vs before n m r' i w' held'
+    seat-down i e some order r' w' held' er ew eh =
+        rw (ew, eh)
+        (put-down i e some order (above (getD ss i 0)) (w + above (getD ss i 0) - r) refl (omega (arith, s .reach)) _ r' refl er)

@@ -4,10 +4,10 @@ use mathlib.Core.Path.{_≡_}
 use mathlib.Core.Bool.{Bool, cond}
 use mathlib.Core.List.{List, [], _∷_, _++_, map}
 use lib.Dec.{ltb, eqb}
-use lib.ListN.{getD, take, drop}
+use lib.ListN.{length, getD, take, drop}
 use lib.Ieee.{Float}
 use Rattle.floats.specs.Floats.{f32, zero32, between}
-use Rattle.table.specs.Table.{Row, Table, put}
+use Rattle.table.specs.Table.{Row, Table, put, laid}
 
 -- a weight in range: its row stands
 abbrev pub standing : Float → Float → Bool
@@ -67,6 +67,18 @@ seated (s ∷ ss) [] xs = xs
 seated (s ∷ ss) (v ∷ vs) xs =
     let ys = seated ss vs xs in
     cond (eqb s 0) ys (take (below s) ys ++ v ∷ drop (above s) ys)
+
+-- own values settled among the first n of a column by their seats; the places behind them stay
+abbrev pub settledIn : {A : Type 0} → List A → ℕ → List ℕ → List A → ℕ → List A
+settledIn xs n ss vs m = laid (seated (take m ss) (take m vs) (take n xs)) xs
+
+-- the column and the own values have so many, and `total` result, for which the column has room
+pub record Settles {A : Type 0} (xs : List A) (n : ℕ) (ss : List ℕ) (vs : List A) (m total : ℕ) : Type 0 where
+  pub column : n ≤ length xs
+  pub seats : m ≤ length ss
+  pub values : m ≤ length vs
+  pub makes : total ≡ length (seated (take m ss) (take m vs) (take n xs))
+  pub room : total ≤ length xs
 
 -- ---- the rows of a table
 

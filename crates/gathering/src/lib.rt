@@ -1,16 +1,16 @@
 // Own rows beside a table, column by column: each own key gets a seat among the table's keys; by the seats a column's values
-// are loaded, and after they were changed apart they are settled into it in one walk. A row whose weight is in range stands;
-// the others wait, and are never settled. A further column takes one call of `load_` and one of `settle_` for its type of
-// element, and cites the same laws; one row alone is put into it by `set` or `inserted` (table/proofs/Laying: laid-set, laid-open).
+// are loaded, and after they were changed apart they are settled into it, all columns in one walk over the seats. A row whose
+// weight is in range stands; the others wait, and are never settled. A further column takes one call of `load_` and one of
+// `seat_` for its type of element, and cites the same laws; one row alone is put into it by `set` or `inserted`
+// (table/proofs/Laying: laid-set, laid-open).
 use floats::between;
-ghost use Prim.Native.Nat.{_+_, _≤_};
+ghost use Prim.Native.Nat.{_+_, _≤_, _<_};
 ghost use mathlib.Core.Path.{_≡_};
 ghost use mathlib.Core.Bool.{true};
 ghost use lib.ListN.{length, take};
 ghost use Rattle.search.specs.Keys.{ascending, placeOf};
-ghost use Rattle.table.specs.Table.{laid};
-ghost use Rattle.gathering.specs.Gathering.{below, above, seatOf, seatsOf, valueAt, loaded, heldBack, seated, Within, InOrder};
-ghost use Rattle.gathering.specs.Steps.{slid};
+ghost use Rattle.gathering.specs.Gathering.{below, above, seatOf, seatsOf, valueAt, loaded, heldBack, Within, InOrder, Settles, settledIn};
+ghost use Rattle.gathering.specs.Steps.{slid, seatPlace, seatedAt};
 
 // How many rows are below a seat.
 fn rows_below(seat: u32) -> usize
@@ -167,48 +167,46 @@ fn slide_f32(list: &mut [f32], from: usize, end: usize, to: usize) -> usize
     place
 }
 
-// The own values of a column, settled by the seats among its first `count`, from the last down; `total` result.
-pub fn settle_u64(
-    column: &mut [u64],
-    count: usize,
-    seats: &[u32],
-    own_column: &[u64],
-    own: usize,
-    total: usize,
-)
-    requires { ⌜ (count ≤ length (now column)) × (own ≤ length (now seats)) × (own ≤ length (now «own_column»)) ⌝ }
-    requires { ⌜ Within count (now seats) own × InOrder (now seats) own ⌝ }
-    requires { ⌜ (total ≡ length (seated (take own (now seats)) (take own (now «own_column»)) (take count (now column)))) × (total ≤ length (now column)) ⌝ }
-    ensures { λ _. ⌜ now (column .exit) ≡ laid (seated (take own (now (seats .entry))) (take own (now («own_column» .entry)))
-        (take count (now (column .entry)))) (now (column .entry)) ⌝ }
+// A value to its seat, where `rows` values of the column are left and the places from `place` on are written: what is above the seat goes up to there,
+// and the value before it. The answer is its place.
+fn seat_u64(column: &mut [u64], seat: u32, rows: usize, place: usize, value: u64) -> usize
+    requires { ⌜ (above seat ≤ rows) × (rows ≤ place) × (place ≤ length (now column)) × (rows < place + above seat) ⌝ }
+    ensures { λ r. ⌜ (r ≡ seatPlace seat rows place) × (now (column .exit) ≡ seatedAt seat rows place value (now (column .entry))) ⌝ }
 {
-    let mut rows = count;
-    let mut left = own;
-    let mut place = total;
-    while 0 < left {
-        left -= 1;
-        let seat = seats[left];
-        if seat != 0 {
-            place = slide_u64(column, first_above(seat), rows, place) - 1;
-            column[place] = own_column[left];
-            rows = rows_below(seat);
-        }
-    }
+    let at = slide_u64(column, first_above(seat), rows, place) - 1;
+    column[at] = value;
+    at
 }
 
-pub fn settle_f32(
-    column: &mut [f32],
+fn seat_f32(column: &mut [f32], seat: u32, rows: usize, place: usize, value: f32) -> usize
+    requires { ⌜ (above seat ≤ rows) × (rows ≤ place) × (place ≤ length (now column)) × (rows < place + above seat) ⌝ }
+    ensures { λ r. ⌜ (r ≡ seatPlace seat rows place) × (now (column .exit) ≡ seatedAt seat rows place value (now (column .entry))) ⌝ }
+{
+    let at = slide_f32(column, first_above(seat), rows, place) - 1;
+    column[at] = value;
+    at
+}
+
+// The own rows, settled column by column among the first `count` by their seats, from the last down; `total` result.
+pub fn settle(
+    keys: &mut [u64],
+    distances: &mut [f32],
+    weights: &mut [f32],
     count: usize,
     seats: &[u32],
-    own_column: &[f32],
+    own_keys: &[u64],
+    own_distances: &[f32],
+    own_weights: &[f32],
     own: usize,
     total: usize,
 )
-    requires { ⌜ (count ≤ length (now column)) × (own ≤ length (now seats)) × (own ≤ length (now «own_column»)) ⌝ }
     requires { ⌜ Within count (now seats) own × InOrder (now seats) own ⌝ }
-    requires { ⌜ (total ≡ length (seated (take own (now seats)) (take own (now «own_column»)) (take count (now column)))) × (total ≤ length (now column)) ⌝ }
-    ensures { λ _. ⌜ now (column .exit) ≡ laid (seated (take own (now (seats .entry))) (take own (now («own_column» .entry)))
-        (take count (now (column .entry)))) (now (column .entry)) ⌝ }
+    requires { ⌜ Settles (now keys) count (now seats) (now «own_keys») own total ⌝ }
+    requires { ⌜ Settles (now distances) count (now seats) (now «own_distances») own total ⌝ }
+    requires { ⌜ Settles (now weights) count (now seats) (now «own_weights») own total ⌝ }
+    ensures { λ _. ⌜ now (keys .exit) ≡ settledIn (now (keys .entry)) count (now (seats .entry)) (now («own_keys» .entry)) own ⌝ }
+    ensures { λ _. ⌜ now (distances .exit) ≡ settledIn (now (distances .entry)) count (now (seats .entry)) (now («own_distances» .entry)) own ⌝ }
+    ensures { λ _. ⌜ now (weights .exit) ≡ settledIn (now (weights .entry)) count (now (seats .entry)) (now («own_weights» .entry)) own ⌝ }
 {
     let mut rows = count;
     let mut left = own;
@@ -217,8 +215,10 @@ pub fn settle_f32(
         left -= 1;
         let seat = seats[left];
         if seat != 0 {
-            place = slide_f32(column, first_above(seat), rows, place) - 1;
-            column[place] = own_column[left];
+            let at = seat_u64(keys, seat, rows, place, own_keys[left]);
+            seat_f32(distances, seat, rows, place, own_distances[left]);
+            seat_f32(weights, seat, rows, place, own_weights[left]);
+            place = at;
             rows = rows_below(seat);
         }
     }

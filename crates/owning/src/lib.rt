@@ -9,8 +9,7 @@ use fusing::fused_voxel;
 use gathering::hold_back;
 use gathering::load_f32;
 use gathering::locate;
-use gathering::settle_f32;
-use gathering::settle_u64;
+use gathering::settle;
 use measuring::Admitted;
 use measuring::Measured;
 use measuring::Reading;
@@ -301,9 +300,18 @@ fn settle_own(
         (rowsOf (now (keys .entry)) (now (distances .entry)) (now (weights .entry)) count)) ⌝ }
 {
     hold_back(most, own_weights, seats, own);
-    settle_u64(keys, count, seats, own_keys, own, total);
-    settle_f32(distances, count, seats, own_distances, own, total);
-    settle_f32(weights, count, seats, own_weights, own, total);
+    settle(
+        keys,
+        distances,
+        weights,
+        count,
+        seats,
+        own_keys,
+        own_distances,
+        own_weights,
+        own,
+        total,
+    );
 }
 
 // Up to 4,096 readings from `from` on, through own rows that are settled into the table column by column.

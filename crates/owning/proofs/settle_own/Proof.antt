@@ -41,31 +41,39 @@ hold-back-requires : tie.Need-hold-back-requires
 hold-back-requires c κs =
     let s = c .before .before .before .before .before .before .before .before in (omega (arith, own-fit s), s .pre .1 .1 .0 .1)
 
-settle-u64-requires : tie.Need-settle-u64-requires
-settle-u64-requires c κs =
-    let s = c .before .before .before .before .before .before .before .before .before .before .before .before .before in
-    let at = c .before .before .before .before .hold-back in
-    let p = plan s _ (at .ensures) in (
-      (fit s .0, omega (arith, at .kept, s .pre .1 .1 .0 .1), own-fit s .0),
-      ((p .within, p .order), (s .pre .1 .1 .1 .0 ∙ p .keys, s .pre .1 .1 .1 .1)),
-    )
-
-settle-f32-requires : tie.Need-settle-f32-requires
-settle-f32-requires c κs =
-    let s = c .before .before .before .before .before .before .before .before .before .before .before .before .before .before .before .before .before .before in
-    let at = c .before .before .before .before .before .before .before .before .before .hold-back in
-    let p = plan s _ (at .ensures) in (
-      (omega (arith, fit s), omega (arith, at .kept, s .pre .1 .1 .0 .1), omega (arith, own-fit s)),
-      ((p .within, p .order), (s .pre .1 .1 .1 .0 ∙ p .distances, omega (arith, fit s, s .pre .1 .1 .1 .1))),
-    )
-
-settle-f32-requires-2 : tie.Need-settle-f32-requires-2
-settle-f32-requires-2 c κs =
-    let s = c .before .before .before .before .before .before .before .before .before .before .before .before .before .before .before .before .before .before .before .before .before .before .before in
-    let at = c .before .before .before .before .before .before .before .before .before .before .before .before .before .before .hold-back in
-    let p = plan s _ (at .ensures) in (
-      (omega (arith, fit s), omega (arith, at .kept, s .pre .1 .1 .0 .1), omega (arith, own-fit s)),
-      ((p .within, p .order), (s .pre .1 .1 .1 .0 ∙ p .weights, omega (arith, fit s, s .pre .1 .1 .1 .1))),
+settle-requires : tie.Need-settle-requires
+settle-requires c κs =
+    let at-hold-back = c .before .before .before .before .before .before in
+    let s = at-hold-back .before .before .before .before .before .before .before .before .before in
+    let at = at-hold-back .hold-back in
+    let p = plan s _ (at .ensures) in
+    let total = s .pre .1 .1 .1 in (
+      (p .within, p .order),
+      (
+        record {
+          column = fit s .0;
+          seats = omega (arith, at .kept, s .pre .1 .1 .0 .1);
+          values = own-fit s .0;
+          makes = total .0 ∙ p .keys;
+          room = total .1;
+        },
+        (
+          record {
+            column = omega (arith, fit s);
+            seats = omega (arith, at .kept, s .pre .1 .1 .0 .1);
+            values = omega (arith, own-fit s);
+            makes = total .0 ∙ p .distances;
+            room = omega (arith, fit s, total .1);
+          },
+          record {
+            column = omega (arith, fit s);
+            seats = omega (arith, at .kept, s .pre .1 .1 .0 .1);
+            values = omega (arith, own-fit s);
+            makes = total .0 ∙ p .weights;
+            room = omega (arith, fit s, total .1);
+          },
+        ),
+      ),
     )
 
 same-length : tie.Need-same-length
@@ -82,18 +90,18 @@ same-length-4 c = search needs
 
 returns : tie.Need-returns
 returns c =
-    let s = c .before .before .before .before .before .before .before .before .before .before .before .before .before .before .before .before .before .before .before .before .before .before .before .before .before .before in
-    plan s _ (c .before .before .before .before .before .before .before .before .before .before .before .before .before .before .before .before .before .hold-back .ensures) .settled _ _ _ (s .args .total) (c .before .before .before .before .before .before .before .before .before .before .before .before .settle-u64 .ensures) (c .before .before .before .before .before .before .before .settle-f32 .ensures)
-    (c .before .before .settle-f322 .ensures) (s .pre .1 .1 .1 .0)
+    let at-settle = c .before .before .before .before .before .before in
+    let at-hold-back = at-settle .before .before .before .before .before .before .before in
+    let s = at-hold-back .before .before .before .before .before .before .before .before .before in
+    let did = at-settle .settle .ensures in
+    plan s _ (at-hold-back .hold-back .ensures) .settled _ _ _ (s .args .total) (did .0) (did .1 .0) (did .1 .1) (s .pre .1 .1 .1 .0)
 
 pub settle-own-spec : {M : Type 1} → statement M
 settle-own-spec =
     tie.close
     (tie.spec
     hold-back-requires
-    settle-u64-requires
-    settle-f32-requires
-    settle-f32-requires-2
+    settle-requires
     same-length
     same-length-2
     same-length-3
