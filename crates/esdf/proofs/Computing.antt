@@ -7,7 +7,7 @@ use native.Mathlib.Nat.{not-suc-le-zero, le-of-suc-le-suc}
 use native.Mathlib.Omega.{arith}
 use borrow.Author.Tests.{eqb-true}
 use lib.Dec.{eqb, leb}
-use lib.ListN.{length, getD, take, replicate, length-replicate, length-map}
+use lib.ListN.{length, getD, take, replicate, length-map}
 use lib.Seq.{getD-take, length-take-le}
 use lib.Ieee.{Float, nan, ofBits}
 use Rattle.floats.specs.Floats.{zero32, million, isFinite, within, between}
@@ -26,8 +26,10 @@ use Rattle.table.proofs.RowLaws.{lengths-known}
 use Rattle.marching.specs.March.{Rooms, rooms, Going, keysOf, distancesOf}
 use Rattle.marching.specs.Lattice.{marchFrom}
 use Rattle.table.proofs.Checking.{need-passed, sound, with-passed, went-on}
-use Rattle.fronts.specs.Fronts.{Tabled, Fair, Blank, Laid, roomsOf}
-use Rattle.fronts.proofs.Marching.{same-rooms}
+use Rattle.fronts.specs.Fronts.{Fair, roomsOf}
+use Rattle.racing.specs.Racing.{Tabled}
+use Rattle.racing.proofs.Marching.{same-rooms}
+use Rattle.racing.proofs.Finishing.{cleared}
 use Rattle.hearing.specs.Hearing.{Lent}
 use Rattle.ids.specs.Key.{onLattice}
 use Rattle.floats.proofs.Order.{within-finite, between-finite}
@@ -123,31 +125,6 @@ sets-equal a b c d h = (
 
 whole-room : (y : ℕ) → y - 0 ≡ y
 whole-room y = omega arith
-
--- cleared lists of paired lengths are blank
-pub cleared :
-    (ks₀ cs₀ : List ℕ) (ds₀ es₀ : List Float) (ks cs : List ℕ) (ds es : List Float)
-    → length ds₀ ≡ length ks₀
-    → length es₀ ≡ length cs₀
-    → ks ≡ filled 0 ks₀
-    → ds ≡ filled zero32 ds₀
-    → es ≡ filled zero32 es₀
-    → cs ≡ filled 0 cs₀
-    → Blank ks ds es cs
-unfolding padded
-cleared ks₀ cs₀ ds₀ es₀ ks cs ds es p q a b c d =
-    let l : length ks ≡ length ks₀ = ap length a ∙ length-replicate (length ks₀) 0 in
-    let m : length cs ≡ length cs₀ = ap length d ∙ length-replicate (length cs₀) 0 in
-    let x : length ks₀ ≡ length ks - 0 = omega arith in
-    let y : length ds₀ ≡ length ks - 0 = omega arith in
-    let z : length es₀ ≡ length cs - 0 = omega arith in
-    let w : length cs₀ ≡ length cs - 0 = omega arith in
-    record {
-      keys = a ∙ ap (λ (i : ℕ). replicate i 0) x;
-      distances = b ∙ ap (λ (i : ℕ). replicate i zero32) y;
-      estimates = c ∙ ap (λ (i : ℕ). replicate i zero32) z;
-      cells = d ∙ ap (λ (i : ℕ). replicate i 0) w;
-    }
 
 five :
     {r r' : Marched} {ks ks' : List ℕ} {ds ds' es es' : List Float} {cs cs' : List ℕ}

@@ -1,5 +1,5 @@
 -- Laws on the march's code.
 pub mod Computing
-pub mod Racing
+pub mod Answering
 pub mod Determined
 pub mod Passing

@@ -1,7 +1,6 @@
 -- What the private functions promise each other.
 use Prim.Native.Nat.{ℕ}
 use mathlib.Core.Path.{_≡_}
-use mathlib.Core.Bool.{Bool, true, false}
 use mathlib.Core.List.{List}
 use lib.Ieee.{Float}
 use Rattle.lists.specs.Places.{filled}
@@ -13,20 +12,14 @@ use Rattle.marching.specs.declared.Course.{Course}
 use Rattle.marching.specs.March.{State, Going, on, refused}
 use Rattle.fronts.specs.declared.Stop.{Stop}
 use Rattle.fronts.specs.declared.Stop.the-variants.{NoRow, NoCell, NoMark}
-use Rattle.fronts.specs.declared.Raced.{Raced}
-use Rattle.fronts.specs.declared.Raced.the-variants as raced
-use Rattle.fronts.specs.Fronts.{Tabled, Fair, Blank, Laid}
+use Rattle.fronts.specs.Fronts.{Fair}
+use Rattle.racing.specs.declared.Raced.{Raced}
+use Rattle.racing.specs.declared.Raced.the-variants as raced
+use Rattle.racing.specs.Racing.{Tabled, Blank, Laid}
 use Rattle.esdf.specs.declared.Marched.{Marched}
 use Rattle.esdf.specs.declared.Marched.the-variants as marched
 
--- the marks of a march outgrew the lists
-abbrev pub outgrew : Raced → Bool
-outgrew (raced.Done n t) = false
-outgrew (raced.Not NoRow) = false
-outgrew (raced.Not NoCell) = false
-outgrew (raced.Not NoMark) = true
-
--- the refusal of a march that stopped; it is not asked of one whose marks outgrew the lists
+-- the refusal of a march that stopped; no march of racing says that its marks outgrew the lists
 abbrev pub refusalOf : Stop → Refusal
 refusalOf NoRow = NoPlace
 refusalOf NoCell = NoWaitingPlace

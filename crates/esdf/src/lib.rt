@@ -1,12 +1,10 @@
-// The march: distances carried outwards from the surface (src/layers/esdf.rs). Its steps are those of fronts: first with marks of waiting cells, and
-// where these outgrow the lists once more, lean.
-use fronts::Raced;
+// The march: distances carried outwards from the surface (src/layers/esdf.rs). The tests of the call, then the march of racing, and its answer.
 use fronts::Stop;
-use fronts::race;
 use lists::LONGEST_LIST;
-use lists::clear_f32;
-use lists::clear_u64;
 use marching::Course;
+use racing::Raced;
+use racing::clear;
+use racing::march;
 use refusals::Refusal;
 use table::Checked;
 use table::Settings;
@@ -18,28 +16,14 @@ ghost use Rattle.floats.specs.Floats.{zero32};
 ghost use Rattle.lists.specs.Places.{filled};
 ghost use Rattle.table.specs.Table.{table, rowsOf};
 ghost use Rattle.marching.specs.Lattice.{marchFrom};
-ghost use Rattle.fronts.specs.Fronts.{Tabled, Fair, Paired, Blank, roomsOf};
-ghost use Rattle.esdf.specs.Steps.{outgrew, refusalOf, marchedOf, Finished, MayMarch, tidied};
+ghost use Rattle.fronts.specs.Fronts.{roomsOf};
+ghost use Rattle.esdf.specs.Steps.{refusalOf, marchedOf, Finished, MayMarch, tidied};
 ghost use Rattle.esdf.specs.Compute.{places, setOk, marchCheck, tested, outcome, computed};
 
 // A march's answer: how many rows and how many takings.
 pub enum Marched {
     Done(usize, usize),
     Refused(Refusal),
-}
-
-// Whether the marks outgrew the lists.
-fn outgrew(raced: Raced) -> bool
-    ensures { λ r. ⌜ r ≡ outgrew raced ⌝ }
-{
-    let Raced::Not(why) = raced else {
-        return false;
-    };
-    match why {
-        Stop::NoRow => false,
-        Stop::NoCell => false,
-        Stop::NoMark => true,
-    }
 }
 
 // What is answered to why a march stopped.
@@ -53,112 +37,13 @@ fn refusal_of(why: Stop) -> Refusal
     }
 }
 
-// What is answered to a march that the lists had places for.
+// What is answered to what a march says.
 fn marched_of(raced: Raced) -> Marched
     ensures { λ r. ⌜ r ≡ marchedOf raced ⌝ }
 {
     match raced {
         Raced::Done(rows, takings) => Marched::Done(rows, takings),
         Raced::Not(why) => Marched::Refused(refusal_of(why)),
-    }
-}
-
-// Every place of the four lists becomes 0.
-fn clear(keys: &mut [u64], distances: &mut [f32], estimates: &mut [f32], cells: &mut [u64])
-    ensures { λ _. ⌜ now (keys .exit) ≡ filled 0 (now (keys .entry)) ⌝ }
-    ensures { λ _. ⌜ now (distances .exit) ≡ filled zero32 (now (distances .entry)) ⌝ }
-    ensures { λ _. ⌜ now (estimates .exit) ≡ filled zero32 (now (estimates .entry)) ⌝ }
-    ensures { λ _. ⌜ now (cells .exit) ≡ filled 0 (now (cells .entry)) ⌝ }
-{
-    clear_u64(keys);
-    clear_f32(distances);
-    clear_f32(estimates);
-    clear_u64(cells);
-}
-
-// The march without marks of waiting cells, over lists that were written to.
-fn march_again(
-    fused_keys: &[u64],
-    fused_distances: &[f32],
-    fused_weights: &[f32],
-    fused_count: usize,
-    threshold: f32,
-    course: Course,
-    keys: &mut [u64],
-    distances: &mut [f32],
-    estimates: &mut [f32],
-    cells: &mut [u64],
-) -> Marched
-    requires { ⌜ (Tabled (now «fused_keys») (now «fused_distances») (now «fused_weights») «fused_count» × Fair course)
-        × Paired (now keys) (now distances) (now estimates) (now cells) ⌝ }
-    ensures { λ r. ⌜ Finished (marchFrom (course .size) (course .most) (roomsOf (now (keys .entry)) (now (cells .entry))) threshold
-        (rowsOf (now («fused_keys» .entry)) (now («fused_distances» .entry)) (now («fused_weights» .entry)) «fused_count»)) r
-        (now (keys .exit)) (now (distances .exit)) (now (estimates .exit)) (now (cells .exit)) ⌝ }
-{
-    clear(keys, distances, estimates, cells);
-    let raced = race(
-        true,
-        fused_keys,
-        fused_distances,
-        fused_weights,
-        fused_count,
-        threshold,
-        course,
-        keys,
-        distances,
-        estimates,
-        cells,
-    );
-    marched_of(raced)
-}
-
-// The march over a table whose rows are in order, into lists that are all zero.
-fn march_rows(
-    fused_keys: &[u64],
-    fused_distances: &[f32],
-    fused_weights: &[f32],
-    fused_count: usize,
-    threshold: f32,
-    course: Course,
-    keys: &mut [u64],
-    distances: &mut [f32],
-    estimates: &mut [f32],
-    cells: &mut [u64],
-) -> Marched
-    requires { ⌜ (Tabled (now «fused_keys») (now «fused_distances») (now «fused_weights») «fused_count» × Fair course)
-        × Blank (now keys) (now distances) (now estimates) (now cells) ⌝ }
-    ensures { λ r. ⌜ Finished (marchFrom (course .size) (course .most) (roomsOf (now (keys .entry)) (now (cells .entry))) threshold
-        (rowsOf (now («fused_keys» .entry)) (now («fused_distances» .entry)) (now («fused_weights» .entry)) «fused_count»)) r
-        (now (keys .exit)) (now (distances .exit)) (now (estimates .exit)) (now (cells .exit)) ⌝ }
-{
-    let raced = race(
-        false,
-        fused_keys,
-        fused_distances,
-        fused_weights,
-        fused_count,
-        threshold,
-        course,
-        keys,
-        distances,
-        estimates,
-        cells,
-    );
-    if outgrew(raced) {
-        march_again(
-            fused_keys,
-            fused_distances,
-            fused_weights,
-            fused_count,
-            threshold,
-            course,
-            keys,
-            distances,
-            estimates,
-            cells,
-        )
-    } else {
-        marched_of(raced)
     }
 }
 
@@ -227,7 +112,7 @@ fn march_if(
 {
     match verdict {
         Checked::Refused(why) => Marched::Refused(why),
-        Checked::Passed => march_rows(
+        Checked::Passed => marched_of(march(
             fused_keys,
             fused_distances,
             fused_weights,
@@ -238,7 +123,7 @@ fn march_if(
             distances,
             estimates,
             cells,
-        ),
+        )),
     }
 }
 

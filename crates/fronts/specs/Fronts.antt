@@ -1,41 +1,30 @@
 -- What the functions of the march promise each other. The marched lists hold a mark for each stored cell and, but in a lean march, for each waiting
 -- one, in no order; the waiting lists are a heap.
-use Prim.Native.Nat.{ℕ, suc, _≤_, _<_}
+use Prim.Native.Nat.{ℕ, suc}
 use mathlib.Core.Path.{_≡_}
-use mathlib.Core.Bool.{Bool, true, false, cond}
+use mathlib.Core.Bool.{Bool, true, false}
 use mathlib.Core.List.{List, [], _∷_}
-use lib.Dec.{eqb}
-use lib.ListN.{length, getD}
-use lib.Ieee.{Float, nan, le}
+use lib.ListN.{length}
+use lib.Ieee.{Float, le}
 use Rattle.floats.specs.Floats.{zero32, isFinite}
 use Rattle.heap.specs.Heap.{Heaped}
 use Rattle.ids.specs.Key.{onLattice}
 use Rattle.lists.specs.Lists.{insert}
-use Rattle.lists.specs.Padding.{padded}
 use Rattle.marks.specs.Marks.{occupied}
 use Rattle.refusals.specs.declared.Refusal.the-variants.{NoPlace, NoWaitingPlace}
-use Rattle.search.specs.Keys.{member, ascending}
-use Rattle.table.specs.Table.{Row}
+use Rattle.search.specs.Keys.{member}
 use Rattle.marching.specs.declared.Course.{Course}
-use Rattle.marching.specs.March.{MarchedRow, marchedRow, Cell, State, state, Field, Going, on, refused, Rooms, rooms, rowBefore, keysOf, distancesOf, cellsOf, isStored, isSeed, sow, sowAll, nothing}
+use Rattle.marching.specs.March.{marchedRow, Cell, State, state, Field, Going, on, refused, Rooms, rooms, rowBefore, keysOf, cellsOf, isStored}
 use Rattle.marching.specs.Spreading.{Told}
-use Rattle.hearing.specs.Hearing.{Marked, Lent}
+use Rattle.hearing.specs.Hearing.{Marked}
 use Rattle.fronts.specs.declared.Stop.{Stop}
 use Rattle.fronts.specs.declared.Stop.the-variants.{NoRow, NoCell, NoMark}
 use Rattle.fronts.specs.declared.Placed.{Placed}
 use Rattle.fronts.specs.declared.Placed.the-variants as placed
 use Rattle.fronts.specs.declared.Step.{Step}
 use Rattle.fronts.specs.declared.Step.the-variants as step
-use Rattle.fronts.specs.declared.Raced.{Raced}
-use Rattle.fronts.specs.declared.Raced.the-variants as raced
 
 -- ---- what is lent
-
--- a table whose rows are on the lattice, at finite distances
-pub record Tabled (ks : List ℕ) (ds ws : List Float) (n : ℕ) : Type 0 where
-  pub lent : Lent ks ds ws n
-  pub lattice : (i : ℕ) → i < n → onLattice (getD ks i 0) ≡ true
-  pub finite : (i : ℕ) → i < n → isFinite (getD ds i nan) ≡ true
 
 -- a maximum distance that is finite and at least 0
 pub record Fair (c : Course) : Type 0 where
@@ -146,49 +135,3 @@ abbrev pub DoesSettle : Bool → (ℕ → Bool) → Field → ℕ → (State →
     → List Float → List Float → List ℕ → Type 0
 DoesSettle lean seed f k go n ks ds w es cs r ks' ds' es' cs' =
     (s : State) → Taken lean k s n ks ds w es cs → ToldOnce seed f k s → Left lean (go s) r ks' ds' es' cs'
-
--- ---- the whole march
-
--- a table's row is sown if it is a seed
-unfoldable pub sowIf : Float → (ℕ → List ℕ) → Rooms → Row → State → Going
-sowIf threshold near m r s = cond (isSeed threshold r) (sow near m (marchedRow (r .key) (r .distance)) s) (on s)
-
--- the four lists are zero
-pub record Blank (ks : List ℕ) (ds es : List Float) (cs : List ℕ) : Type 0 where
-  pub keys : ks ≡ padded 0 (length ks) []
-  pub distances : ds ≡ padded zero32 (length ks) []
-  pub estimates : es ≡ padded zero32 (length cs) []
-  pub cells : cs ≡ padded 0 (length cs) []
-
--- all seeds are sown
-pub record Sown (rs : List MarchedRow) (near : ℕ → List ℕ) (lean : Bool) (s : State) (n : ℕ) (ks : List ℕ) (ds : List Float) (w : ℕ) (es : List Float)
-    (cs : List ℕ) : Type 0 where
-  pub ascends : ascending (keysOf rs) ≡ true
-  pub sown : sowAll near (roomsOf ks cs) rs nothing ≡ on s
-  pub held : Held lean s n ks ds w es cs
-
--- no cell waits any more, and the rows have a place
-unfoldable pub Emptied : Bool → Going → Raced → List ℕ → List Float → List Float → List ℕ → Type 0
-Emptied lean g (raced.Done n t) ks ds es cs = (s : State) × ((g ≡ on s) × ((s .takings ≡ t) × (Held lean s n ks ds 0 es cs × (n ≤ length ks))))
-Emptied lean g (raced.Not why) ks ds es cs = Stopped lean g why
-
--- a first key that stands as 1 is 0
-unfoldable pub unlabelled : List ℕ → List ℕ
-unlabelled [] = []
-unlabelled (k ∷ ks) = cond (eqb k 1) 0 k ∷ ks
-
--- the lists hold the stored rows by key, and then zeros
-pub record Laid (s : State) (n : ℕ) (ks : List ℕ) (ds es : List Float) (cs : List ℕ) : Type 0 where
-  pub keys : ks ≡ padded 0 (length ks) (keysOf (s .stored))
-  pub distances : ds ≡ padded zero32 (length ks) (distancesOf (s .stored))
-  pub count : n ≡ length (s .stored)
-  pub fits : n ≤ length ks
-  pub ascends : ascending (keysOf (s .stored)) ≡ true
-  pub empty : s .waiting ≡ []
-  pub estimates : es ≡ padded zero32 (length cs) []
-  pub cells : cs ≡ padded 0 (length cs) []
-
--- what a march leaves: its rows, and no cell waiting; or why it stopped
-unfoldable pub Finished : Bool → Going → Raced → List ℕ → List Float → List Float → List ℕ → Type 0
-Finished lean g (raced.Done n t) ks ds es cs = (s : State) × ((g ≡ on s) × ((s .takings ≡ t) × Laid s n ks ds es cs))
-Finished lean g (raced.Not why) ks ds es cs = Stopped lean g why

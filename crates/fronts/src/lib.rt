@@ -4,12 +4,10 @@
 // spread. It takes longer, and is run where the marks outgrew the lists.
 use heap::pop;
 use heap::push;
-use heap::sort_rows;
 use hearing::known;
 use hearing::other_spread;
 use hearing::settled;
 use marching::Course;
-use marching::is_seed;
 use marching::onward;
 use marching::spreads;
 use marks::Spot;
@@ -18,7 +16,7 @@ use marks::find;
 ghost use mathlib.Core.Path.{_≡_};
 ghost use mathlib.Core.Bool.{true, false};
 ghost use mathlib.Core.List.{List, [], _∷_};
-ghost use Prim.Native.Nat.{ℕ, suc, _≤_, _<_};
+ghost use Prim.Native.Nat.{ℕ, _≤_, _<_};
 ghost use lib.ListN.{length, getD};
 ghost use lib.Ieee.{eq};
 ghost use Rattle.floats.specs.Floats.{isFinite};
@@ -27,12 +25,12 @@ ghost use Rattle.neighbors.specs.Neighbors.{neighbours};
 ghost use Rattle.marks.specs.declared.Spot.the-variants.{Absent};
 ghost use Rattle.marks.specs.Marks.{spotOf, occupied};
 ghost use Rattle.search.specs.Keys.{member};
-ghost use Rattle.table.specs.Table.{row, rowsOf};
-ghost use Rattle.marching.specs.March.{marchedRow, State, keysOf, isSeed, store, wait, waitAll, seeds, sow, sowAll, nothing, spread, settle, take, takeUpTo};
-ghost use Rattle.marching.specs.Lattice.{latticeOf, marchFrom};
+ghost use Rattle.table.specs.Table.{rowsOf};
+ghost use Rattle.marching.specs.March.{marchedRow, State, keysOf, store, wait, waitAll, sow, spread, settle, take};
+ghost use Rattle.marching.specs.Lattice.{latticeOf};
 ghost use Rattle.marching.specs.Spreading.{seedIn};
 ghost use Rattle.hearing.specs.Hearing.{Marked, Lent};
-ghost use Rattle.fronts.specs.Fronts.{Tabled, Fair, Paired, roomsOf, Front, Held, ToldOnce, unlabelled, LeftRows, LeftCells, Left, DoesWait, DoesSow, DoesSettle, DoesTake, sowIf, Blank, Sown, Emptied, Finished};
+ghost use Rattle.fronts.specs.Fronts.{Fair, Paired, roomsOf, Front, LeftRows, LeftCells, DoesWait, DoesSow, DoesSettle, DoesTake};
 
 // Why a march stopped: no place for a row, none for a waiting cell, or none for a mark.
 pub enum Stop {
@@ -48,14 +46,8 @@ enum Placed {
 }
 
 // How many rows and waiting cells there are now.
-enum Step {
+pub enum Step {
     On(usize, usize),
-    Not(Stop),
-}
-
-// A march's answer: how many rows and how many takings.
-pub enum Raced {
-    Done(usize, usize),
     Not(Stop),
 }
 
@@ -288,7 +280,7 @@ fn store(
 }
 
 // A seed is stored, then its neighbours wait at its |distance|.
-fn sow(
+pub fn sow(
     lean: bool,
     fused_keys: &[u64],
     fused_distances: &[f32],
@@ -437,7 +429,7 @@ fn settle(
 }
 
 // The first waiting cell frees its place; a stored one is skipped, another is settled.
-fn take(
+pub fn take(
     lean: bool,
     fused_keys: &[u64],
     fused_distances: &[f32],
@@ -481,234 +473,4 @@ fn take(
         left,
         key,
     )
-}
-
-// A table's row is sown if it is a seed.
-fn sow_if(
-    lean: bool,
-    fused_keys: &[u64],
-    fused_distances: &[f32],
-    fused_weights: &[f32],
-    fused_count: usize,
-    threshold: f32,
-    course: Course,
-    keys: &mut [u64],
-    distances: &mut [f32],
-    count: usize,
-    estimates: &mut [f32],
-    cells: &mut [u64],
-    waiting: usize,
-    key: u64,
-    distance: f32,
-    weight: f32,
-) -> Step
-    requires { ⌜ Lent (now «fused_keys») (now «fused_distances») (now «fused_weights») «fused_count» × Paired (now keys) (now distances) (now estimates) (now cells) ⌝ }
-    requires { ⌜ (onLattice key ≡ true) × (isFinite distance ≡ true) ⌝ }
-    ensures { λ r. ⌜ ((s : State)
-        → Held lean s count (now (keys .entry)) (now (distances .entry)) waiting (now (estimates .entry)) (now (cells .entry))
-        → member key (keysOf (s .stored)) ≡ false
-        → (isSeed threshold (row key distance weight) ≡ true → ToldOnce (seedIn threshold
-        (rowsOf (now («fused_keys» .entry)) (now («fused_distances» .entry)) (now («fused_weights» .entry)) «fused_count»)) (latticeOf course) key s)
-        → Left lean (sowIf threshold neighbours (roomsOf (now (keys .entry)) (now (cells .entry))) (row key distance weight) s) r
-        (now (keys .exit)) (now (distances .exit)) (now (estimates .exit)) (now (cells .exit))) ⌝ }
-{
-    if is_seed(threshold, key, distance, weight) {
-        sow(
-            lean,
-            fused_keys,
-            fused_distances,
-            fused_weights,
-            fused_count,
-            threshold,
-            course,
-            keys,
-            distances,
-            count,
-            estimates,
-            cells,
-            waiting,
-            key,
-            distance,
-        )
-    } else {
-        Step::On(count, waiting)
-    }
-}
-
-// Every seed of the table is sown.
-fn sow_all(
-    lean: bool,
-    fused_keys: &[u64],
-    fused_distances: &[f32],
-    fused_weights: &[f32],
-    fused_count: usize,
-    threshold: f32,
-    course: Course,
-    keys: &mut [u64],
-    distances: &mut [f32],
-    estimates: &mut [f32],
-    cells: &mut [u64],
-) -> Step
-    requires { ⌜ Tabled (now «fused_keys») (now «fused_distances») (now «fused_weights») «fused_count» × Blank (now keys) (now distances) (now estimates) (now cells) ⌝ }
-    ensures { λ r. ⌜ Left lean (sowAll neighbours (roomsOf (now (keys .entry)) (now (cells .entry))) (seeds threshold
-        (rowsOf (now («fused_keys» .entry)) (now («fused_distances» .entry)) (now («fused_weights» .entry)) «fused_count»)) nothing) r
-        (now (keys .exit)) (now (distances .exit)) (now (estimates .exit)) (now (cells .exit)) ⌝ }
-{
-    let mut rows = 0;
-    let mut held = 0;
-    let mut i = 0;
-    while i < fused_count {
-        match sow_if(
-            lean,
-            fused_keys,
-            fused_distances,
-            fused_weights,
-            fused_count,
-            threshold,
-            course,
-            keys,
-            distances,
-            rows,
-            estimates,
-            cells,
-            held,
-            fused_keys[i],
-            fused_distances[i],
-            fused_weights[i],
-        ) {
-            Step::Not(why) => return Step::Not(why),
-            Step::On(n, w) => {
-                rows = n;
-                held = w;
-            }
-        }
-        i += 1;
-    }
-    Step::On(rows, held)
-}
-
-// Waiting cells are taken until there is none.
-fn take_all(
-    lean: bool,
-    fused_keys: &[u64],
-    fused_distances: &[f32],
-    fused_weights: &[f32],
-    fused_count: usize,
-    threshold: f32,
-    course: Course,
-    keys: &mut [u64],
-    distances: &mut [f32],
-    count: usize,
-    estimates: &mut [f32],
-    cells: &mut [u64],
-    waiting: usize,
-) -> Raced
-    requires { ⌜ Tabled (now «fused_keys») (now «fused_distances») (now «fused_weights») «fused_count» × Fair course ⌝ }
-    requires { ⌜ ((s : State) × Sown (seeds threshold (rowsOf (now «fused_keys») (now «fused_distances») (now «fused_weights») «fused_count»))
-        neighbours lean s count (now keys) (now distances) waiting (now estimates) (now cells)) ⌝ }
-    ensures { λ r. ⌜ ((s : State)
-        → Sown (seeds threshold (rowsOf (now («fused_keys» .entry)) (now («fused_distances» .entry)) (now («fused_weights» .entry)) «fused_count»))
-        neighbours lean s count (now (keys .entry)) (now (distances .entry)) waiting (now (estimates .entry)) (now (cells .entry))
-        → Emptied lean (takeUpTo (latticeOf course) (roomsOf (now (keys .entry)) (now (cells .entry))) (suc (length (now (keys .entry)))) s) r
-        (now (keys .exit)) (now (distances .exit)) (now (estimates .exit)) (now (cells .exit))) ⌝ }
-{
-    let mut rows = count;
-    let mut held = waiting;
-    let mut takings = 0;
-    while 0 < held {
-        match take(
-            lean,
-            fused_keys,
-            fused_distances,
-            fused_weights,
-            fused_count,
-            threshold,
-            course,
-            keys,
-            distances,
-            rows,
-            estimates,
-            cells,
-            held,
-        ) {
-            Step::Not(why) => return Raced::Not(why),
-            Step::On(n, w) => {
-                rows = n;
-                held = w;
-            }
-        }
-        takings += 1;
-    }
-    Raced::Done(rows, takings)
-}
-
-// A first key that stands as 1 is 0.
-fn unlabel(keys: &mut [u64])
-    ensures { λ _. ⌜ now (keys .exit) ≡ unlabelled (now (keys .entry)) ⌝ }
-{
-    if 0 < keys.len() {
-        if keys[0] == 1 {
-            keys[0] = 0;
-        }
-    }
-}
-
-// The march over a table whose rows are in order, into lists that are all zero: the seeds, the takings, then the rows by key.
-pub fn race(
-    lean: bool,
-    fused_keys: &[u64],
-    fused_distances: &[f32],
-    fused_weights: &[f32],
-    fused_count: usize,
-    threshold: f32,
-    course: Course,
-    keys: &mut [u64],
-    distances: &mut [f32],
-    estimates: &mut [f32],
-    cells: &mut [u64],
-) -> Raced
-    requires { ⌜ (Tabled (now «fused_keys») (now «fused_distances») (now «fused_weights») «fused_count» × Fair course) × Blank (now keys) (now distances) (now estimates) (now cells) ⌝ }
-    ensures { λ r. ⌜ Finished lean (marchFrom (course .size) (course .most) (roomsOf (now (keys .entry)) (now (cells .entry))) threshold
-        (rowsOf (now («fused_keys» .entry)) (now («fused_distances» .entry)) (now («fused_weights» .entry)) «fused_count»)) r
-        (now (keys .exit)) (now (distances .exit)) (now (estimates .exit)) (now (cells .exit)) ⌝ }
-{
-    match sow_all(
-        lean,
-        fused_keys,
-        fused_distances,
-        fused_weights,
-        fused_count,
-        threshold,
-        course,
-        keys,
-        distances,
-        estimates,
-        cells,
-    ) {
-        Step::Not(why) => Raced::Not(why),
-        Step::On(rows, held) => {
-            match take_all(
-                lean,
-                fused_keys,
-                fused_distances,
-                fused_weights,
-                fused_count,
-                threshold,
-                course,
-                keys,
-                distances,
-                rows,
-                estimates,
-                cells,
-                held,
-            ) {
-                Raced::Not(why) => Raced::Not(why),
-                Raced::Done(n, takings) => {
-                    sort_rows(keys, distances);
-                    unlabel(keys);
-                    Raced::Done(n, takings)
-                }
-            }
-        }
-    }
 }

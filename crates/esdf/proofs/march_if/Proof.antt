@@ -1,6 +1,7 @@
 -- `esdf::march_if` meets its contract: a verdict that refuses is the answer, another lets the march begin.
 -- Assumes nothing.
 use Rattle.esdf.proofs.Computing.{refused-first, passed-first}
+use Rattle.esdf.proofs.Answering.{answered}
 use borrow.Author.Needs.{needs}
 use Rattle.esdf.proofs.march_if.Statement.{statement}
 use Rattle.esdf.proofs.march_if.Tie as tie
@@ -11,11 +12,14 @@ enum-known-verdict c = search needs
 enum-told : tie.Need-enum-told
 enum-told c = search needs
 
-march-rows-requires : tie.Need-march-rows-requires
-march-rows-requires c κs =
+march-requires : tie.Need-march-requires
+march-requires c κs =
     let at-enum-told = c .before .before .before .before in
     let at-start = at-enum-told .before .before .before .before .before .before .before .before .before in
     at-start .pre (at-enum-told .enum-told .given .1)
+
+marched-of-requires : tie.Need-marched-of-requires
+marched-of-requires c κs = search needs
 
 returns : tie.Need-returns
 returns c = refused-first _ _ _ _ _ _ (c .before .verdict .given .1)
@@ -34,9 +38,11 @@ same-length-4 c = search needs
 
 returns-2 : tie.Need-returns-2
 returns-2 c =
-    let at-march-rows = c .before .before .before .before .before .before .before .before in
-    let at-enum-told = at-march-rows .before .before .before .before .before in
-    passed-first _ _ _ _ _ _ _ (at-enum-told .enum-told .given .1) (at-march-rows .march-rows .ensures)
+    let at-march = c .before .before .before .before .before .before .before .before .before in
+    let at-enum-told = at-march .before .before .before .before .before in
+    let d = at-march .march in
+    passed-first _ _ _ _ _ _ _ (at-enum-told .enum-told .given .1)
+    (answered _ (d .result) _ _ _ _ _ (c .marched-of .ensures) (d .ensures))
 
 pub march-if-spec : {M : Type 1} → statement M
 march-if-spec =
@@ -44,7 +50,8 @@ march-if-spec =
     (tie.spec
     enum-known-verdict
     enum-told
-    march-rows-requires
+    march-requires
+    marched-of-requires
     returns
     same-length
     same-length-2

@@ -1,10 +1,10 @@
--- `fronts::sow_if` meets its contract, by its test.
+-- `racing::sow_if` meets its contract, by its test.
 -- Assumes nothing.
 use mathlib.Core.Path.{_≡_, sym, _∙_}
-use Rattle.fronts.proofs.Marching.{sow-if-seed, sow-if-not}
+use Rattle.racing.proofs.Marching.{sow-if-seed, sow-if-not}
 use borrow.Author.Needs.{needs}
-use Rattle.fronts.proofs.sow_if.Statement.{statement}
-use Rattle.fronts.proofs.sow_if.Tie as tie
+use Rattle.racing.proofs.sow_if.Statement.{statement}
+use Rattle.racing.proofs.sow_if.Tie as tie
 
 is-seed-requires : tie.Need-is-seed-requires
 is-seed-requires c κs = search needs

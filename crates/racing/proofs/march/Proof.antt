@@ -1,16 +1,19 @@
--- `esdf::march_rows` meets its contract: the march with marks, unless they outgrew the lists; then the lean one.
+-- `racing::march` meets its contract: the march of the kind that was picked, unless its marks outgrew the lists; then the lean one.
 -- Assumes nothing.
 use mathlib.Core.Path.{_≡_, sym, _∙_}
 use Rattle.table.specs.Table.{rowsOf}
-use Rattle.fronts.proofs.Finishing.{blank-long}
-use Rattle.esdf.proofs.Racing.{raced-marches, same-march, answered-as}
+use Rattle.racing.proofs.Finishing.{blank-long}
+use Rattle.racing.proofs.Leaning.{as-lean, same-march}
 use borrow.Author.Needs.{needs}
-use Rattle.esdf.proofs.march_rows.Statement.{statement}
-use Rattle.esdf.proofs.march_rows.Tie as tie
+use Rattle.racing.proofs.march.Statement.{statement}
+use Rattle.racing.proofs.march.Tie as tie
+
+vast-requires : tie.Need-vast-requires
+vast-requires c κs = search needs
 
 race-requires : tie.Need-race-requires
 race-requires c κs =
-    let at-start = c .before .before .before .before .before .before .before .before .before .before .before in
+    let at-start = c .before .before .before .before .before .before .before .before .before .before .before .before in
     at-start .pre
 
 outgrew-requires : tie.Need-outgrew-requires
@@ -19,15 +22,12 @@ outgrew-requires c κs = search needs
 march-again-requires : tie.Need-march-again-requires
 march-again-requires c κs =
     let at-race = c .before .before .before .before .before .before .before .before .before .before .before .before .before .before in
-    let at-start = at-race .before .before .before .before .before .before .before .before .before .before .before .before in
+    let at-start = at-race .before .before .before .before .before .before .before .before .before .before .before .before .before in
     let k = at-race .race .kept in
     let p = at-start .pre in (
       p .0,
       (k .1 .1 .1 .1 .1 .1 .1 .1 .0 ∙ blank-long _ _ _ (p .1 .distances) ∙ sym (k .1 .1 .1 .1 .1 .1 .1 .0), k .1 .1 .1 .1 .1 .1 .1 .1 .1 .0 ∙ blank-long _ _ _ (p .1 .estimates) ∙ sym (k .1 .1 .1 .1 .1 .1 .1 .1 .1 .1 .0)),
     )
-
-marched-of-requires : tie.Need-marched-of-requires
-marched-of-requires c κs = search needs
 
 same-length : tie.Need-same-length
 same-length c = search needs
@@ -45,11 +45,12 @@ returns : tie.Need-returns
 returns c =
     let at-march-again = c .before .before .before .before .before .before .before .before in
     let at-race = at-march-again .before .before .before .before .before .before .before .before .before .before .before .before .before .before .before in
-    let at-start = at-race .before .before .before .before .before .before .before .before .before .before .before .before in
+    let at-start = at-race .before .before .before .before .before .before .before .before .before .before .before .before .before in
     let a = at-start .args in
     let k = at-race .race .kept in
-    same-march (a .course .size) (a .course .most) (a .threshold) (rowsOf (a .fused-keys .now) (a .fused-distances .now) (a .fused-weights .now) (a .fused-count)) (a .keys .now) (a .cells .now) (at-race .race .last .1 .1 .1 .1 .1 .1 .1 .0) (at-race .race .last .1 .1 .1 .1 .1 .1 .1 .1 .1 .1 .0) (k .1 .1 .1 .1 .1 .1 .1 .0) (k .1 .1 .1 .1 .1 .1 .1 .1 .1 .1 .0) _ _ _ _ _
-    (at-march-again .march-again .ensures)
+    let d = at-march-again .march-again in
+    same-march (a .course .size) (a .course .most) (a .threshold) (rowsOf (a .fused-keys .now) (a .fused-distances .now) (a .fused-weights .now) (a .fused-count)) (a .keys .now) (a .cells .now) (at-race .race .last .1 .1 .1 .1 .1 .1 .1 .0) (at-race .race .last .1 .1 .1 .1 .1 .1 .1 .1 .1 .1 .0) (k .1 .1 .1 .1 .1 .1 .1 .0) (k .1 .1 .1 .1 .1 .1 .1 .1 .1 .1 .0) (d .result)
+    (d .last .1 .1 .1 .1 .1 .1 .0) (d .last .1 .1 .1 .1 .1 .1 .1 .0) (d .last .1 .1 .1 .1 .1 .1 .1 .1 .0) (d .last .1 .1 .1 .1 .1 .1 .1 .1 .1 .0) (d .ensures)
 
 same-length-5 : tie.Need-same-length-5
 same-length-5 c = search needs
@@ -65,20 +66,19 @@ same-length-8 c = search needs
 
 returns-2 : tie.Need-returns-2
 returns-2 c =
-    let at-if1 = c .before in
-    let at-outgrew = at-if1 .before in
+    let at-outgrew = c .before in
     let at-race = at-outgrew .before .before .before .before .before .before .before .before .before in
-    answered-as _ _ _ _ _ _ _ (c .marched-of .ensures)
-    (raced-marches _ _ _ _ _ _ _ (at-race .race .ensures) (sym (at-outgrew .outgrew .ensures) ∙ at-if1 .if1 .left))
+    let d = at-race .race in
+    as-lean _ _ (d .result) (d .last .1 .1 .1 .1 .1 .1 .1 .0) (d .last .1 .1 .1 .1 .1 .1 .1 .1 .0) (d .last .1 .1 .1 .1 .1 .1 .1 .1 .1 .0) (d .last .1 .1 .1 .1 .1 .1 .1 .1 .1 .1 .0) (d .ensures) (sym (at-outgrew .outgrew .ensures) ∙ c .if1 .left)
 
-pub march-rows-spec : {M : Type 1} → statement M
-march-rows-spec =
+pub march-spec : {M : Type 1} → statement M
+march-spec =
     tie.close
     (tie.spec
+    vast-requires
     race-requires
     outgrew-requires
     march-again-requires
-    marched-of-requires
     same-length
     same-length-2
     same-length-3

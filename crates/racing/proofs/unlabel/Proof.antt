@@ -1,11 +1,11 @@
--- `fronts::unlabel` meets its contract, by its tests.
+-- `racing::unlabel` meets its contract, by its tests.
 -- Assumes nothing.
 use mathlib.Core.Path.{_≡_}
 use native.Mathlib.Omega.{arith}
-use Rattle.fronts.proofs.Finishing.{unlabel-none, unlabel-other, unlabel-one}
+use Rattle.racing.proofs.Finishing.{unlabel-none, unlabel-other, unlabel-one}
 use borrow.Author.Needs.{needs}
-use Rattle.fronts.proofs.unlabel.Statement.{statement}
-use Rattle.fronts.proofs.unlabel.Tie as tie
+use Rattle.racing.proofs.unlabel.Statement.{statement}
+use Rattle.racing.proofs.unlabel.Tie as tie
 
 slice-read-if2 : tie.Need-slice-read-if2
 slice-read-if2 c = search needs

@@ -1,4 +1,4 @@
--- `fronts::take_all` meets its contract: what is left to take says what the whole does.
+-- `racing::take_all` meets its contract: what is left to take says what the whole does.
 -- Assumes nothing.
 use Prim.Native.Nat.{suc, _≤_, _-_}
 use mathlib.Core.Path.{_≡_, refl, sym, _∙_}
@@ -10,11 +10,12 @@ use Rattle.marching.specs.March.{State, seeds, takeUpTo}
 use Rattle.marching.specs.Lattice.{latticeOf}
 use Rattle.marching.specs.Spreading.{seedIn}
 use Rattle.marching.proofs.Facts.{back}
-use Rattle.fronts.specs.Fronts.{roomsOf, Sown, Emptied}
-use Rattle.fronts.proofs.Marching.{TakeAt, seeds-are, take-start, take-few, take-stop, take-more, take-finish, first-on-lattice}
+use Rattle.fronts.specs.Fronts.{roomsOf}
+use Rattle.racing.specs.Racing.{Sown, Emptied}
+use Rattle.racing.proofs.Marching.{TakeAt, seeds-are, take-start, take-few, take-stop, take-more, take-finish, first-on-lattice}
 use borrow.Author.Needs.{needs}
-use Rattle.fronts.proofs.take_all.Statement.{statement}
-use Rattle.fronts.proofs.take_all.Tie as tie
+use Rattle.racing.proofs.take_all.Statement.{statement}
+use Rattle.racing.proofs.take_all.Tie as tie
 
 abbrev Inv-loop : tie.InvT-loop
 Inv-loop lean fused-keys fused-distances fused-weights fused-count threshold course keys₀ distances₀ count estimates₀ cells₀ waiting rows₀ held₀ takings₀

@@ -19,7 +19,7 @@ use Rattle.marks.proofs.Keeping.{label-real, label-own}
 use Rattle.search.specs.Keys.{risesFrom, ascending}
 use Rattle.marching.specs.March.{MarchedRow, marchedRow, keysOf, distancesOf, distanceOf}
 use Rattle.hearing.proofs.Walking.{real-key}
-use Rattle.fronts.specs.Fronts.{unlabelled}
+use Rattle.racing.specs.Racing.{unlabelled}
 
 -- a row by the label of its key
 abbrev pub relabel : MarchedRow → MarchedRow

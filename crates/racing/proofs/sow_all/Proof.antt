@@ -1,4 +1,4 @@
--- `fronts::sow_all` meets its contract: what is left to sow says what the whole does.
+-- `racing::sow_all` meets its contract: what is left to sow says what the whole does.
 -- Assumes nothing.
 use Prim.Native.Nat.{_≤_, _-_}
 use mathlib.Core.Path.{_≡_, refl, sym, _∙_}
@@ -9,12 +9,12 @@ use Rattle.table.proofs.RowLaws.{row-at}
 use Rattle.marching.specs.Lattice.{latticeOf}
 use Rattle.marching.specs.Spreading.{seedIn}
 use Rattle.marching.proofs.Facts.{back}
 use Rattle.fronts.specs.Fronts.{roomsOf}
-use Rattle.fronts.proofs.Marching.{SowAt, rows-ascend, rows-past, seeds-are, sow-start, sow-stop, sow-more, sow-finish}
-use Rattle.fronts.proofs.Finishing.{blank-long, blank-held}
+use Rattle.racing.proofs.Marching.{SowAt, rows-ascend, rows-past, seeds-are, sow-start, sow-stop, sow-more, sow-finish}
+use Rattle.racing.proofs.Finishing.{blank-long, blank-held}
 use borrow.Author.Needs.{needs}
-use Rattle.fronts.proofs.sow_all.Statement.{statement}
-use Rattle.fronts.proofs.sow_all.Tie as tie
+use Rattle.racing.proofs.sow_all.Statement.{statement}
+use Rattle.racing.proofs.sow_all.Tie as tie
 
 abbrev Inv-loop : tie.InvT-loop
 Inv-loop lean fused-keys fused-distances fused-weights fused-count threshold course keys₀ distances₀ estimates₀ cells₀ rows₀ held₀ i₀

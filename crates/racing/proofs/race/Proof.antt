@@ -1,12 +1,12 @@
--- `fronts::race` meets its contract: seeds, takings, and the rows sorted.
+-- `racing::race` meets its contract: seeds, takings, and the rows sorted.
 -- Assumes nothing.
 use mathlib.Core.Path.{_≡_, sym, _∙_}
 use Rattle.table.specs.Table.{rowsOf}
-use Rattle.fronts.proofs.Marching.{rows-ascend, rows-lattice}
-use Rattle.fronts.proofs.Finishing.{blank-long, march-stopped, sown-all, march-halted, march-done}
+use Rattle.racing.proofs.Marching.{rows-ascend, rows-lattice}
+use Rattle.racing.proofs.Finishing.{blank-long, march-stopped, sown-all, march-halted, march-done}
 use borrow.Author.Needs.{needs}
-use Rattle.fronts.proofs.race.Statement.{statement}
-use Rattle.fronts.proofs.race.Tie as tie
+use Rattle.racing.proofs.race.Statement.{statement}
+use Rattle.racing.proofs.race.Tie as tie
 
 sow-all-requires : tie.Need-sow-all-requires
 sow-all-requires c κs =

@@ -9,7 +9,7 @@ use native.Mathlib.Nat.{suc-ne-zero}
 use native.Mathlib.Omega.{arith}
 use borrow.Author.Tests.{eq-eqb, ne-eqb}
 use lib.Dec.{eqb}
-use lib.ListN.{length, getD, set}
+use lib.ListN.{length, getD, set, replicate, length-replicate}
 use lib.Ieee.{Float, nan}
 use Rattle.floats.specs.Floats.{zero32}
 use Rattle.heap.specs.Heap.{Heaped, Scattered}
@@ -17,6 +17,7 @@ use Rattle.heap.proofs.Laws.{heaped-start, heaped-end}
 use Rattle.ids.specs.Key.{onLattice}
 use Rattle.lists.specs.Lists.{_∈_, All}
 use Rattle.lists.specs.Padding.{padded}
+use Rattle.lists.specs.Places.{filled}
 use Rattle.lists.proofs.PaddingLaws.{padded-length}
 use Rattle.marks.specs.declared.Spot.the-variants.{At}
 use Rattle.marks.specs.Marks.{label, standing, occupied}
@@ -33,21 +34,47 @@ use Rattle.marching.proofs.Sound.{after-on}
 use Rattle.neighbors.specs.Neighbors.{neighbours}
 use Rattle.hearing.specs.Hearing.{orWaits, Marked}
 use Rattle.hearing.proofs.Walking.{real-key}
 use Rattle.fronts.specs.declared.Stop.{Stop}
 use Rattle.fronts.specs.declared.Step.{Step}
 use Rattle.fronts.specs.declared.Step.the-variants.{On, Not}
-use Rattle.fronts.specs.declared.Raced.{Raced}
-use Rattle.fronts.specs.declared.Raced.the-variants as raced
-use Rattle.fronts.specs.Fronts.{marking, unlabelled, Held, roomsOf, Left, Blank, Sown, Emptied, Laid, Finished}
+use Rattle.racing.specs.declared.Raced.{Raced}
+use Rattle.racing.specs.declared.Raced.the-variants as raced
+use Rattle.fronts.specs.Fronts.{marking, Held, roomsOf, Left}
+use Rattle.racing.specs.Racing.{unlabelled, Blank, Sown, Emptied, Laid, Finished}
 use Rattle.fronts.proofs.Marking.{stored-here}
 use Rattle.fronts.proofs.Walking.{stopped-then}
-use Rattle.fronts.proofs.Marching.{same-rooms}
-use Rattle.fronts.proofs.Labelling.{relabel, labelled, keyFor, key-for, key-real, labels-ascend, distances-same, distance-labelled, labelled-from, keys-back}
+use Rattle.racing.proofs.Marching.{same-rooms}
+use Rattle.racing.proofs.Labelling.{relabel, labelled, keyFor, key-for, key-real, labels-ascend, distances-same, distance-labelled, labelled-from, keys-back}
 
 -- ---- blank lists
 
 pub blank-long : {A : Type 0} (v : A) (m : ℕ) (l : List A) → l ≡ padded v m [] → length l ≡ m
 blank-long v m l e = ap length e ∙ padded-length v m [] (omega arith)
+
+-- cleared lists of paired lengths are blank
+pub cleared :
+    (ks₀ cs₀ : List ℕ) (ds₀ es₀ : List Float) (ks cs : List ℕ) (ds es : List Float)
+    → length ds₀ ≡ length ks₀
+    → length es₀ ≡ length cs₀
+    → ks ≡ filled 0 ks₀
+    → ds ≡ filled zero32 ds₀
+    → es ≡ filled zero32 es₀
+    → cs ≡ filled 0 cs₀
+    → Blank ks ds es cs
+unfolding padded
+cleared ks₀ cs₀ ds₀ es₀ ks cs ds es p q a b c d =
+    let l : length ks ≡ length ks₀ = ap length a ∙ length-replicate (length ks₀) 0 in
+    let m : length cs ≡ length cs₀ = ap length d ∙ length-replicate (length cs₀) 0 in
+    let x : length ks₀ ≡ length ks - 0 = omega arith in
+    let y : length ds₀ ≡ length ks - 0 = omega arith in
+    let z : length es₀ ≡ length cs - 0 = omega arith in
+    let w : length cs₀ ≡ length cs - 0 = omega arith in
+    record {
+      keys = a ∙ ap (λ (i : ℕ). replicate i 0) x;
+      distances = b ∙ ap (λ (i : ℕ). replicate i zero32) y;
+      estimates = c ∙ ap (λ (i : ℕ). replicate i zero32) z;
+      cells = d ∙ ap (λ (i : ℕ). replicate i 0) w;
+    }
 
 pub blank-held : (lean : Bool) (ks : List ℕ) (ds es : List Float) (cs : List ℕ) → Blank ks ds es cs → Held lean nothing 0 ks ds 0 es cs
 unfolding padded orWaits distanceOf member ascending marking

@@ -1,8 +1,8 @@
--- `esdf::clear` meets its contract: each list is cleared.
+-- `racing::clear` meets its contract: each list is cleared.
 -- Assumes nothing.
 use borrow.Author.Needs.{needs}
-use Rattle.esdf.proofs.clear.Statement.{statement}
-use Rattle.esdf.proofs.clear.Tie as tie
+use Rattle.racing.proofs.clear.Statement.{statement}
+use Rattle.racing.proofs.clear.Tie as tie
 
 clear-u64-requires : tie.Need-clear-u64-requires
 clear-u64-requires c κs = search needs

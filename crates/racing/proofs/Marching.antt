@@ -28,13 +28,14 @@ use Rattle.marching.proofs.Lattice.{seeds-ascend}
 use Rattle.marching.proofs.Spreading.{Sowing, Known, sow-sowing, nothing-sowing, all-sown, taking-known}
 use Rattle.marching.proofs.Telling.{sow-told, settle-told, seeds-looked-up}
 use Rattle.hearing.specs.Hearing.{Lent}
 use Rattle.fronts.specs.declared.Stop.{Stop}
 use Rattle.fronts.specs.declared.Step.{Step}
 use Rattle.fronts.specs.declared.Step.the-variants.{On, Not}
-use Rattle.fronts.specs.declared.Raced.the-variants as raced
-use Rattle.fronts.specs.Fronts.{Tabled, sowIf, Held, roomsOf, Stopped, Left, ToldOnce, ToldFirst, Sown, Emptied}
+use Rattle.racing.specs.declared.Raced.the-variants as raced
+use Rattle.fronts.specs.Fronts.{Held, roomsOf, Stopped, Left, ToldOnce, ToldFirst}
+use Rattle.racing.specs.Racing.{Tabled, sowIf, Sown, Emptied}
 use Rattle.fronts.proofs.Walking.{stopped-then, stopped-by}
 use Rattle.fronts.proofs.Stepping.{uncons}
 
 -- equal rooms
 pub same-rooms : (m : Rooms) (ks cs : List ℕ) → length ks ≡ m .rows → length cs ≡ m .cells → roomsOf ks cs ≡ m

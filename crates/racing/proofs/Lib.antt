@@ -1,0 +1,4 @@
+pub mod Marching
+pub mod Labelling
+pub mod Finishing
+pub mod Leaning
