@@ -58,10 +58,13 @@ returns c =
     let at : (s : State) → Taken (a .lean) (a .key) s (a .count) (a .keys .now) (a .distances .now) (a .waiting) (a .estimates .now) (a .cells .now)
     → at-settled .settled .result ≡ settled (latticeOf (a .course)) (s .stored) (a .key) =
     λ s h. at-settled .settled .ensures (s .stored) (markingAlso (a .lean) (a .key) (s .waiting)) (h .marked) in
-    λ s h told. settle-by (a .lean) (latticeOf (a .course)) (roomsOf (a .keys .now) (a .cells .now)) (a .key) s (at-settled .settled .result) (at s h) _ _ _ _ _
-    (no-row (a .lean) (seedIn (a .threshold) (rowsOf (a .fused-keys .now) (a .fused-distances .now) (a .fused-weights .now) (a .fused-count))) (latticeOf (a .course)) (a .key) (store (length (a .keys .now)) (marchedRow (a .key) (at-settled .settled .result)) s)
-    (spread (latticeOf (a .course)) (length (a .cells .now)) (marchedRow (a .key) (at-settled .settled .result))) s _ _ _ (h .heap) (h .lattice) _ _ _
-    (at-store .store .ensures s (markingAlso (a .lean) (a .key) (s .waiting)) (marking (a .lean) (s .waiting)) (h .marked) (taken-same (a .lean) (a .key) (s .waiting))
+    let r = at-store .store in
+    λ s h told. settle-by (a .lean) (latticeOf (a .course)) (roomsOf (a .keys .now) (a .cells .now)) (a .key) s (at-settled .settled .result) (at s h) _ (r .last .1 .0) (r .last .1 .1 .0) (a .estimates .now) (a .cells .now)
+    (no-row (a .lean) (seedIn (a .threshold) (rowsOf (a .fused-keys .now) (a .fused-distances .now) (a .fused-weights .now) (a .fused-count)))
+    (latticeOf (a .course)) (a .key) (store (length (a .keys .now)) (marchedRow (a .key) (at-settled .settled .result)) s)
+    (spread (latticeOf (a .course)) (length (a .cells .now)) (marchedRow (a .key) (at-settled .settled .result))) s
+    (a .waiting) (a .estimates .now) (a .cells .now) (h .heap) (h .lattice) (r .result) (r .last .1 .0) (r .last .1 .1 .0)
+    (r .ensures s (markingAlso (a .lean) (a .key) (s .waiting)) (marking (a .lean) (s .waiting)) (h .marked) (taken-same (a .lean) (a .key) (s .waiting))
     (λ t. (h .places t, taken-spare (a .lean) (a .key) (s .waiting) t)) (finite-by (a .course) _ _ _ (at-start .pre .1 .1) (at s h)) (h .count) (h .new)) _ (at-why .why .given .1) _ _)
 
 same-length-3 : tie.Need-same-length-3
@@ -88,12 +91,21 @@ returns-2 c =
     let at : (s : State) → Taken (a .lean) (a .key) s (a .count) (a .keys .now) (a .distances .now) (a .waiting) (a .estimates .now) (a .cells .now)
     → at-settled .settled .result ≡ settled (latticeOf (a .course)) (s .stored) (a .key) =
     λ s h. at-settled .settled .ensures (s .stored) (markingAlso (a .lean) (a .key) (s .waiting)) (h .marked) in
-    λ s h told. settle-by (a .lean) (latticeOf (a .course)) (roomsOf (a .keys .now) (a .cells .now)) (a .key) s (at-settled .settled .result) (at s h) _ _ _ _ _
-    (no-cell (a .lean) (seedIn (a .threshold) (rowsOf (a .fused-keys .now) (a .fused-distances .now) (a .fused-weights .now) (a .fused-count))) (latticeOf (a .course)) (a .key) (store (length (a .keys .now)) (marchedRow (a .key) (at-settled .settled .result)) s)
-    (spread (latticeOf (a .course)) (length (a .cells .now)) (marchedRow (a .key) (at-settled .settled .result))) s _ _ _ (h .heap) (h .lattice) _ _ _
-    (at-store .store .ensures s (markingAlso (a .lean) (a .key) (s .waiting)) (marking (a .lean) (s .waiting)) (h .marked) (taken-same (a .lean) (a .key) (s .waiting))
+    let r = at-store .store in
+    let d = at-spread .spread in
+    λ s h told. settle-by (a .lean) (latticeOf (a .course)) (roomsOf (a .keys .now) (a .cells .now)) (a .key) s (at-settled .settled .result) (at s h) _
+    (d .last .1 .1 .1 .1 .1 .1 .1 .0) (d .last .1 .1 .1 .1 .1 .1 .1 .1 .0)
+    (d .last .1 .1 .1 .1 .1 .1 .1 .1 .1 .0) (d .last .1 .1 .1 .1 .1 .1 .1 .1 .1 .1 .0)
+    (no-cell (a .lean) (seedIn (a .threshold) (rowsOf (a .fused-keys .now) (a .fused-distances .now) (a .fused-weights .now) (a .fused-count)))
+    (latticeOf (a .course)) (a .key) (store (length (a .keys .now)) (marchedRow (a .key) (at-settled .settled .result)) s)
+    (spread (latticeOf (a .course)) (length (a .cells .now)) (marchedRow (a .key) (at-settled .settled .result))) s
+    (a .waiting) (a .estimates .now) (a .cells .now) (h .heap) (h .lattice) (r .result) (r .last .1 .0) (r .last .1 .1 .0)
+    (r .ensures s (markingAlso (a .lean) (a .key) (s .waiting)) (marking (a .lean) (s .waiting)) (h .marked) (taken-same (a .lean) (a .key) (s .waiting))
     (λ t. (h .places t, taken-spare (a .lean) (a .key) (s .waiting) t)) (finite-by (a .course) _ _ _ (at-start .pre .1 .1) (at s h)) (h .count) (h .new))
-    (λ t e. told-stored _ (latticeOf (a .course)) (a .key) s told _ _ t e) _ (at-rows .rows .given .1) _ _ _ _ _ (at-spread .spread .ensures) _ (at-why2 .why2 .given .1))
+    (λ t e. told-stored (seedIn (a .threshold) (rowsOf (a .fused-keys .now) (a .fused-distances .now) (a .fused-weights .now) (a .fused-count)))
+    (latticeOf (a .course)) (a .key) s told (length (a .keys .now)) (at-settled .settled .result) t e)
+    _ (at-rows .rows .given .1) (d .result) (d .last .1 .1 .1 .1 .1 .1 .1 .0) (d .last .1 .1 .1 .1 .1 .1 .1 .1 .0)
+    (d .last .1 .1 .1 .1 .1 .1 .1 .1 .1 .0) (d .last .1 .1 .1 .1 .1 .1 .1 .1 .1 .1 .0) (d .ensures) _ (at-why2 .why2 .given .1))
 
 same-length-7 : tie.Need-same-length-7
 same-length-7 c = search needs
@@ -119,12 +131,21 @@ returns-3 c =
     let at : (s : State) → Taken (a .lean) (a .key) s (a .count) (a .keys .now) (a .distances .now) (a .waiting) (a .estimates .now) (a .cells .now)
     → at-settled .settled .result ≡ settled (latticeOf (a .course)) (s .stored) (a .key) =
     λ s h. at-settled .settled .ensures (s .stored) (markingAlso (a .lean) (a .key) (s .waiting)) (h .marked) in
-    λ s h told. settle-by (a .lean) (latticeOf (a .course)) (roomsOf (a .keys .now) (a .cells .now)) (a .key) s (at-settled .settled .result) (at s h) _ _ _ _ _
-    (both-done (a .lean) (seedIn (a .threshold) (rowsOf (a .fused-keys .now) (a .fused-distances .now) (a .fused-weights .now) (a .fused-count))) (latticeOf (a .course)) (a .key) (store (length (a .keys .now)) (marchedRow (a .key) (at-settled .settled .result)) s)
-    (spread (latticeOf (a .course)) (length (a .cells .now)) (marchedRow (a .key) (at-settled .settled .result))) s _ _ _ (h .heap) (h .lattice) _ _ _
-    (at-store .store .ensures s (markingAlso (a .lean) (a .key) (s .waiting)) (marking (a .lean) (s .waiting)) (h .marked) (taken-same (a .lean) (a .key) (s .waiting))
+    let r = at-store .store in
+    let d = at-spread .spread in
+    λ s h told. settle-by (a .lean) (latticeOf (a .course)) (roomsOf (a .keys .now) (a .cells .now)) (a .key) s (at-settled .settled .result) (at s h) _
+    (d .last .1 .1 .1 .1 .1 .1 .1 .0) (d .last .1 .1 .1 .1 .1 .1 .1 .1 .0)
+    (d .last .1 .1 .1 .1 .1 .1 .1 .1 .1 .0) (d .last .1 .1 .1 .1 .1 .1 .1 .1 .1 .1 .0)
+    (both-done (a .lean) (seedIn (a .threshold) (rowsOf (a .fused-keys .now) (a .fused-distances .now) (a .fused-weights .now) (a .fused-count)))
+    (latticeOf (a .course)) (a .key) (store (length (a .keys .now)) (marchedRow (a .key) (at-settled .settled .result)) s)
+    (spread (latticeOf (a .course)) (length (a .cells .now)) (marchedRow (a .key) (at-settled .settled .result))) s
+    (a .waiting) (a .estimates .now) (a .cells .now) (h .heap) (h .lattice) (r .result) (r .last .1 .0) (r .last .1 .1 .0)
+    (r .ensures s (markingAlso (a .lean) (a .key) (s .waiting)) (marking (a .lean) (s .waiting)) (h .marked) (taken-same (a .lean) (a .key) (s .waiting))
     (λ t. (h .places t, taken-spare (a .lean) (a .key) (s .waiting) t)) (finite-by (a .course) _ _ _ (at-start .pre .1 .1) (at s h)) (h .count) (h .new))
-    (λ t e. told-stored _ (latticeOf (a .course)) (a .key) s told _ _ t e) _ (at-rows .rows .given .1) _ _ _ _ _ (at-spread .spread .ensures) _ (at-held .held .given .1))
+    (λ t e. told-stored (seedIn (a .threshold) (rowsOf (a .fused-keys .now) (a .fused-distances .now) (a .fused-weights .now) (a .fused-count)))
+    (latticeOf (a .course)) (a .key) s told (length (a .keys .now)) (at-settled .settled .result) t e)
+    _ (at-rows .rows .given .1) (d .result) (d .last .1 .1 .1 .1 .1 .1 .1 .0) (d .last .1 .1 .1 .1 .1 .1 .1 .1 .0)
+    (d .last .1 .1 .1 .1 .1 .1 .1 .1 .1 .0) (d .last .1 .1 .1 .1 .1 .1 .1 .1 .1 .1 .0) (d .ensures) _ (at-held .held .given .1))
 
 pub settle-spec : {M : Type 1} → statement M
 settle-spec =

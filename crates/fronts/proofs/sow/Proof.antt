@@ -56,10 +56,13 @@ returns c =
     let at-store = at-why .before .before .before .before .before .before in
     let at-start = at-store .before .before .before .before .before .before .before .before .before .before in
     let a = at-start .args in
+    let r = at-store .store in
     λ s h o told.
-    no-row (a .lean) (seedIn (a .threshold) (rowsOf (a .fused-keys .now) (a .fused-distances .now) (a .fused-weights .now) (a .fused-count))) (latticeOf (a .course)) (a .key) (store (length (a .keys .now)) (marchedRow (a .key) (a .distance)) s)
-    (waitAll (length (a .cells .now)) (sizeOf (a .distance)) (neighbours (a .key))) s _ _ _ (h .front .heap) (h .front .lattice) _ _ _
-    (at-store .store .ensures s (marking (a .lean) (s .waiting)) (marking (a .lean) (s .waiting)) (h .front .marked) (λ j _. refl)
+    no-row (a .lean) (seedIn (a .threshold) (rowsOf (a .fused-keys .now) (a .fused-distances .now) (a .fused-weights .now) (a .fused-count)))
+    (latticeOf (a .course)) (a .key) (store (length (a .keys .now)) (marchedRow (a .key) (a .distance)) s)
+    (waitAll (length (a .cells .now)) (sizeOf (a .distance)) (neighbours (a .key))) s (a .waiting) (a .estimates .now) (a .cells .now)
+    (h .front .heap) (h .front .lattice) (r .result) (r .last .1 .0) (r .last .1 .1 .0)
+    (r .ensures s (marking (a .lean) (s .waiting)) (marking (a .lean) (s .waiting)) (h .front .marked) (λ j _. refl)
     (λ t. (h .front .places t, sow-spare (a .lean) (a .key) (s .waiting) t)) (at-start .pre .1 .1) (h .count) o) _ (at-why .why .given .1) _ _
 
 same-length-3 : tie.Need-same-length-3
@@ -84,13 +87,23 @@ returns-2 c =
     let at-store = at-rows .before .before .before .before .before .before in
     let at-start = at-store .before .before .before .before .before .before .before .before .before .before in
     let a = at-start .args in
+    let r = at-store .store in
+    let d = at-wait-around .wait-around in
     λ s h o told.
-    no-cell (a .lean) (seedIn (a .threshold) (rowsOf (a .fused-keys .now) (a .fused-distances .now) (a .fused-weights .now) (a .fused-count))) (latticeOf (a .course)) (a .key) (store (length (a .keys .now)) (marchedRow (a .key) (a .distance)) s)
-    (waitAll (length (a .cells .now)) (sizeOf (a .distance)) (neighbours (a .key))) s _ _ _ (h .front .heap) (h .front .lattice) _ _ _
-    (at-store .store .ensures s (marking (a .lean) (s .waiting)) (marking (a .lean) (s .waiting)) (h .front .marked) (λ j _. refl)
+    no-cell (a .lean) (seedIn (a .threshold) (rowsOf (a .fused-keys .now) (a .fused-distances .now) (a .fused-weights .now) (a .fused-count)))
+    (latticeOf (a .course)) (a .key) (store (length (a .keys .now)) (marchedRow (a .key) (a .distance)) s)
+    (waitAll (length (a .cells .now)) (sizeOf (a .distance)) (neighbours (a .key))) s (a .waiting) (a .estimates .now) (a .cells .now)
+    (h .front .heap) (h .front .lattice) (r .result) (r .last .1 .0) (r .last .1 .1 .0)
+    (r .ensures s (marking (a .lean) (s .waiting)) (marking (a .lean) (s .waiting)) (h .front .marked) (λ j _. refl)
     (λ t. (h .front .places t, sow-spare (a .lean) (a .key) (s .waiting) t)) (at-start .pre .1 .1) (h .count) o)
-    (λ t e. told-stored _ (latticeOf (a .course)) (a .key) s told _ _ t e) _ (at-rows .rows .given .1) _ _ _ _ _
-    (with-size (a .lean) _ (latticeOf (a .course)) (a .key) _ _ _ _ _ _ _ _ _ _ _ _ _ _ (at-size .size .ensures) (at-wait-around .wait-around .ensures)) _ (at-why2 .why2 .given .1)
+    (λ t e. told-stored (seedIn (a .threshold) (rowsOf (a .fused-keys .now) (a .fused-distances .now) (a .fused-weights .now) (a .fused-count))) (latticeOf (a .course)) (a .key) s told (length (a .keys .now)) (a .distance) t e)
+    _ (at-rows .rows .given .1) (d .result) (d .last .1 .1 .1 .1 .1 .1 .1 .0) (d .last .1 .1 .1 .1 .1 .1 .1 .1 .0)
+    (d .last .1 .1 .1 .1 .1 .1 .1 .1 .1 .0) (d .last .1 .1 .1 .1 .1 .1 .1 .1 .1 .1 .0)
+    (with-size (a .lean) (seedIn (a .threshold) (rowsOf (a .fused-keys .now) (a .fused-distances .now) (a .fused-weights .now) (a .fused-count)))
+    (latticeOf (a .course)) (a .key) (length (a .cells .now)) (at-size .size .result) (sizeOf (a .distance)) (neighbours (a .key))
+    (r .last .1 .0) (r .last .1 .1 .0) (a .waiting) (a .estimates .now) (a .cells .now) (d .result)
+    (d .last .1 .1 .1 .1 .1 .1 .1 .0) (d .last .1 .1 .1 .1 .1 .1 .1 .1 .0)
+    (d .last .1 .1 .1 .1 .1 .1 .1 .1 .1 .0) (d .last .1 .1 .1 .1 .1 .1 .1 .1 .1 .1 .0) (at-size .size .ensures) (d .ensures)) _ (at-why2 .why2 .given .1)
 
 same-length-7 : tie.Need-same-length-7
 same-length-7 c = search needs
@@ -114,13 +127,23 @@ returns-3 c =
     let at-store = at-rows .before .before .before .before .before .before in
     let at-start = at-store .before .before .before .before .before .before .before .before .before .before in
     let a = at-start .args in
+    let r = at-store .store in
+    let d = at-wait-around .wait-around in
     λ s h o told.
-    both-done (a .lean) (seedIn (a .threshold) (rowsOf (a .fused-keys .now) (a .fused-distances .now) (a .fused-weights .now) (a .fused-count))) (latticeOf (a .course)) (a .key) (store (length (a .keys .now)) (marchedRow (a .key) (a .distance)) s)
-    (waitAll (length (a .cells .now)) (sizeOf (a .distance)) (neighbours (a .key))) s _ _ _ (h .front .heap) (h .front .lattice) _ _ _
-    (at-store .store .ensures s (marking (a .lean) (s .waiting)) (marking (a .lean) (s .waiting)) (h .front .marked) (λ j _. refl)
+    both-done (a .lean) (seedIn (a .threshold) (rowsOf (a .fused-keys .now) (a .fused-distances .now) (a .fused-weights .now) (a .fused-count)))
+    (latticeOf (a .course)) (a .key) (store (length (a .keys .now)) (marchedRow (a .key) (a .distance)) s)
+    (waitAll (length (a .cells .now)) (sizeOf (a .distance)) (neighbours (a .key))) s (a .waiting) (a .estimates .now) (a .cells .now)
+    (h .front .heap) (h .front .lattice) (r .result) (r .last .1 .0) (r .last .1 .1 .0)
+    (r .ensures s (marking (a .lean) (s .waiting)) (marking (a .lean) (s .waiting)) (h .front .marked) (λ j _. refl)
     (λ t. (h .front .places t, sow-spare (a .lean) (a .key) (s .waiting) t)) (at-start .pre .1 .1) (h .count) o)
-    (λ t e. told-stored _ (latticeOf (a .course)) (a .key) s told _ _ t e) _ (at-rows .rows .given .1) _ _ _ _ _
-    (with-size (a .lean) _ (latticeOf (a .course)) (a .key) _ _ _ _ _ _ _ _ _ _ _ _ _ _ (at-size .size .ensures) (at-wait-around .wait-around .ensures)) _ (at-held .held .given .1)
+    (λ t e. told-stored (seedIn (a .threshold) (rowsOf (a .fused-keys .now) (a .fused-distances .now) (a .fused-weights .now) (a .fused-count))) (latticeOf (a .course)) (a .key) s told (length (a .keys .now)) (a .distance) t e)
+    _ (at-rows .rows .given .1) (d .result) (d .last .1 .1 .1 .1 .1 .1 .1 .0) (d .last .1 .1 .1 .1 .1 .1 .1 .1 .0)
+    (d .last .1 .1 .1 .1 .1 .1 .1 .1 .1 .0) (d .last .1 .1 .1 .1 .1 .1 .1 .1 .1 .1 .0)
+    (with-size (a .lean) (seedIn (a .threshold) (rowsOf (a .fused-keys .now) (a .fused-distances .now) (a .fused-weights .now) (a .fused-count)))
+    (latticeOf (a .course)) (a .key) (length (a .cells .now)) (at-size .size .result) (sizeOf (a .distance)) (neighbours (a .key))
+    (r .last .1 .0) (r .last .1 .1 .0) (a .waiting) (a .estimates .now) (a .cells .now) (d .result)
+    (d .last .1 .1 .1 .1 .1 .1 .1 .0) (d .last .1 .1 .1 .1 .1 .1 .1 .1 .0)
+    (d .last .1 .1 .1 .1 .1 .1 .1 .1 .1 .0) (d .last .1 .1 .1 .1 .1 .1 .1 .1 .1 .1 .0) (at-size .size .ensures) (d .ensures)) _ (at-held .held .given .1)
 
 pub sow-spec : {M : Type 1} → statement M
 sow-spec =

@@ -1,8 +1,10 @@
 -- `fronts::spread` meets its contract, by its test.
 -- Assumes nothing.
 use mathlib.Core.Path.{_≡_, sym, _∙_}
+use Rattle.table.specs.Table.{rowsOf}
 use Rattle.marching.specs.March.{marchedRow}
 use Rattle.marching.specs.Lattice.{latticeOf}
+use Rattle.marching.specs.Spreading.{seedIn}
 use Rattle.fronts.proofs.Stepping.{number-le, spread-waits, spread-stays}
 use borrow.Author.Needs.{needs}
 use Rattle.fronts.proofs.spread.Statement.{statement}
@@ -41,8 +43,12 @@ returns c =
     let at-onward = at-spreads .before in
     let at-start = at-onward .before .before .before .before .before .before .before .before in
     let a = at-start .args in
-    spread-waits (a .lean) _ (latticeOf (a .course)) (marchedRow (a .key) (a .distance)) _ _ _ _ _ _ (at-onward .onward .ensures) _ (at-spreads .spreads .ensures)
-    (at-if1 .if1 .taken) _ _ _ _ _ (at-wait-around .wait-around .ensures)
+    let d = at-wait-around .wait-around in
+    spread-waits (a .lean) (seedIn (a .threshold) (rowsOf (a .fused-keys .now) (a .fused-distances .now) (a .fused-weights .now) (a .fused-count)))
+    (latticeOf (a .course)) (marchedRow (a .key) (a .distance)) (a .keys .now) (a .distances .now) (a .waiting) (a .estimates .now) (a .cells .now)
+    (at-onward .onward .result) (at-onward .onward .ensures) (at-spreads .spreads .result) (at-spreads .spreads .ensures)
+    (at-if1 .if1 .taken) (d .result) (d .last .1 .1 .1 .1 .1 .1 .1 .0) (d .last .1 .1 .1 .1 .1 .1 .1 .1 .0)
+    (d .last .1 .1 .1 .1 .1 .1 .1 .1 .1 .0) (d .last .1 .1 .1 .1 .1 .1 .1 .1 .1 .1 .0) (d .ensures)
 
 returns-2 : tie.Need-returns-2
 returns-2 c =
@@ -50,8 +56,9 @@ returns-2 c =
     let at-onward = at-spreads .before in
     let at-start = at-onward .before .before .before .before .before .before .before .before in
     let a = at-start .args in
-    spread-stays (a .lean) _ (latticeOf (a .course)) (marchedRow (a .key) (a .distance)) _ _ _ _ _ _ (at-onward .onward .ensures) _ (at-spreads .spreads .ensures)
-    (c .if1 .left)
+    spread-stays (a .lean) (seedIn (a .threshold) (rowsOf (a .fused-keys .now) (a .fused-distances .now) (a .fused-weights .now) (a .fused-count)))
+    (latticeOf (a .course)) (marchedRow (a .key) (a .distance)) (a .keys .now) (a .distances .now) (a .waiting) (a .estimates .now) (a .cells .now)
+    (at-onward .onward .result) (at-onward .onward .ensures) (at-spreads .spreads .result) (at-spreads .spreads .ensures) (c .if1 .left)
 
 pub spread-spec : {M : Type 1} → statement M
 spread-spec =

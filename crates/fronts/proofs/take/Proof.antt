@@ -54,8 +54,11 @@ returns c =
     let at-pop = at-known .before .before .before .before .before .before .before in
     let at-start = at-pop .before .before .before .before .before .before .before .before .before .before .before in
     let a = at-start .args in
+    let p = at-pop .pop in
     λ s h told.
-    take-skips (a .lean) (seedIn (a .threshold) (rowsOf (a .fused-keys .now) (a .fused-distances .now) (a .fused-weights .now) (a .fused-count))) (latticeOf (a .course)) s _ _ _ _ _ _ h (at-start .pre .1 .0) _ _ (at-pop .pop .ensures) (at-pop .pop .kept .1 .0) (at-known .known .result) (at-known .known .ensures)
+    take-skips (a .lean) (seedIn (a .threshold) (rowsOf (a .fused-keys .now) (a .fused-distances .now) (a .fused-weights .now) (a .fused-count)))
+    (latticeOf (a .course)) s (a .count) (a .keys .now) (a .distances .now) (a .waiting) (a .estimates .now) (a .cells .now) h (at-start .pre .1 .0)
+    (p .last .0) (p .last .1 .0) (p .ensures) (p .kept .1 .0) (at-known .known .result) (at-known .known .ensures)
     (sym (at-is-finite .is-finite .ensures) ∙ c .if1 .taken)
 
 settle-requires : tie.Need-settle-requires
@@ -87,9 +90,15 @@ returns-2 c =
     let at-pop = at-known .before .before .before .before .before .before .before in
     let at-start = at-pop .before .before .before .before .before .before .before .before .before .before .before in
     let a = at-start .args in
+    let p = at-pop .pop in
+    let d = at-settle .settle in
     λ s h told.
-    take-settles (a .lean) _ (latticeOf (a .course)) s _ _ _ _ _ _ h (at-start .pre .1 .0) _ _ (at-pop .pop .ensures) (at-pop .pop .kept .1 .0) (at-known .known .result) (at-known .known .ensures)
-    (sym (at-is-finite .is-finite .ensures) ∙ at-if1 .if1 .left) told _ _ _ _ _ (at-settle .settle .ensures)
+    take-settles (a .lean) (seedIn (a .threshold) (rowsOf (a .fused-keys .now) (a .fused-distances .now) (a .fused-weights .now) (a .fused-count)))
+    (latticeOf (a .course)) s (a .count) (a .keys .now) (a .distances .now) (a .waiting) (a .estimates .now) (a .cells .now) h (at-start .pre .1 .0)
+    (p .last .0) (p .last .1 .0) (p .ensures) (p .kept .1 .0) (at-known .known .result) (at-known .known .ensures)
+    (sym (at-is-finite .is-finite .ensures) ∙ at-if1 .if1 .left) told (d .result)
+    (d .last .1 .1 .1 .1 .1 .1 .1 .0) (d .last .1 .1 .1 .1 .1 .1 .1 .1 .0)
+    (d .last .1 .1 .1 .1 .1 .1 .1 .1 .1 .1 .0) (d .last .1 .1 .1 .1 .1 .1 .1 .1 .1 .1 .1 .0) (d .ensures)
 
 pub take-spec : {M : Type 1} → statement M
 take-spec =

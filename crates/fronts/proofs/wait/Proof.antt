@@ -1,6 +1,13 @@
 -- `fronts::wait` meets its contract, by what its mark says and the kind of march.
 -- Assumes nothing.
 use mathlib.Core.Path.{_≡_, sym, _∙_}
+use mathlib.Core.Bool.{true, false}
+use mathlib.Core.List.{[], _∷_}
+use lib.ListN.{length}
+use Rattle.table.specs.Table.{rowsOf}
+use Rattle.marching.specs.March.{wait}
+use Rattle.marching.specs.Lattice.{latticeOf}
+use Rattle.marching.specs.Spreading.{seedIn}
 use Rattle.hearing.proofs.Walking.{real-key}
 use Rattle.fronts.proofs.Marking.{wait-marked, wait-as}
 use borrow.Author.Needs.{needs}
@@ -56,7 +63,13 @@ returns-2 : tie.Need-returns-2
 returns-2 c =
     let at-wait-lean = c .before .before .before .before in
     let at-if1 = at-wait-lean .before .before .before .before .before in
-    wait-as _ _ _ _ _ _ _ _ _ _ _ _ _ _ _ _ _ (at-if1 .if1 .taken) (at-wait-lean .wait-lean .ensures)
+    let at-start = at-if1 .before .before .before .before .before .before .before .before .before .before .before .before .before in
+    let a = at-start .args in
+    let d = at-wait-lean .wait-lean in
+    wait-as (a .lean) true (seedIn (a .threshold) (rowsOf (a .fused-keys .now) (a .fused-distances .now) (a .fused-weights .now) (a .fused-count)))
+    (latticeOf (a .course)) (a .from) (a .key ∷ []) (wait (length (a .cells .now)) (a .estimate) (a .key))
+    (a .keys .now) (a .distances .now) (a .waiting) (a .estimates .now) (a .cells .now) (d .result)
+    (a .keys .now) (a .distances .now) (d .last .1 .1 .1 .1 .1 .1 .1 .1 .0) (d .last .1 .1 .1 .1 .1 .1 .1 .1 .1 .0) (at-if1 .if1 .taken) (d .ensures)
 
 same-length-6 : tie.Need-same-length-6
 same-length-6 c = search needs
@@ -74,7 +87,13 @@ returns-3 : tie.Need-returns-3
 returns-3 c =
     let at-wait-marked = c .before .before .before .before .before .before .before .before in
     let at-if1 = at-wait-marked .before .before .before .before .before in
-    wait-as _ _ _ _ _ _ _ _ _ _ _ _ _ _ _ _ _ (at-if1 .if1 .left) (λ s h told. at-wait-marked .wait-marked .ensures s h)
+    let at-start = at-if1 .before .before .before .before .before .before .before .before .before .before .before .before .before in
+    let a = at-start .args in
+    let d = at-wait-marked .wait-marked in
+    wait-as (a .lean) false (seedIn (a .threshold) (rowsOf (a .fused-keys .now) (a .fused-distances .now) (a .fused-weights .now) (a .fused-count)))
+    (latticeOf (a .course)) (a .from) (a .key ∷ []) (wait (length (a .cells .now)) (a .estimate) (a .key))
+    (a .keys .now) (a .distances .now) (a .waiting) (a .estimates .now) (a .cells .now) (d .result)
+    (d .last .0) (d .last .1 .0) (d .last .1 .1 .0) (d .last .1 .1 .1 .0) (at-if1 .if1 .left) (λ s h told. d .ensures s h)
 
 pub wait-spec : {M : Type 1} → statement M
 wait-spec =

@@ -96,12 +96,16 @@ returns c =
     let at-loop = at-loop-test .before in
     let at-start = at-loop .before .before .before .before .before .before .before .before .before .before in
     let l = at-loop in
+    let d = at-wait .wait in
     let a = at-start .args in
-    rest-stop (a .lean) _ (latticeOf (a .course)) (a .key) (a .estimate) (neighbours (a .key)) _ (l .loop .inv .0) (neighbours-once (a .key)) (a .keys .now) (a .distances .now) (a .waiting)
+    rest-stop (a .lean) (seedIn (a .threshold) (rowsOf (a .fused-keys .now) (a .fused-distances .now) (a .fused-weights .now) (a .fused-count)))
+    (latticeOf (a .course)) (a .key) (a .estimate) (neighbours (a .key)) _ (l .loop .inv .0) (neighbours-once (a .key)) (a .keys .now) (a .distances .now) (a .waiting)
     (a .estimates .now) (a .cells .now)
     (l .loop .i) (l .loop .keys) (l .loop .distances) (l .loop .held)
     (l .loop .estimates) (l .loop .cells) (l .loop .inv .8) (l .loop .inv .7)
-    (omega (arith, at-loop-test .loop-test .taken, l .loop .inv .1)) _ _ _ _ _ (at-wait .wait .ensures) _ (at-why .why .given .1)
+    (omega (arith, at-loop-test .loop-test .taken, l .loop .inv .1)) (d .result)
+    (d .last .1 .1 .1 .1 .1 .1 .1 .0) (d .last .1 .1 .1 .1 .1 .1 .1 .1 .0)
+    (d .last .1 .1 .1 .1 .1 .1 .1 .1 .1 .0) (d .last .1 .1 .1 .1 .1 .1 .1 .1 .1 .1 .0) (d .ensures) _ (at-why .why .given .1)
 
 enum-known-more : tie.Need-enum-known-more Inv-loop μ-loop
 enum-known-more c = search needs
@@ -122,6 +126,7 @@ loop-again c =
     let l = at-loop in
     let i = l .loop .inv in
     let k = at-wait .wait .kept in
+    let d = at-wait .wait in
     let a = at-start .args in (
       i .0,
       i .1,
@@ -131,11 +136,14 @@ loop-again c =
       k .1 .1 .1 .1 .1 .1 .1 .1 .0 ∙ i .5,
       k .1 .1 .1 .1 .1 .1 .1 .1 .1 .0 ∙ i .6,
       k .1 .1 .1 .1 .1 .1 .1 .1 .1 .1 .0 ∙ i .7,
-      rest-more (a .lean) _ (latticeOf (a .course)) (a .key) (a .estimate) (neighbours (a .key)) _ (l .loop .inv .0) (neighbours-once (a .key)) (a .keys .now) (a .distances .now) (a .waiting)
+      rest-more (a .lean) (seedIn (a .threshold) (rowsOf (a .fused-keys .now) (a .fused-distances .now) (a .fused-weights .now) (a .fused-count)))
+          (latticeOf (a .course)) (a .key) (a .estimate) (neighbours (a .key)) _ (l .loop .inv .0) (neighbours-once (a .key)) (a .keys .now) (a .distances .now) (a .waiting)
           (a .estimates .now) (a .cells .now)
           (l .loop .i) (l .loop .keys) (l .loop .distances) (l .loop .held)
           (l .loop .estimates) (l .loop .cells) (l .loop .inv .8) (i .7)
-          (omega (arith, at-loop-test .loop-test .taken, i .1)) _ _ _ _ _ (at-wait .wait .ensures) _ (at-more .more .given .1),
+          (omega (arith, at-loop-test .loop-test .taken, i .1)) (d .result)
+          (d .last .1 .1 .1 .1 .1 .1 .1 .0) (d .last .1 .1 .1 .1 .1 .1 .1 .1 .0)
+          (d .last .1 .1 .1 .1 .1 .1 .1 .1 .1 .0) (d .last .1 .1 .1 .1 .1 .1 .1 .1 .1 .1 .0) (d .ensures) _ (at-more .more .given .1),
     )
 
 same-length-5 : tie.Need-same-length-5 Inv-loop μ-loop
@@ -156,7 +164,8 @@ returns-2 c =
     let at-start = at-loop .before .before .before .before .before .before .before .before .before .before in
     let l = at-loop in
     let a = at-start .args in
-    rest-none (a .lean) _ (latticeOf (a .course)) (a .key) (a .estimate) (neighbours (a .key)) _ (l .loop .inv .0) (neighbours-once (a .key)) (a .keys .now) (a .distances .now) (a .waiting)
+    rest-none (a .lean) (seedIn (a .threshold) (rowsOf (a .fused-keys .now) (a .fused-distances .now) (a .fused-weights .now) (a .fused-count)))
+    (latticeOf (a .course)) (a .key) (a .estimate) (neighbours (a .key)) _ (l .loop .inv .0) (neighbours-once (a .key)) (a .keys .now) (a .distances .now) (a .waiting)
     (a .estimates .now) (a .cells .now)
     (l .loop .i) (l .loop .keys) (l .loop .distances) (l .loop .held)
     (l .loop .estimates) (l .loop .cells) (l .loop .inv .8) (omega (arith, l .loop .inv .1, c .loop-test .left))
