@@ -93,7 +93,10 @@ ToldOnce seed f k s =
 -- once the first waiting cell is taken and stored, it is told of its neighbours who waits
 abbrev pub ToldFirst : (ℕ → Bool) → Field → State → Type 0
 ToldFirst seed f s =
-    (c : Cell) (cs : List Cell) → s .waiting ≡ c ∷ cs → isStored (c .key) (s .stored) ≡ false → ToldOnce seed f (c .key) (state (s .stored) cs (suc (s .takings)))
+    (c : Cell) (cs : List Cell)
+    → s .waiting ≡ c ∷ cs
+    → isStored (c .key) (s .stored) ≡ false
+    → ToldOnce seed f (c .key) (state (s .stored) cs (suc (s .takings)))
 
 -- what a step does to lists that hold a state: some neighbours of k wait
 abbrev pub DoesWait : Bool → (ℕ → Bool) → Field → ℕ → List ℕ → (State → Going) → List ℕ → List Float → ℕ → List Float → List ℕ → Placed → List ℕ

@@ -98,7 +98,8 @@ fn wait_lean(
     from: u64,
     key: u64,
 ) -> Placed
-    requires { ⌜ Lent (now «fused_keys») (now «fused_distances») (now «fused_weights») «fused_count» × Paired (now keys) (now distances) (now estimates) (now cells) ⌝ }
+    requires { ⌜ Lent (now «fused_keys») (now «fused_distances») (now «fused_weights») «fused_count»
+        × Paired (now keys) (now distances) (now estimates) (now cells) ⌝ }
     requires { ⌜ (spotOf key (now keys) ≡ Absent place) × ((onLattice key ≡ true) × (eq estimate estimate ≡ true)) ⌝ }
     ensures { λ r. ⌜ DoesWait true (seedIn threshold
         (rowsOf (now («fused_keys» .entry)) (now («fused_distances» .entry)) (now («fused_weights» .entry)) «fused_count»)) (latticeOf course) from (key ∷ [])
@@ -145,7 +146,8 @@ fn wait(
     from: u64,
     key: u64,
 ) -> Placed
-    requires { ⌜ Lent (now «fused_keys») (now «fused_distances») (now «fused_weights») «fused_count» × Paired (now keys) (now distances) (now estimates) (now cells) ⌝ }
+    requires { ⌜ Lent (now «fused_keys») (now «fused_distances») (now «fused_weights») «fused_count»
+        × Paired (now keys) (now distances) (now estimates) (now cells) ⌝ }
     requires { ⌜ (onLattice key ≡ true) × (eq estimate estimate ≡ true) ⌝ }
     ensures { λ r. ⌜ DoesWait lean (seedIn threshold
         (rowsOf (now («fused_keys» .entry)) (now («fused_distances» .entry)) (now («fused_weights» .entry)) «fused_count»)) (latticeOf course) from (key ∷ [])
@@ -204,11 +206,14 @@ fn wait_around(
     estimate: f32,
     key: u64,
 ) -> Placed
-    requires { ⌜ Lent (now «fused_keys») (now «fused_distances») (now «fused_weights») «fused_count» × Paired (now keys) (now distances) (now estimates) (now cells) ⌝ }
+    requires { ⌜ Lent (now «fused_keys») (now «fused_distances») (now «fused_weights») «fused_count»
+        × Paired (now keys) (now distances) (now estimates) (now cells) ⌝ }
     requires { ⌜ (onLattice key ≡ true) × (eq estimate estimate ≡ true) ⌝ }
     ensures { λ r. ⌜ DoesWait lean (seedIn threshold
-        (rowsOf (now («fused_keys» .entry)) (now («fused_distances» .entry)) (now («fused_weights» .entry)) «fused_count»)) (latticeOf course) key (neighbours key)
-        (waitAll (length (now (cells .entry))) estimate (neighbours key)) (now (keys .entry)) (now (distances .entry)) waiting (now (estimates .entry)) (now (cells .entry)) r
+        (rowsOf (now («fused_keys» .entry)) (now («fused_distances» .entry)) (now («fused_weights» .entry)) «fused_count»))
+        (latticeOf course) key (neighbours key)
+        (waitAll (length (now (cells .entry))) estimate (neighbours key)) (now (keys .entry)) (now (distances .entry)) waiting (now (estimates .entry))
+        (now (cells .entry)) r
         (now (keys .exit)) (now (distances .exit)) (now (estimates .exit)) (now (cells .exit)) ⌝ }
 {
     let near = neighbors::around(key);
@@ -297,11 +302,13 @@ pub fn sow(
     key: u64,
     distance: f32,
 ) -> Step
-    requires { ⌜ Lent (now «fused_keys») (now «fused_distances») (now «fused_weights») «fused_count» × Paired (now keys) (now distances) (now estimates) (now cells) ⌝ }
+    requires { ⌜ Lent (now «fused_keys») (now «fused_distances») (now «fused_weights») «fused_count»
+        × Paired (now keys) (now distances) (now estimates) (now cells) ⌝ }
     requires { ⌜ (onLattice key ≡ true) × (isFinite distance ≡ true) ⌝ }
     ensures { λ r. ⌜ DoesSow lean (seedIn threshold
         (rowsOf (now («fused_keys» .entry)) (now («fused_distances» .entry)) (now («fused_weights» .entry)) «fused_count»)) (latticeOf course) key
-        (sow neighbours (roomsOf (now (keys .entry)) (now (cells .entry))) (marchedRow key distance)) count (now (keys .entry)) (now (distances .entry)) waiting (now (estimates .entry)) (now (cells .entry)) r
+        (sow neighbours (roomsOf (now (keys .entry)) (now (cells .entry))) (marchedRow key distance)) count (now (keys .entry)) (now (distances .entry))
+        waiting (now (estimates .entry)) (now (cells .entry)) r
         (now (keys .exit)) (now (distances .exit)) (now (estimates .exit)) (now (cells .exit)) ⌝ }
 {
     match store(lean, keys, distances, count, key, distance) {
@@ -347,11 +354,14 @@ fn spread(
     key: u64,
     distance: f32,
 ) -> Placed
-    requires { ⌜ Lent (now «fused_keys») (now «fused_distances») (now «fused_weights») «fused_count» × Paired (now keys) (now distances) (now estimates) (now cells) ⌝ }
+    requires { ⌜ Lent (now «fused_keys») (now «fused_distances») (now «fused_weights») «fused_count»
+        × Paired (now keys) (now distances) (now estimates) (now cells) ⌝ }
     requires { ⌜ onLattice key ≡ true ⌝ }
     ensures { λ r. ⌜ DoesWait lean (seedIn threshold
-        (rowsOf (now («fused_keys» .entry)) (now («fused_distances» .entry)) (now («fused_weights» .entry)) «fused_count»)) (latticeOf course) key (neighbours key)
-        (spread (latticeOf course) (length (now (cells .entry))) (marchedRow key distance)) (now (keys .entry)) (now (distances .entry)) waiting (now (estimates .entry)) (now (cells .entry)) r
+        (rowsOf (now («fused_keys» .entry)) (now («fused_distances» .entry)) (now («fused_weights» .entry)) «fused_count»))
+        (latticeOf course) key (neighbours key)
+        (spread (latticeOf course) (length (now (cells .entry))) (marchedRow key distance)) (now (keys .entry)) (now (distances .entry)) waiting
+        (now (estimates .entry)) (now (cells .entry)) r
         (now (keys .exit)) (now (distances .exit)) (now (estimates .exit)) (now (cells .exit)) ⌝ }
 {
     let estimate = onward(course, distance);
@@ -394,11 +404,13 @@ fn settle(
     waiting: usize,
     key: u64,
 ) -> Step
-    requires { ⌜ Lent (now «fused_keys») (now «fused_distances») (now «fused_weights») «fused_count» × Paired (now keys) (now distances) (now estimates) (now cells) ⌝ }
+    requires { ⌜ Lent (now «fused_keys») (now «fused_distances») (now «fused_weights») «fused_count»
+        × Paired (now keys) (now distances) (now estimates) (now cells) ⌝ }
     requires { ⌜ (onLattice key ≡ true) × Fair course ⌝ }
     ensures { λ r. ⌜ DoesSettle lean (seedIn threshold
         (rowsOf (now («fused_keys» .entry)) (now («fused_distances» .entry)) (now («fused_weights» .entry)) «fused_count»)) (latticeOf course) key
-        (settle (latticeOf course) (roomsOf (now (keys .entry)) (now (cells .entry))) key) count (now (keys .entry)) (now (distances .entry)) waiting (now (estimates .entry)) (now (cells .entry)) r
+        (settle (latticeOf course) (roomsOf (now (keys .entry)) (now (cells .entry))) key) count (now (keys .entry)) (now (distances .entry)) waiting
+        (now (estimates .entry)) (now (cells .entry)) r
         (now (keys .exit)) (now (distances .exit)) (now (estimates .exit)) (now (cells .exit)) ⌝ }
 {
     let distance = settled(keys, distances, course, key);
@@ -444,11 +456,13 @@ pub fn take(
     cells: &mut [u64],
     waiting: usize,
 ) -> Step
-    requires { ⌜ Lent (now «fused_keys») (now «fused_distances») (now «fused_weights») «fused_count» × Paired (now keys) (now distances) (now estimates) (now cells) ⌝ }
+    requires { ⌜ Lent (now «fused_keys») (now «fused_distances») (now «fused_weights») «fused_count»
+        × Paired (now keys) (now distances) (now estimates) (now cells) ⌝ }
     requires { ⌜ (0 < waiting) × ((waiting ≤ length (now cells)) × (Fair course × (onLattice (getD (now cells) 0 0) ≡ true))) ⌝ }
     ensures { λ r. ⌜ DoesTake lean (seedIn threshold
         (rowsOf (now («fused_keys» .entry)) (now («fused_distances» .entry)) (now («fused_weights» .entry)) «fused_count»)) (latticeOf course)
-        (take (latticeOf course) (roomsOf (now (keys .entry)) (now (cells .entry)))) count (now (keys .entry)) (now (distances .entry)) waiting (now (estimates .entry)) (now (cells .entry)) r
+        (take (latticeOf course) (roomsOf (now (keys .entry)) (now (cells .entry)))) count (now (keys .entry)) (now (distances .entry)) waiting
+        (now (estimates .entry)) (now (cells .entry)) r
         (now (keys .exit)) (now (distances .exit)) (now (estimates .exit)) (now (cells .exit)) ⌝ }
 {
     let key = cells[0];

@@ -97,7 +97,9 @@ distance-labelled k (r ∷ rs) n a =
     cases (λ (b : Bool). eqb (r .key) k ≡ b → distanceOf (label k) (labelled (r ∷ rs)) ≡ cond b (some (r .distance)) (distanceOf k rs)) (eqb (r .key) k)
     (λ _ e. rw (eq-eqb (label (r .key)) (label k) (ap label (eqb-true (r .key) k e))))
     (λ _ e.
-    rw (ne-eqb (label (r .key)) (label k) (λ q. eqb-false (r .key) k e (label-own (r .key) k (real-key (r .key) (a .0)) n q)), distance-labelled k rs n (a .1))) refl
+    rw
+    (ne-eqb (label (r .key)) (label k) (λ q. eqb-false (r .key) k e (label-own (r .key) k (real-key (r .key) (a .0)) n q)), distance-labelled k rs n (a .1)))
+    refl
 
 -- a row of the labelled ones is one of the rows, labelled
 pub labelled-from : (r : MarchedRow) (rs : List MarchedRow) → r ∈ labelled rs → (q : MarchedRow) × ((q ∈ rs) × (r ≡ relabel q))
@@ -116,4 +118,6 @@ keys-back n [] a h = blank (n - 0)
     blank : (m : ℕ) → unlabelled (replicate m 0) ≡ replicate {A = ℕ} m 0
     blank zero = refl
     blank (suc m) = refl
-keys-back n (r ∷ rs) a h = λ i. key-back (r .key) (real-key (r .key) (a .0)) i ∷ (rest-same (r .key) rs h i ++ replicate (n - suc (length (rest-same (r .key) rs h i))) 0)
+keys-back n (r ∷ rs) a h =
+    λ i.
+    key-back (r .key) (real-key (r .key) (a .0)) i ∷ (rest-same (r .key) rs h i ++ replicate (n - suc (length (rest-same (r .key) rs h i))) 0)

@@ -44,7 +44,8 @@ same-rooms m ks cs p q = ap (λ (x : ℕ). rooms x (length cs)) p ∙ ap (λ (x 
 -- ---- takings
 
 -- after k takings: the state, and how many takings are left of the whole
-pub record TakeAt (lean : Bool) (seed : ℕ → Bool) (f : Field) (m : Rooms) (whole : Going) (k n : ℕ) (ks : List ℕ) (ds : List Float) (w : ℕ) (es : List Float) (cs : List ℕ) : Type 0 where
+pub record TakeAt (lean : Bool) (seed : ℕ → Bool) (f : Field) (m : Rooms) (whole : Going) (k n : ℕ) (ks : List ℕ) (ds : List Float) (w : ℕ)
+    (es : List Float) (cs : List ℕ) : Type 0 where
   pub now : State
   pub sound : Sound m k now
   pub known : Known f seed now
@@ -103,7 +104,8 @@ module _ (lean : Bool) (seed : ℕ → Bool) (f : Field) (back : (k l : ℕ) →
     done : (o : Step) → r ≡ o → Left lean (march.take f m (at .now)) o ks' ds' es' cs'
     done o e =
         subst (λ (x : Rooms). Left lean (march.take f x (at .now)) o ks' ds' es' cs') (same-rooms m ks cs p q)
-        (subst (λ (x : Step). Left lean (march.take f (roomsOf ks cs) (at .now)) x ks' ds' es' cs') e (did (at .now) (at .held) (told-first seed f (at .now) (at .known))))
+        (subst (λ (x : Step). Left lean (march.take f (roomsOf ks cs) (at .now)) x ks' ds' es' cs') e
+        (did (at .now) (at .held) (told-first seed f (at .now) (at .known))))
 
     pub take-stop : (why : Stop) → r ≡ Not why → Stopped lean whole why
     unfolding Left
@@ -293,7 +295,8 @@ module _ (lean : Bool) (seed : ℕ → Bool) (f : Field) (back : (k l : ℕ) →
       sown : (o : Step) → r ≡ o → Left lean (sowIf t (f .near) m x (at .now)) o ks' ds' es' cs'
       sown o e =
           subst (λ (z : Rooms). Left lean (sowIf t (f .near) z x (at .now)) o ks' ds' es' cs') (same-rooms m ks cs p q)
-          (subst (λ (z : Step). Left lean (sowIf t (f .near) (roomsOf ks cs) x (at .now)) z ks' ds' es' cs') e (did (at .now) (at .held) sow-new (seed-told f seed t x (drop (suc i) rs) (at .now) sowing-here)))
+          (subst (λ (z : Step). Left lean (sowIf t (f .near) (roomsOf ks cs) x (at .now)) z ks' ds' es' cs') e
+          (did (at .now) (at .held) sow-new (seed-told f seed t x (drop (suc i) rs) (at .now) sowing-here)))
 
       pub sow-stop : (why : Stop) → r ≡ Not why → Left lean (sowAll (f .near) m (seeds t rs) nothing) (Not why) ks' ds' es' cs'
       unfolding Left

@@ -52,7 +52,8 @@ fn sow_if(
     distance: f32,
     weight: f32,
 ) -> Step
-    requires { ⌜ Lent (now «fused_keys») (now «fused_distances») (now «fused_weights») «fused_count» × Paired (now keys) (now distances) (now estimates) (now cells) ⌝ }
+    requires { ⌜ Lent (now «fused_keys») (now «fused_distances») (now «fused_weights») «fused_count»
+        × Paired (now keys) (now distances) (now estimates) (now cells) ⌝ }
     requires { ⌜ (onLattice key ≡ true) × (isFinite distance ≡ true) ⌝ }
     ensures { λ r. ⌜ ((s : State)
         → Held lean s count (now (keys .entry)) (now (distances .entry)) waiting (now (estimates .entry)) (now (cells .entry))
@@ -99,7 +100,8 @@ fn sow_all(
     estimates: &mut [f32],
     cells: &mut [u64],
 ) -> Step
-    requires { ⌜ Tabled (now «fused_keys») (now «fused_distances») (now «fused_weights») «fused_count» × Blank (now keys) (now distances) (now estimates) (now cells) ⌝ }
+    requires { ⌜ Tabled (now «fused_keys») (now «fused_distances») (now «fused_weights») «fused_count»
+        × Blank (now keys) (now distances) (now estimates) (now cells) ⌝ }
     ensures { λ r. ⌜ Left lean (sowAll neighbours (roomsOf (now (keys .entry)) (now (cells .entry))) (seeds threshold
         (rowsOf (now («fused_keys» .entry)) (now («fused_distances» .entry)) (now («fused_weights» .entry)) «fused_count»)) nothing) r
         (now (keys .exit)) (now (distances .exit)) (now (estimates .exit)) (now (cells .exit)) ⌝ }
@@ -217,7 +219,8 @@ fn race(
     estimates: &mut [f32],
     cells: &mut [u64],
 ) -> Raced
-    requires { ⌜ (Tabled (now «fused_keys») (now «fused_distances») (now «fused_weights») «fused_count» × Fair course) × Blank (now keys) (now distances) (now estimates) (now cells) ⌝ }
+    requires { ⌜ (Tabled (now «fused_keys») (now «fused_distances») (now «fused_weights») «fused_count» × Fair course)
+        × Blank (now keys) (now distances) (now estimates) (now cells) ⌝ }
     ensures { λ r. ⌜ Finished lean (marchFrom (course .size) (course .most) (roomsOf (now (keys .entry)) (now (cells .entry))) threshold
         (rowsOf (now («fused_keys» .entry)) (now («fused_distances» .entry)) (now («fused_weights» .entry)) «fused_count»)) r
         (now (keys .exit)) (now (distances .exit)) (now (estimates .exit)) (now (cells .exit)) ⌝ }

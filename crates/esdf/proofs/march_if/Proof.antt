@@ -1,5 +1,8 @@
 -- `esdf::march_if` meets its contract: a verdict that refuses is the answer, another lets the march begin.
 -- Assumes nothing.
+use Rattle.table.specs.Table.{rowsOf}
+use Rattle.marching.specs.Lattice.{marchFrom}
+use Rattle.fronts.specs.Fronts.{roomsOf}
 use Rattle.esdf.proofs.Computing.{refused-first, passed-first}
 use Rattle.esdf.proofs.Answering.{answered}
 use borrow.Author.Needs.{needs}
@@ -40,9 +43,16 @@ returns-2 : tie.Need-returns-2
 returns-2 c =
     let at-march = c .before .before .before .before .before .before .before .before .before in
     let at-enum-told = at-march .before .before .before .before .before in
+    let at-start = at-enum-told .before .before .before .before .before .before .before .before .before in
+    let a = at-start .args in
     let d = at-march .march in
-    passed-first _ _ _ _ _ _ _ (at-enum-told .enum-told .given .1)
-    (answered _ (d .result) _ _ _ _ _ (c .marched-of .ensures) (d .ensures))
+    let g =
+    marchFrom (a .course .size) (a .course .most) (roomsOf (a .keys .now) (a .cells .now)) (a .threshold)
+    (rowsOf (a .fused-keys .now) (a .fused-distances .now) (a .fused-weights .now) (a .fused-count)) in
+    passed-first (a .verdict) g (d .last .1 .1 .1 .1 .1 .1 .0) (d .last .1 .1 .1 .1 .1 .1 .1 .0)
+    (d .last .1 .1 .1 .1 .1 .1 .1 .1 .0) (d .last .1 .1 .1 .1 .1 .1 .1 .1 .1 .0) (c .marched-of .result) (at-enum-told .enum-told .given .1)
+    (answered g (d .result) (c .marched-of .result) (d .last .1 .1 .1 .1 .1 .1 .0) (d .last .1 .1 .1 .1 .1 .1 .1 .0)
+    (d .last .1 .1 .1 .1 .1 .1 .1 .1 .0) (d .last .1 .1 .1 .1 .1 .1 .1 .1 .1 .0) (c .marched-of .ensures) (d .ensures))
 
 pub march-if-spec : {M : Type 1} → statement M
 march-if-spec =

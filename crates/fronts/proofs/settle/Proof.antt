@@ -59,13 +59,15 @@ returns c =
     → at-settled .settled .result ≡ settled (latticeOf (a .course)) (s .stored) (a .key) =
     λ s h. at-settled .settled .ensures (s .stored) (markingAlso (a .lean) (a .key) (s .waiting)) (h .marked) in
     let r = at-store .store in
-    λ s h told. settle-by (a .lean) (latticeOf (a .course)) (roomsOf (a .keys .now) (a .cells .now)) (a .key) s (at-settled .settled .result) (at s h) _ (r .last .1 .0) (r .last .1 .1 .0) (a .estimates .now) (a .cells .now)
+    λ s h told. settle-by (a .lean) (latticeOf (a .course)) (roomsOf (a .keys .now) (a .cells .now)) (a .key) s (at-settled .settled .result) (at s h) _
+    (r .last .1 .0) (r .last .1 .1 .0) (a .estimates .now) (a .cells .now)
     (no-row (a .lean) (seedIn (a .threshold) (rowsOf (a .fused-keys .now) (a .fused-distances .now) (a .fused-weights .now) (a .fused-count)))
     (latticeOf (a .course)) (a .key) (store (length (a .keys .now)) (marchedRow (a .key) (at-settled .settled .result)) s)
     (spread (latticeOf (a .course)) (length (a .cells .now)) (marchedRow (a .key) (at-settled .settled .result))) s
     (a .waiting) (a .estimates .now) (a .cells .now) (h .heap) (h .lattice) (r .result) (r .last .1 .0) (r .last .1 .1 .0)
     (r .ensures s (markingAlso (a .lean) (a .key) (s .waiting)) (marking (a .lean) (s .waiting)) (h .marked) (taken-same (a .lean) (a .key) (s .waiting))
-    (λ t. (h .places t, taken-spare (a .lean) (a .key) (s .waiting) t)) (finite-by (a .course) _ _ _ (at-start .pre .1 .1) (at s h)) (h .count) (h .new)) _ (at-why .why .given .1) _ _)
+    (λ t. (h .places t, taken-spare (a .lean) (a .key) (s .waiting) t)) (finite-by (a .course) _ _ _ (at-start .pre .1 .1) (at s h)) (h .count) (h .new)) _
+    (at-why .why .given .1) _ _)
 
 same-length-3 : tie.Need-same-length-3
 same-length-3 c = search needs

@@ -14,7 +14,8 @@ returns c =
     let at-start = c .before .before .before in
     let a = at-start .args in
     let p = at-start .pre in
-    λ s ws vs h same spare f n o. store-full (a .lean) (a .key) (p .1) (a .distance) f s ws vs (a .count) (a .keys .now) (a .distances .now) h same spare n o (c .if1 .taken)
+    λ s ws vs h same spare f n o. store-full (a .lean) (a .key) (p .1) (a .distance) f s ws vs (a .count) (a .keys .now) (a .distances .now) h same spare n o
+    (c .if1 .taken)
 
 find-requires : tie.Need-find-requires
 find-requires c κs = search needs
@@ -64,7 +65,8 @@ returns-2 c =
     let p = at-start .pre in
     λ s ws vs h same spare f n o.
     store-none (a .lean) (a .key) (p .1) (a .distance) f s ws vs (a .count) (a .keys .now) (a .distances .now) h same spare n o (at-if1 .if1 .left)
-    (not-entered _ _ _ _ _ _ _ _ (at-enter .enter .ensures) (not-true _ (c .if2 .taken)) (h .kept) (h .long) (sym (at-find .find .ensures) ∙ at-place2 .place2 .given .1)) _ _
+    (not-entered _ _ _ _ _ _ _ _ (at-enter .enter .ensures) (not-true _ (c .if2 .taken)) (h .kept) (h .long)
+    (sym (at-find .find .ensures) ∙ at-place2 .place2 .given .1)) _ _
 
 add-t25 : tie.Need-add-t25
 add-t25 c = search needs
@@ -84,7 +86,8 @@ returns-3 c =
     let a = at-start .args in
     let p = at-start .pre in
     λ s ws vs h same spare f n o.
-    store-at (a .lean) (a .key) (p .1) (a .distance) f s ws vs (a .count) (a .keys .now) (a .distances .now) h same spare n o (at-if1 .if1 .left) _ (sym (at-find .find .ensures) ∙ at-place .place .given .1)
+    store-at (a .lean) (a .key) (p .1) (a .distance) f s ws vs (a .count) (a .keys .now) (a .distances .now) h same spare n o (at-if1 .if1 .left) _
+    (sym (at-find .find .ensures) ∙ at-place .place .given .1)
 
 same-length-5 : tie.Need-same-length-5
 same-length-5 c = search needs
@@ -103,7 +106,8 @@ returns-4 c =
     let p = at-start .pre in
     λ s ws vs h same spare f n o.
     store-put (a .lean) (a .key) (p .1) (a .distance) f s ws vs (a .count) (a .keys .now) (a .distances .now) h same spare n o (at-if1 .if1 .left) _ _
-    (entered-by _ _ _ _ _ _ _ _ (at-enter .enter .ensures) (not-false _ (c .if2 .left)) (h .kept) (h .long) (sym (at-find .find .ensures) ∙ at-place2 .place2 .given .1))
+    (entered-by _ _ _ _ _ _ _ _ (at-enter .enter .ensures) (not-false _ (c .if2 .left)) (h .kept) (h .long)
+    (sym (at-find .find .ensures) ∙ at-place2 .place2 .given .1))
 
 pub store-spec : {M : Type 1} → statement M
 store-spec =

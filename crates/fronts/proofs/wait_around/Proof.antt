@@ -52,7 +52,8 @@ loop-holds c =
       refl,
       refl,
       refl,
-      rest-all (a .lean) _ (latticeOf (a .course)) (a .key) (a .estimate) (neighbours (a .key)) _ (f .0) (neighbours-once (a .key)) (a .keys .now) (a .distances .now)
+      rest-all (a .lean) _ (latticeOf (a .course)) (a .key) (a .estimate) (neighbours (a .key)) _ (f .0) (neighbours-once (a .key)) (a .keys .now)
+          (a .distances .now)
           (a .waiting) (a .estimates .now) (a .cells .now),
     )
 
@@ -99,7 +100,8 @@ returns c =
     let d = at-wait .wait in
     let a = at-start .args in
     rest-stop (a .lean) (seedIn (a .threshold) (rowsOf (a .fused-keys .now) (a .fused-distances .now) (a .fused-weights .now) (a .fused-count)))
-    (latticeOf (a .course)) (a .key) (a .estimate) (neighbours (a .key)) _ (l .loop .inv .0) (neighbours-once (a .key)) (a .keys .now) (a .distances .now) (a .waiting)
+    (latticeOf (a .course)) (a .key) (a .estimate) (neighbours (a .key)) _ (l .loop .inv .0) (neighbours-once (a .key)) (a .keys .now) (a .distances .now)
+    (a .waiting)
     (a .estimates .now) (a .cells .now)
     (l .loop .i) (l .loop .keys) (l .loop .distances) (l .loop .held)
     (l .loop .estimates) (l .loop .cells) (l .loop .inv .8) (l .loop .inv .7)
@@ -132,12 +134,13 @@ loop-again c =
       i .1,
       i .2,
       omega (arith, at-loop-test .loop-test .taken),
-      k .1 .1 .1 .1 .1 .1 .1 .0 ∙ i .4,
-      k .1 .1 .1 .1 .1 .1 .1 .1 .0 ∙ i .5,
-      k .1 .1 .1 .1 .1 .1 .1 .1 .1 .0 ∙ i .6,
-      k .1 .1 .1 .1 .1 .1 .1 .1 .1 .1 .0 ∙ i .7,
+      _∙_ {b = length (l .loop .keys)} (k .1 .1 .1 .1 .1 .1 .1 .0) (i .4),
+      _∙_ {b = length (l .loop .distances)} (k .1 .1 .1 .1 .1 .1 .1 .1 .0) (i .5),
+      _∙_ {b = length (l .loop .estimates)} (k .1 .1 .1 .1 .1 .1 .1 .1 .1 .0) (i .6),
+      _∙_ {b = length (l .loop .cells)} (k .1 .1 .1 .1 .1 .1 .1 .1 .1 .1 .0) (i .7),
       rest-more (a .lean) (seedIn (a .threshold) (rowsOf (a .fused-keys .now) (a .fused-distances .now) (a .fused-weights .now) (a .fused-count)))
-          (latticeOf (a .course)) (a .key) (a .estimate) (neighbours (a .key)) _ (l .loop .inv .0) (neighbours-once (a .key)) (a .keys .now) (a .distances .now) (a .waiting)
+          (latticeOf (a .course)) (a .key) (a .estimate) (neighbours (a .key)) _ (l .loop .inv .0) (neighbours-once (a .key)) (a .keys .now)
+          (a .distances .now) (a .waiting)
           (a .estimates .now) (a .cells .now)
           (l .loop .i) (l .loop .keys) (l .loop .distances) (l .loop .held)
           (l .loop .estimates) (l .loop .cells) (l .loop .inv .8) (i .7)
@@ -165,7 +168,8 @@ returns-2 c =
     let l = at-loop in
     let a = at-start .args in
     rest-none (a .lean) (seedIn (a .threshold) (rowsOf (a .fused-keys .now) (a .fused-distances .now) (a .fused-weights .now) (a .fused-count)))
-    (latticeOf (a .course)) (a .key) (a .estimate) (neighbours (a .key)) _ (l .loop .inv .0) (neighbours-once (a .key)) (a .keys .now) (a .distances .now) (a .waiting)
+    (latticeOf (a .course)) (a .key) (a .estimate) (neighbours (a .key)) _ (l .loop .inv .0) (neighbours-once (a .key)) (a .keys .now) (a .distances .now)
+    (a .waiting)
     (a .estimates .now) (a .cells .now)
     (l .loop .i) (l .loop .keys) (l .loop .distances) (l .loop .held)
     (l .loop .estimates) (l .loop .cells) (l .loop .inv .8) (omega (arith, l .loop .inv .1, c .loop-test .left))

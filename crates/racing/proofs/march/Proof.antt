@@ -2,6 +2,8 @@
 -- Assumes nothing.
 use mathlib.Core.Path.{_≡_, sym, _∙_}
 use Rattle.table.specs.Table.{rowsOf}
+use Rattle.marching.specs.Lattice.{marchFrom}
+use Rattle.fronts.specs.Fronts.{roomsOf}
 use Rattle.racing.proofs.Finishing.{blank-long}
 use Rattle.racing.proofs.Leaning.{as-lean, same-march}
 use borrow.Author.Needs.{needs}
@@ -26,7 +28,11 @@ march-again-requires c κs =
     let k = at-race .race .kept in
     let p = at-start .pre in (
       p .0,
-      (k .1 .1 .1 .1 .1 .1 .1 .1 .0 ∙ blank-long _ _ _ (p .1 .distances) ∙ sym (k .1 .1 .1 .1 .1 .1 .1 .0), k .1 .1 .1 .1 .1 .1 .1 .1 .1 .0 ∙ blank-long _ _ _ (p .1 .estimates) ∙ sym (k .1 .1 .1 .1 .1 .1 .1 .1 .1 .1 .0)),
+      (
+        k .1 .1 .1 .1 .1 .1 .1 .1 .0 ∙ blank-long _ _ _ (p .1 .distances) ∙ sym (k .1 .1 .1 .1 .1 .1 .1 .0),
+        k .1 .1 .1 .1 .1 .1 .1 .1 .1 .0 ∙ blank-long _ _ _
+            (p .1 .estimates) ∙ sym (k .1 .1 .1 .1 .1 .1 .1 .1 .1 .1 .0),
+      ),
     )
 
 same-length : tie.Need-same-length
@@ -49,7 +55,10 @@ returns c =
     let a = at-start .args in
     let k = at-race .race .kept in
     let d = at-march-again .march-again in
-    same-march (a .course .size) (a .course .most) (a .threshold) (rowsOf (a .fused-keys .now) (a .fused-distances .now) (a .fused-weights .now) (a .fused-count)) (a .keys .now) (a .cells .now) (at-race .race .last .1 .1 .1 .1 .1 .1 .1 .0) (at-race .race .last .1 .1 .1 .1 .1 .1 .1 .1 .1 .1 .0) (k .1 .1 .1 .1 .1 .1 .1 .0) (k .1 .1 .1 .1 .1 .1 .1 .1 .1 .1 .0) (d .result)
+    same-march (a .course .size) (a .course .most) (a .threshold)
+    (rowsOf (a .fused-keys .now) (a .fused-distances .now) (a .fused-weights .now) (a .fused-count)) (a .keys .now) (a .cells .now)
+    (at-race .race .last .1 .1 .1 .1 .1 .1 .1 .0) (at-race .race .last .1 .1 .1 .1 .1 .1 .1 .1 .1 .1 .0) (k .1 .1 .1 .1 .1 .1 .1 .0)
+    (k .1 .1 .1 .1 .1 .1 .1 .1 .1 .1 .0) (d .result)
     (d .last .1 .1 .1 .1 .1 .1 .0) (d .last .1 .1 .1 .1 .1 .1 .1 .0) (d .last .1 .1 .1 .1 .1 .1 .1 .1 .0) (d .last .1 .1 .1 .1 .1 .1 .1 .1 .1 .0) (d .ensures)
 
 same-length-5 : tie.Need-same-length-5
@@ -68,8 +77,14 @@ returns-2 : tie.Need-returns-2
 returns-2 c =
     let at-outgrew = c .before in
     let at-race = at-outgrew .before .before .before .before .before .before .before .before .before in
+    let at-vast = at-race .before .before .before .before .before in
+    let at-start = at-vast .before .before .before .before .before .before .before .before in
+    let a = at-start .args in
     let d = at-race .race in
-    as-lean _ _ (d .result) (d .last .1 .1 .1 .1 .1 .1 .1 .0) (d .last .1 .1 .1 .1 .1 .1 .1 .1 .0) (d .last .1 .1 .1 .1 .1 .1 .1 .1 .1 .0) (d .last .1 .1 .1 .1 .1 .1 .1 .1 .1 .1 .0) (d .ensures) (sym (at-outgrew .outgrew .ensures) ∙ c .if1 .left)
+    as-lean (at-vast .vast .result) (marchFrom (a .course .size) (a .course .most) (roomsOf (a .keys .now) (a .cells .now)) (a .threshold)
+    (rowsOf (a .fused-keys .now) (a .fused-distances .now) (a .fused-weights .now) (a .fused-count))) (d .result) (d .last .1 .1 .1 .1 .1 .1 .1 .0)
+    (d .last .1 .1 .1 .1 .1 .1 .1 .1 .0) (d .last .1 .1 .1 .1 .1 .1 .1 .1 .1 .0) (d .last .1 .1 .1 .1 .1 .1 .1 .1 .1 .1 .0) (d .ensures)
+    (sym (at-outgrew .outgrew .ensures) ∙ c .if1 .left)
 
 pub march-spec : {M : Type 1} → statement M
 march-spec =

@@ -16,8 +16,11 @@ race-requires c κs =
     let at-start = at-clear .before .before .before .before .before .before .before .before .before .before .before .before in
     let e = at-clear .clear .ensures in
     let p = at-start .pre in
-    let a = at-start .args in
-    (p .0, cleared (a .keys .now) (a .cells .now) (a .distances .now) (a .estimates .now) _ _ _ _ (p .1 .0) (p .1 .1) (e .0) (e .1 .0) (e .1 .1 .0) (e .1 .1 .1))
+    let a = at-start .args in (
+      p .0,
+      cleared (a .keys .now) (a .cells .now) (a .distances .now) (a .estimates .now) _ _ _ _ (p .1 .0) (p .1 .1) (e .0) (e .1 .0) (e .1 .1 .0)
+          (e .1 .1 .1),
+    )
 
 same-length : tie.Need-same-length
 same-length c = search needs
@@ -39,8 +42,11 @@ returns c =
     let a = at-start .args in
     let k = at-clear .clear .kept in
     let d = at-race .race in
-    same-march (a .course .size) (a .course .most) (a .threshold) (rowsOf (a .fused-keys .now) (a .fused-distances .now) (a .fused-weights .now) (a .fused-count)) (a .keys .now) (a .cells .now) (at-clear .clear .last .0) (at-clear .clear .last .1 .1 .1 .0) (k .0) (k .1 .1 .1 .0) (d .result)
-    (d .last .1 .1 .1 .1 .1 .1 .1 .0) (d .last .1 .1 .1 .1 .1 .1 .1 .1 .0) (d .last .1 .1 .1 .1 .1 .1 .1 .1 .1 .0) (d .last .1 .1 .1 .1 .1 .1 .1 .1 .1 .1 .0) (d .ensures)
+    same-march (a .course .size) (a .course .most) (a .threshold)
+    (rowsOf (a .fused-keys .now) (a .fused-distances .now) (a .fused-weights .now) (a .fused-count)) (a .keys .now) (a .cells .now) (at-clear .clear .last .0)
+    (at-clear .clear .last .1 .1 .1 .0) (k .0) (k .1 .1 .1 .0) (d .result)
+    (d .last .1 .1 .1 .1 .1 .1 .1 .0) (d .last .1 .1 .1 .1 .1 .1 .1 .1 .0) (d .last .1 .1 .1 .1 .1 .1 .1 .1 .1 .0) (d .last .1 .1 .1 .1 .1 .1 .1 .1 .1 .1 .0)
+    (d .ensures)
 
 pub march-again-spec : {M : Type 1} → statement M
 march-again-spec =

@@ -1,6 +1,8 @@
 -- `racing::race` meets its contract: seeds, takings, and the rows sorted.
 -- Assumes nothing.
 use mathlib.Core.Path.{_≡_, sym, _∙_}
+use lib.ListN.{length}
+use Rattle.floats.specs.Floats.{zero32}
 use Rattle.table.specs.Table.{rowsOf}
 use Rattle.racing.proofs.Marching.{rows-ascend, rows-lattice}
 use Rattle.racing.proofs.Finishing.{blank-long, march-stopped, sown-all, march-halted, march-done}
@@ -25,10 +27,14 @@ take-all-requires c κs =
     let at-sow-all = at-rows .before .before .before .before .before .before .before .before .before .before in
     let at-start = at-sow-all .before .before .before .before .before .before .before .before .before .before .before .before in
     let a = at-start .args in
-    let x = sown-all (a .lean) (a .course) (a .threshold) (rowsOf (a .fused-keys .now) (a .fused-distances .now) (a .fused-weights .now) (a .fused-count)) (a .keys .now)
-    (a .cells .now) _ _ _ _ _ (at-sow-all .sow-all .ensures)
+    let d = at-sow-all .sow-all in
+    let x = sown-all (a .lean) (a .course) (a .threshold) (rowsOf (a .fused-keys .now) (a .fused-distances .now) (a .fused-weights .now) (a .fused-count))
+    (a .keys .now)
+    (a .cells .now) (d .result) (d .last .1 .1 .1 .1 .1 .1 .1 .0)
+    (d .last .1 .1 .1 .1 .1 .1 .1 .1 .0) (d .last .1 .1 .1 .1 .1 .1 .1 .1 .1 .0)
+    (d .last .1 .1 .1 .1 .1 .1 .1 .1 .1 .1 .0) (d .ensures)
     (rows-ascend _ _ _ _ (at-start .pre .0 .0 .lent))
-    (at-sow-all .sow-all .kept .1 .1 .1 .1 .1 .1 .1 .0) (at-sow-all .sow-all .kept .1 .1 .1 .1 .1 .1 .1 .1 .1 .1 .0) _ _ (at-rows .rows .given .1) in
+    (d .kept .1 .1 .1 .1 .1 .1 .1 .0) (d .kept .1 .1 .1 .1 .1 .1 .1 .1 .1 .1 .0) _ _ (at-rows .rows .given .1) in
     (at-start .pre .0, (x .0, x .1 .1))
 
 enum-known-why-2 : tie.Need-enum-known-why-2
@@ -43,10 +49,16 @@ sort-rows-requires c κs =
     let at-sow-all = at-take-all .before .before .before .before .before .before .before .before .before .before .before .before .before .before .before
     .before in
     let at-start = at-sow-all .before .before .before .before .before .before .before .before .before .before .before .before in
+    let a = at-start .args in
     let p = at-start .pre .1 in
+    let d = at-sow-all .sow-all .last in
     let k = at-sow-all .sow-all .kept in
     let m = at-take-all .take-all .kept in
-    m .1 .1 .1 .1 .1 .1 .1 .1 .0 ∙ k .1 .1 .1 .1 .1 .1 .1 .1 .0 ∙ blank-long _ _ _ (p .distances) ∙ sym (k .1 .1 .1 .1 .1 .1 .1 .0) ∙ sym (m .1 .1 .1 .1 .1 .1 .1 .0)
+    _∙_ {b = length (d .1 .1 .1 .1 .1 .1 .1 .1 .0)} (m .1 .1 .1 .1 .1 .1 .1 .1 .0)
+    (_∙_ {b = length (a .distances .now)} (k .1 .1 .1 .1 .1 .1 .1 .1 .0)
+    (_∙_ {b = length (a .keys .now)} (blank-long zero32 (length (a .keys .now)) (a .distances .now) (p .distances))
+    (_∙_ {b = length (d .1 .1 .1 .1 .1 .1 .1 .0)} (sym (k .1 .1 .1 .1 .1 .1 .1 .0))
+    (sym {b = length (d .1 .1 .1 .1 .1 .1 .1 .0)} (m .1 .1 .1 .1 .1 .1 .1 .0)))))
 
 unlabel-requires : tie.Need-unlabel-requires
 unlabel-requires c κs = search needs
@@ -69,8 +81,12 @@ returns c =
     let at-sow-all = at-why .before .before .before .before .before .before .before .before .before .before in
     let at-start = at-sow-all .before .before .before .before .before .before .before .before .before .before .before .before in
     let a = at-start .args in
-    march-stopped (a .lean) (a .course) (a .threshold) (rowsOf (a .fused-keys .now) (a .fused-distances .now) (a .fused-weights .now) (a .fused-count)) (a .keys .now)
-    (a .cells .now) _ _ _ _ _ (at-sow-all .sow-all .ensures) _ (at-why .why .given .1) _ _ _ _
+    let d = at-sow-all .sow-all in
+    march-stopped (a .lean) (a .course) (a .threshold) (rowsOf (a .fused-keys .now) (a .fused-distances .now) (a .fused-weights .now) (a .fused-count))
+    (a .keys .now)
+    (a .cells .now) (d .result) (d .last .1 .1 .1 .1 .1 .1 .1 .0)
+    (d .last .1 .1 .1 .1 .1 .1 .1 .1 .0) (d .last .1 .1 .1 .1 .1 .1 .1 .1 .1 .0)
+    (d .last .1 .1 .1 .1 .1 .1 .1 .1 .1 .1 .0) (d .ensures) _ (at-why .why .given .1) _ _ _ _
 
 same-length-5 : tie.Need-same-length-5
 same-length-5 c = search needs
@@ -92,10 +108,17 @@ returns-2 c =
     let at-sow-all = at-rows .before .before .before .before .before .before .before .before .before .before in
     let at-start = at-sow-all .before .before .before .before .before .before .before .before .before .before .before .before in
     let a = at-start .args in
-    march-halted (a .lean) (a .course) (a .threshold) (rowsOf (a .fused-keys .now) (a .fused-distances .now) (a .fused-weights .now) (a .fused-count)) (a .keys .now)
-    (a .cells .now) _ _ _ _ _ (at-sow-all .sow-all .ensures)
+    let d = at-sow-all .sow-all in
+    let m = at-take-all .take-all in
+    march-halted (a .lean) (a .course) (a .threshold) (rowsOf (a .fused-keys .now) (a .fused-distances .now) (a .fused-weights .now) (a .fused-count))
+    (a .keys .now)
+    (a .cells .now) (d .result) (d .last .1 .1 .1 .1 .1 .1 .1 .0)
+    (d .last .1 .1 .1 .1 .1 .1 .1 .1 .0) (d .last .1 .1 .1 .1 .1 .1 .1 .1 .1 .0)
+    (d .last .1 .1 .1 .1 .1 .1 .1 .1 .1 .1 .0) (d .ensures)
     (rows-ascend _ _ _ _ (at-start .pre .0 .0 .lent))
-    (at-sow-all .sow-all .kept .1 .1 .1 .1 .1 .1 .1 .0) (at-sow-all .sow-all .kept .1 .1 .1 .1 .1 .1 .1 .1 .1 .1 .0) _ _ (at-rows .rows .given .1) _ _ _ _ _ (at-take-all .take-all .ensures) _ (at-why2 .why2 .given .1)
+    (d .kept .1 .1 .1 .1 .1 .1 .1 .0) (d .kept .1 .1 .1 .1 .1 .1 .1 .1 .1 .1 .0) _ _ (at-rows .rows .given .1) (m .result) (m .last .1 .1 .1 .1 .1 .1 .1 .0)
+    (m .last .1 .1 .1 .1 .1 .1 .1 .1 .0) (m .last .1 .1 .1 .1 .1 .1 .1 .1 .1 .1 .0)
+    (m .last .1 .1 .1 .1 .1 .1 .1 .1 .1 .1 .1 .0) (m .ensures) _ (at-why2 .why2 .given .1)
 
 same-length-9 : tie.Need-same-length-9
 same-length-9 c =
@@ -104,7 +127,10 @@ same-length-9 c =
     let at-take-all = at-sort-rows .before .before .before .before .before .before .before .before .before .before .before .before .before .before in
     let at-sow-all = at-take-all .before .before .before .before .before .before .before .before .before .before .before .before .before .before .before
     .before in
-    at-unlabel .unlabel .kept .0 ∙ at-sort-rows .sort-rows .kept .0 ∙ at-take-all .take-all .kept .1 .1 .1 .1 .1 .1 .1 .0 ∙ at-sow-all .sow-all .kept .1 .1 .1 .1 .1 .1 .1 .0
+    _∙_ {b = length (at-sort-rows .sort-rows .last .0)} (at-unlabel .unlabel .kept .0)
+    (_∙_ {b = length (at-take-all .take-all .last .1 .1 .1 .1 .1 .1 .1 .0)} (at-sort-rows .sort-rows .kept .0)
+    (_∙_ {b = length (at-sow-all .sow-all .last .1 .1 .1 .1 .1 .1 .1 .0)} (at-take-all .take-all .kept .1 .1 .1 .1 .1 .1 .1 .0)
+    (at-sow-all .sow-all .kept .1 .1 .1 .1 .1 .1 .1 .0)))
 
 same-length-10 : tie.Need-same-length-10
 same-length-10 c =
@@ -112,7 +138,9 @@ same-length-10 c =
     let at-take-all = at-sort-rows .before .before .before .before .before .before .before .before .before .before .before .before .before .before in
     let at-sow-all = at-take-all .before .before .before .before .before .before .before .before .before .before .before .before .before .before .before
     .before in
-    at-sort-rows .sort-rows .kept .1 .0 ∙ at-take-all .take-all .kept .1 .1 .1 .1 .1 .1 .1 .1 .0 ∙ at-sow-all .sow-all .kept .1 .1 .1 .1 .1 .1 .1 .1 .0
+    _∙_ {b = length (at-take-all .take-all .last .1 .1 .1 .1 .1 .1 .1 .1 .0)} (at-sort-rows .sort-rows .kept .1 .0)
+    (_∙_ {b = length (at-sow-all .sow-all .last .1 .1 .1 .1 .1 .1 .1 .1 .0)} (at-take-all .take-all .kept .1 .1 .1 .1 .1 .1 .1 .1 .0)
+    (at-sow-all .sow-all .kept .1 .1 .1 .1 .1 .1 .1 .1 .0))
 
 same-length-11 : tie.Need-same-length-11
 same-length-11 c = search needs
@@ -130,10 +158,17 @@ returns-3 c =
     let at-sow-all = at-rows .before .before .before .before .before .before .before .before .before .before in
     let at-start = at-sow-all .before .before .before .before .before .before .before .before .before .before .before .before in
     let a = at-start .args in
-    march-done (a .lean) (a .course) (a .threshold) (rowsOf (a .fused-keys .now) (a .fused-distances .now) (a .fused-weights .now) (a .fused-count)) (a .keys .now)
-    (a .cells .now) _ _ _ _ _ (at-sow-all .sow-all .ensures)
+    let d = at-sow-all .sow-all in
+    let m = at-take-all .take-all in
+    march-done (a .lean) (a .course) (a .threshold) (rowsOf (a .fused-keys .now) (a .fused-distances .now) (a .fused-weights .now) (a .fused-count))
+    (a .keys .now)
+    (a .cells .now) (d .result) (d .last .1 .1 .1 .1 .1 .1 .1 .0)
+    (d .last .1 .1 .1 .1 .1 .1 .1 .1 .0) (d .last .1 .1 .1 .1 .1 .1 .1 .1 .1 .0)
+    (d .last .1 .1 .1 .1 .1 .1 .1 .1 .1 .1 .0) (d .ensures)
     (rows-ascend _ _ _ _ (at-start .pre .0 .0 .lent))
-    (at-sow-all .sow-all .kept .1 .1 .1 .1 .1 .1 .1 .0) (at-sow-all .sow-all .kept .1 .1 .1 .1 .1 .1 .1 .1 .1 .1 .0) _ _ (at-rows .rows .given .1) _ _ _ _ _ (at-take-all .take-all .ensures)
+    (d .kept .1 .1 .1 .1 .1 .1 .1 .0) (d .kept .1 .1 .1 .1 .1 .1 .1 .1 .1 .1 .0) _ _ (at-rows .rows .given .1) (m .result) (m .last .1 .1 .1 .1 .1 .1 .1 .0)
+    (m .last .1 .1 .1 .1 .1 .1 .1 .1 .0) (m .last .1 .1 .1 .1 .1 .1 .1 .1 .1 .1 .0)
+    (m .last .1 .1 .1 .1 .1 .1 .1 .1 .1 .1 .1 .0) (m .ensures)
     (rows-lattice _ _ _ _ (at-start .pre .0 .0)) _ _ (at-n .n .given .1) _ _ _
     (at-unlabel .unlabel .kept .0 ∙ at-sort-rows .sort-rows .kept .0) (at-sort-rows .sort-rows .ensures) (at-unlabel .unlabel .ensures)
 

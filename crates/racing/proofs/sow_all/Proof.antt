@@ -3,8 +3,9 @@
 use Prim.Native.Nat.{_≤_, _-_}
 use mathlib.Core.Path.{_≡_, refl, sym, _∙_}
 use native.Mathlib.Omega.{arith}
-use lib.ListN.{length}
-use Rattle.table.specs.Table.{rowsOf}
+use lib.ListN.{length, getD}
+use lib.Ieee.{nan}
+use Rattle.table.specs.Table.{row, rowsOf}
 use Rattle.table.proofs.RowLaws.{row-at}
 use Rattle.marching.specs.Lattice.{latticeOf}
 use Rattle.marching.specs.Spreading.{seedIn}
@@ -42,7 +43,8 @@ loop-holds c =
       refl,
       refl,
       refl,
-      sow-start (a .lean) _ (latticeOf (a .course)) (a .threshold) (roomsOf (a .keys .now) (a .cells .now)) (rowsOf (a .fused-keys .now) (a .fused-distances .now) (a .fused-weights .now) (a .fused-count)) (a .keys .now)
+      sow-start (a .lean) _ (latticeOf (a .course)) (a .threshold) (roomsOf (a .keys .now) (a .cells .now))
+          (rowsOf (a .fused-keys .now) (a .fused-distances .now) (a .fused-weights .now) (a .fused-count)) (a .keys .now)
           (a .distances .now) (a .estimates .now) (a .cells .now) (rows-ascend _ _ _ _ (p .0 .lent)) (seeds-are (a .threshold) _ _ _ _ (p .0 .lent))
           (blank-held (a .lean) _ _ _ _ (p .1)),
     )
@@ -90,8 +92,10 @@ sow-if-requires c κs =
     let at-start = at-loop .before .before .before .before .before .before .before .before in
     let p = at-start .pre in
     let i = at-loop .loop .inv in
-    let l = at-loop-test .loop-test .taken in
-    ((p .0 .lent, (i .2 ∙ blank-long _ _ _ (p .1 .distances) ∙ sym (i .1), i .3 ∙ blank-long _ _ _ (p .1 .estimates) ∙ sym (i .4))), (p .0 .lattice _ l, p .0 .finite _ l))
+    let l = at-loop-test .loop-test .taken in (
+      (p .0 .lent, (i .2 ∙ blank-long _ _ _ (p .1 .distances) ∙ sym (i .1), i .3 ∙ blank-long _ _ _ (p .1 .estimates) ∙ sym (i .4))),
+      (p .0 .lattice _ l, p .0 .finite _ l),
+    )
 
 enum-known-why : tie.Need-enum-known-why Inv-loop μ-loop
 enum-known-why c = search needs
@@ -118,11 +122,19 @@ returns c =
     let a = at-start .args in
     let p = at-start .pre .0 .lent in
     let l = at-loop .loop in
+    let d = at-sow-if .sow-if in
     let here =
-    row-at (a .fused-keys .now) (a .fused-distances .now) (a .fused-weights .now) (a .fused-count) (l .i) (p .distances) (p .weights) (at-loop-test .loop-test .taken) (p .fits) in
-    sow-stop (a .lean) (seedIn (a .threshold) (rowsOf (a .fused-keys .now) (a .fused-distances .now) (a .fused-weights .now) (a .fused-count))) (latticeOf (a .course)) back (a .threshold) (roomsOf (a .keys .now) (a .cells .now))
-    (rowsOf (a .fused-keys .now) (a .fused-distances .now) (a .fused-weights .now) (a .fused-count)) (l .i) (l .rows) (l .keys) (l .distances) (l .held) (l .estimates) (l .cells) (l .inv .5) _ here (l .inv .1) (l .inv .4) _ _ _ _ _
-    (at-sow-if .sow-if .ensures) _ (at-why .why .given .1)
+    row-at (a .fused-keys .now) (a .fused-distances .now) (a .fused-weights .now) (a .fused-count) (l .i) (p .distances) (p .weights)
+    (at-loop-test .loop-test .taken) (p .fits) in
+    sow-stop (a .lean) (seedIn (a .threshold) (rowsOf (a .fused-keys .now) (a .fused-distances .now) (a .fused-weights .now) (a .fused-count)))
+    (latticeOf (a .course)) back (a .threshold) (roomsOf (a .keys .now) (a .cells .now))
+    (rowsOf (a .fused-keys .now) (a .fused-distances .now) (a .fused-weights .now) (a .fused-count)) (l .i) (l .rows) (l .keys) (l .distances) (l .held)
+    (l .estimates) (l .cells) (l .inv .5)
+    (row (getD (a .fused-keys .now) (l .i) 0) (getD (a .fused-distances .now) (l .i) nan) (getD (a .fused-weights .now) (l .i) nan))
+    here (l .inv .1) (l .inv .4) (d .result) (d .last .1 .1 .1 .1 .1 .1 .1 .0)
+    (d .last .1 .1 .1 .1 .1 .1 .1 .1 .0) (d .last .1 .1 .1 .1 .1 .1 .1 .1 .1 .1 .0)
+    (d .last .1 .1 .1 .1 .1 .1 .1 .1 .1 .1 .1 .0)
+    (d .ensures) _ (at-why .why .given .1)
 
 enum-known-n : tie.Need-enum-known-n Inv-loop μ-loop
 enum-known-n c = search needs
@@ -150,18 +162,26 @@ loop-again c =
     let a = at-start .args in
     let p = at-start .pre .0 .lent in
     let l = at-loop .loop in
+    let d = at-sow-if .sow-if in
     let here =
-    row-at (a .fused-keys .now) (a .fused-distances .now) (a .fused-weights .now) (a .fused-count) (l .i) (p .distances) (p .weights) (at-loop-test .loop-test .taken) (p .fits) in
-    let k = at-sow-if .sow-if .kept in
+    row-at (a .fused-keys .now) (a .fused-distances .now) (a .fused-weights .now) (a .fused-count) (l .i) (p .distances) (p .weights)
+    (at-loop-test .loop-test .taken) (p .fits) in
+    let k = d .kept in
     let i = l .inv in (
       omega (arith, at-loop-test .loop-test .taken),
-      k .1 .1 .1 .1 .1 .1 .1 .0 ∙ i .1,
-      k .1 .1 .1 .1 .1 .1 .1 .1 .0 ∙ i .2,
-      k .1 .1 .1 .1 .1 .1 .1 .1 .1 .1 .0 ∙ i .3,
-      k .1 .1 .1 .1 .1 .1 .1 .1 .1 .1 .1 .0 ∙ i .4,
-      sow-more (a .lean) (seedIn (a .threshold) (rowsOf (a .fused-keys .now) (a .fused-distances .now) (a .fused-weights .now) (a .fused-count))) (latticeOf (a .course)) back (a .threshold) (roomsOf (a .keys .now) (a .cells .now))
-          (rowsOf (a .fused-keys .now) (a .fused-distances .now) (a .fused-weights .now) (a .fused-count)) (l .i) (l .rows) (l .keys) (l .distances) (l .held) (l .estimates) (l .cells) (l .inv .5) _ here (i .1) (i .4) _ _ _ _ _
-          (at-sow-if .sow-if .ensures) _ _ (at-n .n .given .1),
+      _∙_ {b = length (l .keys)} (k .1 .1 .1 .1 .1 .1 .1 .0) (i .1),
+      _∙_ {b = length (l .distances)} (k .1 .1 .1 .1 .1 .1 .1 .1 .0) (i .2),
+      _∙_ {b = length (l .estimates)} (k .1 .1 .1 .1 .1 .1 .1 .1 .1 .1 .0) (i .3),
+      _∙_ {b = length (l .cells)} (k .1 .1 .1 .1 .1 .1 .1 .1 .1 .1 .1 .0) (i .4),
+      sow-more (a .lean) (seedIn (a .threshold) (rowsOf (a .fused-keys .now) (a .fused-distances .now) (a .fused-weights .now) (a .fused-count)))
+          (latticeOf (a .course)) back (a .threshold) (roomsOf (a .keys .now) (a .cells .now))
+          (rowsOf (a .fused-keys .now) (a .fused-distances .now) (a .fused-weights .now) (a .fused-count)) (l .i) (l .rows) (l .keys) (l .distances) (l .held)
+          (l .estimates) (l .cells) (l .inv .5)
+          (row (getD (a .fused-keys .now) (l .i) 0) (getD (a .fused-distances .now) (l .i) nan) (getD (a .fused-weights .now) (l .i) nan))
+          here (i .1) (i .4) (d .result) (d .last .1 .1 .1 .1 .1 .1 .1 .0)
+          (d .last .1 .1 .1 .1 .1 .1 .1 .1 .0) (d .last .1 .1 .1 .1 .1 .1 .1 .1 .1 .1 .0)
+          (d .last .1 .1 .1 .1 .1 .1 .1 .1 .1 .1 .1 .0)
+          (d .ensures) _ _ (at-n .n .given .1),
     )
 
 same-length-5 : tie.Need-same-length-5 Inv-loop μ-loop
@@ -182,8 +202,11 @@ returns-2 c =
     let at-start = at-loop .before .before .before .before .before .before .before .before in
     let a = at-start .args in
     let l = at-loop .loop in
-    sow-finish (a .lean) (seedIn (a .threshold) (rowsOf (a .fused-keys .now) (a .fused-distances .now) (a .fused-weights .now) (a .fused-count))) (latticeOf (a .course)) back (a .threshold) (roomsOf (a .keys .now) (a .cells .now))
-    (rowsOf (a .fused-keys .now) (a .fused-distances .now) (a .fused-weights .now) (a .fused-count)) (l .i) (l .rows) (l .keys) (l .distances) (l .held) (l .estimates) (l .cells) (l .inv .5) (rows-past (a .fused-keys .now) (a .fused-distances .now) (a .fused-weights .now) (a .fused-count) (l .i) (c .loop-test .left))
+    sow-finish (a .lean) (seedIn (a .threshold) (rowsOf (a .fused-keys .now) (a .fused-distances .now) (a .fused-weights .now) (a .fused-count)))
+    (latticeOf (a .course)) back (a .threshold) (roomsOf (a .keys .now) (a .cells .now))
+    (rowsOf (a .fused-keys .now) (a .fused-distances .now) (a .fused-weights .now) (a .fused-count)) (l .i) (l .rows) (l .keys) (l .distances) (l .held)
+    (l .estimates) (l .cells) (l .inv .5) (rows-past (a .fused-keys .now) (a .fused-distances .now) (a .fused-weights .now) (a .fused-count) (l .i)
+    (c .loop-test .left))
 
 pub sow-all-spec : {M : Type 1} → statement M
 sow-all-spec =

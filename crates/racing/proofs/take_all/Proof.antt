@@ -45,7 +45,8 @@ loop-holds c =
       refl,
       refl,
       λ s h.
-          take-start (a .lean) _ (latticeOf (a .course)) back _ (seeds-are (a .threshold) _ _ _ _ (p .0 .0 .lent)) s (a .count) (a .keys .now) (a .distances .now)
+          take-start (a .lean) _ (latticeOf (a .course)) back _ (seeds-are (a .threshold) _ _ _ _ (p .0 .0 .lent)) s (a .count) (a .keys .now)
+          (a .distances .now)
           (a .waiting) (a .estimates .now) (a .cells .now) h,
     )
 
@@ -86,10 +87,14 @@ returns c =
     let at-start = at-loop .before .before .before .before .before .before .before .before in
     let a = at-start .args in
     let l = at-loop .loop in
+    let d = at-take .take in
     λ s h.
-    take-stop (a .lean) (seedIn (a .threshold) (rowsOf (a .fused-keys .now) (a .fused-distances .now) (a .fused-weights .now) (a .fused-count))) (latticeOf (a .course)) back (roomsOf (a .keys .now) (a .cells .now)) _ (l .takings) (l .rows)
+    take-stop (a .lean) (seedIn (a .threshold) (rowsOf (a .fused-keys .now) (a .fused-distances .now) (a .fused-weights .now) (a .fused-count)))
+    (latticeOf (a .course)) back (roomsOf (a .keys .now) (a .cells .now)) _ (l .takings) (l .rows)
     (l .keys) (l .distances) (l .held) (l .estimates) (l .cells) (l .inv .4 s h) (at-loop-test .loop-test .taken)
-    (l .inv .0) (l .inv .3) _ _ _ _ _ (at-take .take .ensures) _ (at-why .why .given .1)
+    (l .inv .0) (l .inv .3) (d .result) (d .last .1 .1 .1 .1 .1 .1 .1 .0)
+    (d .last .1 .1 .1 .1 .1 .1 .1 .1 .0) (d .last .1 .1 .1 .1 .1 .1 .1 .1 .1 .1 .0)
+    (d .last .1 .1 .1 .1 .1 .1 .1 .1 .1 .1 .1 .0) (d .ensures) _ (at-why .why .given .1)
 
 enum-known-n : tie.Need-enum-known-n Inv-loop μ-loop
 enum-known-n c = search needs
@@ -102,7 +107,14 @@ add-takings c =
     let a = at-start .args in
     let p = at-start .pre in
     let l = at-loop .loop in
-    omega (arith, at-start .good .1 .1 .1 .1 .1 .1 .1 .0 .1, take-few (a .lean) (seedIn (a .threshold) (rowsOf (a .fused-keys .now) (a .fused-distances .now) (a .fused-weights .now) (a .fused-count))) (latticeOf (a .course)) back (roomsOf (a .keys .now) (a .cells .now)) _ (l .takings) (l .rows) (l .keys) (l .distances) (l .held) (l .estimates) (l .cells) (l .inv .4 (p .1 .0) (p .1 .1)))
+    omega (
+      arith,
+      at-start .good .1 .1 .1 .1 .1 .1 .1 .0 .1,
+      take-few (a .lean)
+          (seedIn (a .threshold) (rowsOf (a .fused-keys .now) (a .fused-distances .now) (a .fused-weights .now) (a .fused-count))) (latticeOf (a .course)) back
+          (roomsOf (a .keys .now) (a .cells .now)) _ (l .takings) (l .rows) (l .keys) (l .distances) (l .held) (l .estimates) (l .cells)
+          (l .inv .4 (p .1 .0) (p .1 .1)),
+    )
 
 loop-less : tie.Need-loop-less Inv-loop μ-loop
 loop-less c =
@@ -112,7 +124,14 @@ loop-less c =
     let a = at-start .args in
     let p = at-start .pre in
     let l = at-loop .loop in
-    omega (arith, at-start .good .1 .1 .1 .1 .1 .1 .1 .0 .1, take-few (a .lean) (seedIn (a .threshold) (rowsOf (a .fused-keys .now) (a .fused-distances .now) (a .fused-weights .now) (a .fused-count))) (latticeOf (a .course)) back (roomsOf (a .keys .now) (a .cells .now)) _ (l .takings) (l .rows) (l .keys) (l .distances) (l .held) (l .estimates) (l .cells) (l .inv .4 (p .1 .0) (p .1 .1)))
+    omega (
+      arith,
+      at-start .good .1 .1 .1 .1 .1 .1 .1 .0 .1,
+      take-few (a .lean)
+          (seedIn (a .threshold) (rowsOf (a .fused-keys .now) (a .fused-distances .now) (a .fused-weights .now) (a .fused-count))) (latticeOf (a .course)) back
+          (roomsOf (a .keys .now) (a .cells .now)) _ (l .takings) (l .rows) (l .keys) (l .distances) (l .held) (l .estimates) (l .cells)
+          (l .inv .4 (p .1 .0) (p .1 .1)),
+    )
 
 loop-again : tie.Need-loop-again Inv-loop μ-loop
 loop-again c =
@@ -123,16 +142,20 @@ loop-again c =
     let at-start = at-loop .before .before .before .before .before .before .before .before in
     let a = at-start .args in
     let l = at-loop .loop in
-    let k = at-take .take .kept in
+    let d = at-take .take in
+    let k = d .kept in
     let i = l .inv in (
-      k .1 .1 .1 .1 .1 .1 .1 .0 ∙ i .0,
-      k .1 .1 .1 .1 .1 .1 .1 .1 .0 ∙ i .1,
-      k .1 .1 .1 .1 .1 .1 .1 .1 .1 .1 .0 ∙ i .2,
-      k .1 .1 .1 .1 .1 .1 .1 .1 .1 .1 .1 .0 ∙ i .3,
+      _∙_ {b = length (l .keys)} (k .1 .1 .1 .1 .1 .1 .1 .0) (i .0),
+      _∙_ {b = length (l .distances)} (k .1 .1 .1 .1 .1 .1 .1 .1 .0) (i .1),
+      _∙_ {b = length (l .estimates)} (k .1 .1 .1 .1 .1 .1 .1 .1 .1 .1 .0) (i .2),
+      _∙_ {b = length (l .cells)} (k .1 .1 .1 .1 .1 .1 .1 .1 .1 .1 .1 .0) (i .3),
       λ s h.
-          take-more (a .lean) (seedIn (a .threshold) (rowsOf (a .fused-keys .now) (a .fused-distances .now) (a .fused-weights .now) (a .fused-count))) (latticeOf (a .course)) back (roomsOf (a .keys .now) (a .cells .now)) _ (l .takings) (l .rows)
+          take-more (a .lean) (seedIn (a .threshold) (rowsOf (a .fused-keys .now) (a .fused-distances .now) (a .fused-weights .now) (a .fused-count)))
+          (latticeOf (a .course)) back (roomsOf (a .keys .now) (a .cells .now)) _ (l .takings) (l .rows)
           (l .keys) (l .distances) (l .held) (l .estimates) (l .cells) (i .4 s h) (at-loop-test .loop-test .taken)
-          (i .0) (i .3) _ _ _ _ _ (at-take .take .ensures) _ _ (at-n .n .given .1),
+          (i .0) (i .3) (d .result) (d .last .1 .1 .1 .1 .1 .1 .1 .0)
+          (d .last .1 .1 .1 .1 .1 .1 .1 .1 .0) (d .last .1 .1 .1 .1 .1 .1 .1 .1 .1 .1 .0)
+          (d .last .1 .1 .1 .1 .1 .1 .1 .1 .1 .1 .1 .0) (d .ensures) _ _ (at-n .n .given .1),
     )
 
 same-length-5 : tie.Need-same-length-5 Inv-loop μ-loop
@@ -154,7 +177,8 @@ returns-2 c =
     let a = at-start .args in
     let l = at-loop .loop in
     λ s h.
-    take-finish (a .lean) (seedIn (a .threshold) (rowsOf (a .fused-keys .now) (a .fused-distances .now) (a .fused-weights .now) (a .fused-count))) (latticeOf (a .course)) back (roomsOf (a .keys .now) (a .cells .now)) _ (l .takings) (l .rows)
+    take-finish (a .lean) (seedIn (a .threshold) (rowsOf (a .fused-keys .now) (a .fused-distances .now) (a .fused-weights .now) (a .fused-count)))
+    (latticeOf (a .course)) back (roomsOf (a .keys .now) (a .cells .now)) _ (l .takings) (l .rows)
     (l .keys) (l .distances) (l .held) (l .estimates) (l .cells) (l .inv .4 s h) (l .inv .0) (c .loop-test .left)
 
 pub take-all-spec : {M : Type 1} → statement M
