@@ -9,15 +9,16 @@ use borrow.Author.Tests.{ne-eqb, eq-eqb}
 use lib.Dec.{eqb}
 use lib.ListN.{length, getD}
 use lib.Ieee.{Float, le, eq}
-use Rattle.floats.specs.Floats.{isFinite}
+use Rattle.floats.specs.Floats.{isFinite, sizeOf}
 use Rattle.floats.proofs.Order.{le-first}
 use Rattle.heap.specs.Heap.{Heaped}
 use Rattle.heap.proofs.Laws.{heaped-key}
 use Rattle.ids.specs.Key.{onLattice}
 use Rattle.lists.specs.Lists.{insert}
 use Rattle.marks.specs.Marks.{occupied}
+use Rattle.neighbors.specs.Neighbors.{neighbours}
 use Rattle.search.specs.Keys.{member}
-use Rattle.marching.specs.March.{MarchedRow, marchedRow, Cell, State, state, Field, Rooms, rooms, Going, on, andThen, rowBefore, keysOf, cellsOf, distanceOf, isStored, store, waitAll, settled, onward, spread, settle, visit, taking, take}
+use Rattle.marching.specs.March.{MarchedRow, marchedRow, Cell, State, state, Field, Rooms, rooms, Going, on, andThen, rowBefore, keysOf, cellsOf, distanceOf, isStored, store, waitAll, sow, settled, onward, spread, settle, visit, taking, take}
 use Rattle.marching.specs.Spreading.{Told}
 use Rattle.marching.specs.declared.Course.{Course}
 use Rattle.marching.specs.Lattice.{latticeOf}
@@ -256,3 +257,77 @@ module _ (lean : Bool) (seed : ℕ → Bool) (f : Field) (s : State) (n : ℕ) (
 -- a settled distance is finite
 pub finite-by : (c : Course) (d : Float) (rs : List MarchedRow) (k : ℕ) → Fair c → d ≡ settled (latticeOf c) rs k → isFinite d ≡ true
 finite-by c d rs k fair e = rw e (settled-finite (latticeOf c) rs k (fair .least) (fair .finite))
+
+-- ---- the two steps whole
+
+-- what storing k at the distance d says
+abbrev pub Stores : Bool → ℕ → Float → ℕ → List ℕ → List Float → Placed → List ℕ → List Float → Type 0
+Stores lean k d n ks ds p ks' ds' =
+    (s : State) (ws vs : List ℕ)
+    → Marked (s .stored) ws ks ds
+    → ((j : ℕ) → (k ≡ j → ⊥) → member j ws ≡ member j vs)
+    → (lean ≡ true → (occupied ks ≡ length (s .stored)) × (member k ws ≡ false))
+    → isFinite d ≡ true
+    → n ≡ length (s .stored)
+    → member k (keysOf (s .stored)) ≡ false
+    → LeftRows lean (store (length ks) (marchedRow k d) s) s vs p ks' ds'
+
+-- a seed is sown
+module _ (c : Course) (lean : Bool) (seed : ℕ → Bool) (k n : ℕ) (ks : List ℕ) (ds : List Float) (w : ℕ) (es : List Float) (cs : List ℕ) (s : State)
+    (h : Held lean s n ks ds w es cs) (o : member k (keysOf (s .stored)) ≡ false) (told : ToldOnce seed (latticeOf c) k s) (d : Float)
+    (finite : isFinite d ≡ true) (p : Placed) (ks₁ : List ℕ) (ds₁ : List Float) (stores : Stores lean k d n ks ds p ks₁ ds₁) where
+  sown-row : LeftRows lean (store (length ks) (marchedRow k d) s) s (marking lean (s .waiting)) p ks₁ ds₁
+  sown-row =
+      stores s (marking lean (s .waiting)) (marking lean (s .waiting)) (h .front .marked) (λ j _. refl)
+      (λ t. (h .front .places t, sow-spare lean k (s .waiting) t)) finite (h .count) o
+
+  pub sow-no-row : (why : Stop) → p ≡ Not why → Left lean (sow neighbours (roomsOf ks cs) (marchedRow k d) s) (step.Not why) ks₁ ds₁ es cs
+  unfolding sow
+  sow-no-row why e =
+      no-row lean seed (latticeOf c) k (store (length ks) (marchedRow k d) s) (waitAll (length cs) (sizeOf d) (neighbours k)) s w es cs
+      (h .front .heap) (h .front .lattice) p ks₁ ds₁ sown-row why e es cs
+
+  module _ (m : ℕ) (e : p ≡ Now m) (x : Float) (is : x ≡ sizeOf d) (q : Placed) (ks' : List ℕ) (ds' es' : List Float) (cs' : List ℕ)
+      (waits : DoesWait lean seed (latticeOf c) k (neighbours k) (waitAll (length cs) x (neighbours k)) ks₁ ds₁ w es cs q ks' ds' es' cs') where
+    pub sow-no-cell : (why : Stop) → q ≡ Not why → Left lean (sow neighbours (roomsOf ks cs) (marchedRow k d) s) (step.Not why) ks' ds' es' cs'
+    unfolding sow
+    sow-no-cell why a =
+        no-cell lean seed (latticeOf c) k (store (length ks) (marchedRow k d) s) (waitAll (length cs) (sizeOf d) (neighbours k)) s w es cs
+        (h .front .heap) (h .front .lattice) p ks₁ ds₁ sown-row (λ t g. told-stored seed (latticeOf c) k s told (length ks) d t g) m e q ks' ds' es' cs'
+        (with-size lean seed (latticeOf c) k (length cs) x (sizeOf d) (neighbours k) ks₁ ds₁ w es cs q ks' ds' es' cs' is waits) why a
+
+    pub sow-done : (w' : ℕ) → q ≡ Now w' → Left lean (sow neighbours (roomsOf ks cs) (marchedRow k d) s) (step.On m w') ks' ds' es' cs'
+    unfolding sow
+    sow-done w' a =
+        both-done lean seed (latticeOf c) k (store (length ks) (marchedRow k d) s) (waitAll (length cs) (sizeOf d) (neighbours k)) s w es cs
+        (h .front .heap) (h .front .lattice) p ks₁ ds₁ sown-row (λ t g. told-stored seed (latticeOf c) k s told (length ks) d t g) m e q ks' ds' es' cs'
+        (with-size lean seed (latticeOf c) k (length cs) x (sizeOf d) (neighbours k) ks₁ ds₁ w es cs q ks' ds' es' cs' is waits) w' a
+
+-- a taken cell is settled
+module _ (c : Course) (fair : Fair c) (lean : Bool) (seed : ℕ → Bool) (k n : ℕ) (ks : List ℕ) (ds : List Float) (w : ℕ) (es : List Float) (cs : List ℕ)
+    (s : State) (h : Taken lean k s n ks ds w es cs) (told : ToldOnce seed (latticeOf c) k s) (d : Float) (is : d ≡ settled (latticeOf c) (s .stored) k)
+    (p : Placed) (ks₁ : List ℕ) (ds₁ : List Float) (stores : Stores lean k d n ks ds p ks₁ ds₁) where
+  settled-row : LeftRows lean (store (length ks) (marchedRow k d) s) s (marking lean (s .waiting)) p ks₁ ds₁
+  settled-row =
+      stores s (markingAlso lean k (s .waiting)) (marking lean (s .waiting)) (h .marked) (taken-same lean k (s .waiting))
+      (λ t. (h .places t, taken-spare lean k (s .waiting) t)) (finite-by c d (s .stored) k fair is) (h .count) (h .new)
+
+  pub settle-no-row : (why : Stop) → p ≡ Not why → Left lean (settle (latticeOf c) (roomsOf ks cs) k s) (step.Not why) ks₁ ds₁ es cs
+  settle-no-row why e =
+      settle-by lean (latticeOf c) (roomsOf ks cs) k s d is (step.Not why) ks₁ ds₁ es cs
+      (no-row lean seed (latticeOf c) k (store (length ks) (marchedRow k d) s) (spread (latticeOf c) (length cs) (marchedRow k d)) s w es cs
+      (h .heap) (h .lattice) p ks₁ ds₁ settled-row why e es cs)
+
+  module _ (m : ℕ) (e : p ≡ Now m) (q : Placed) (ks' : List ℕ) (ds' es' : List Float) (cs' : List ℕ)
+      (waits : DoesWait lean seed (latticeOf c) k (neighbours k) (spread (latticeOf c) (length cs) (marchedRow k d)) ks₁ ds₁ w es cs q ks' ds' es' cs') where
+    pub settle-no-cell : (why : Stop) → q ≡ Not why → Left lean (settle (latticeOf c) (roomsOf ks cs) k s) (step.Not why) ks' ds' es' cs'
+    settle-no-cell why a =
+        settle-by lean (latticeOf c) (roomsOf ks cs) k s d is (step.Not why) ks' ds' es' cs'
+        (no-cell lean seed (latticeOf c) k (store (length ks) (marchedRow k d) s) (spread (latticeOf c) (length cs) (marchedRow k d)) s w es cs
+        (h .heap) (h .lattice) p ks₁ ds₁ settled-row (λ t g. told-stored seed (latticeOf c) k s told (length ks) d t g) m e q ks' ds' es' cs' waits why a)
+
+    pub settle-done : (w' : ℕ) → q ≡ Now w' → Left lean (settle (latticeOf c) (roomsOf ks cs) k s) (step.On m w') ks' ds' es' cs'
+    settle-done w' a =
+        settle-by lean (latticeOf c) (roomsOf ks cs) k s d is (step.On m w') ks' ds' es' cs'
+        (both-done lean seed (latticeOf c) k (store (length ks) (marchedRow k d) s) (spread (latticeOf c) (length cs) (marchedRow k d)) s w es cs
+        (h .heap) (h .lattice) p ks₁ ds₁ settled-row (λ t g. told-stored seed (latticeOf c) k s told (length ks) d t g) m e q ks' ds' es' cs' waits w' a)

@@ -1,13 +1,11 @@
 -- `fronts::settle` meets its contract: a cell gets its distance and is stored, then its neighbours wait.
 -- Assumes nothing.
 use mathlib.Core.Path.{_≡_, sym, _∙_}
-use lib.ListN.{length}
 use Rattle.table.specs.Table.{rowsOf}
-use Rattle.marching.specs.March.{State, marchedRow, store, spread, settled}
 use Rattle.marching.specs.Lattice.{latticeOf}
 use Rattle.marching.specs.Spreading.{seedIn}
-use Rattle.fronts.specs.Fronts.{marking, markingAlso, roomsOf, Taken}
-use Rattle.fronts.proofs.Stepping.{finite-by, told-stored, no-row, no-cell, both-done, settle-by, taken-same, taken-spare}
+use Rattle.fronts.specs.Fronts.{markingAlso}
+use Rattle.fronts.proofs.Stepping.{settle-no-row, settle-no-cell, settle-done}
 use borrow.Author.Needs.{needs}
 use Rattle.fronts.proofs.settle.Statement.{statement}
 use Rattle.fronts.proofs.settle.Tie as tie
@@ -55,19 +53,13 @@ returns c =
     let at-settled = at-store .before .before .before in
     let at-start = at-settled .before .before .before .before .before .before .before .before .before .before in
     let a = at-start .args in
-    let at : (s : State) → Taken (a .lean) (a .key) s (a .count) (a .keys .now) (a .distances .now) (a .waiting) (a .estimates .now) (a .cells .now)
-    → at-settled .settled .result ≡ settled (latticeOf (a .course)) (s .stored) (a .key) =
-    λ s h. at-settled .settled .ensures (s .stored) (markingAlso (a .lean) (a .key) (s .waiting)) (h .marked) in
+    let x = at-settled .settled in
     let r = at-store .store in
-    λ s h told. settle-by (a .lean) (latticeOf (a .course)) (roomsOf (a .keys .now) (a .cells .now)) (a .key) s (at-settled .settled .result) (at s h) _
-    (r .last .1 .0) (r .last .1 .1 .0) (a .estimates .now) (a .cells .now)
-    (no-row (a .lean) (seedIn (a .threshold) (rowsOf (a .fused-keys .now) (a .fused-distances .now) (a .fused-weights .now) (a .fused-count)))
-    (latticeOf (a .course)) (a .key) (store (length (a .keys .now)) (marchedRow (a .key) (at-settled .settled .result)) s)
-    (spread (latticeOf (a .course)) (length (a .cells .now)) (marchedRow (a .key) (at-settled .settled .result))) s
-    (a .waiting) (a .estimates .now) (a .cells .now) (h .heap) (h .lattice) (r .result) (r .last .1 .0) (r .last .1 .1 .0)
-    (r .ensures s (markingAlso (a .lean) (a .key) (s .waiting)) (marking (a .lean) (s .waiting)) (h .marked) (taken-same (a .lean) (a .key) (s .waiting))
-    (λ t. (h .places t, taken-spare (a .lean) (a .key) (s .waiting) t)) (finite-by (a .course) _ _ _ (at-start .pre .1 .1) (at s h)) (h .count) (h .new)) _
-    (at-why .why .given .1) _ _)
+    λ s h told.
+    settle-no-row
+    (a .course) (at-start .pre .1 .1) (a .lean) (seedIn (a .threshold) (rowsOf (a .fused-keys .now) (a .fused-distances .now) (a .fused-weights .now) (a .fused-count)))
+    (a .key) (a .count) (a .keys .now) (a .distances .now) (a .waiting) (a .estimates .now) (a .cells .now) s h told (x .result)
+    (x .ensures (s .stored) (markingAlso (a .lean) (a .key) (s .waiting)) (h .marked)) (r .result) (r .last .1 .0) (r .last .1 .1 .0) (r .ensures) _ (at-why .why .given .1)
 
 same-length-3 : tie.Need-same-length-3
 same-length-3 c = search needs
@@ -90,24 +82,16 @@ returns-2 c =
     let at-settled = at-store .before .before .before in
     let at-start = at-settled .before .before .before .before .before .before .before .before .before .before in
     let a = at-start .args in
-    let at : (s : State) → Taken (a .lean) (a .key) s (a .count) (a .keys .now) (a .distances .now) (a .waiting) (a .estimates .now) (a .cells .now)
-    → at-settled .settled .result ≡ settled (latticeOf (a .course)) (s .stored) (a .key) =
-    λ s h. at-settled .settled .ensures (s .stored) (markingAlso (a .lean) (a .key) (s .waiting)) (h .marked) in
+    let x = at-settled .settled in
     let r = at-store .store in
     let d = at-spread .spread in
-    λ s h told. settle-by (a .lean) (latticeOf (a .course)) (roomsOf (a .keys .now) (a .cells .now)) (a .key) s (at-settled .settled .result) (at s h) _
+    λ s h told.
+    settle-no-cell
+    (a .course) (at-start .pre .1 .1) (a .lean) (seedIn (a .threshold) (rowsOf (a .fused-keys .now) (a .fused-distances .now) (a .fused-weights .now) (a .fused-count)))
+    (a .key) (a .count) (a .keys .now) (a .distances .now) (a .waiting) (a .estimates .now) (a .cells .now) s h told (x .result)
+    (x .ensures (s .stored) (markingAlso (a .lean) (a .key) (s .waiting)) (h .marked)) (r .result) (r .last .1 .0) (r .last .1 .1 .0) (r .ensures) _ (at-rows .rows .given .1) (d .result)
     (d .last .1 .1 .1 .1 .1 .1 .1 .0) (d .last .1 .1 .1 .1 .1 .1 .1 .1 .0)
-    (d .last .1 .1 .1 .1 .1 .1 .1 .1 .1 .0) (d .last .1 .1 .1 .1 .1 .1 .1 .1 .1 .1 .0)
-    (no-cell (a .lean) (seedIn (a .threshold) (rowsOf (a .fused-keys .now) (a .fused-distances .now) (a .fused-weights .now) (a .fused-count)))
-    (latticeOf (a .course)) (a .key) (store (length (a .keys .now)) (marchedRow (a .key) (at-settled .settled .result)) s)
-    (spread (latticeOf (a .course)) (length (a .cells .now)) (marchedRow (a .key) (at-settled .settled .result))) s
-    (a .waiting) (a .estimates .now) (a .cells .now) (h .heap) (h .lattice) (r .result) (r .last .1 .0) (r .last .1 .1 .0)
-    (r .ensures s (markingAlso (a .lean) (a .key) (s .waiting)) (marking (a .lean) (s .waiting)) (h .marked) (taken-same (a .lean) (a .key) (s .waiting))
-    (λ t. (h .places t, taken-spare (a .lean) (a .key) (s .waiting) t)) (finite-by (a .course) _ _ _ (at-start .pre .1 .1) (at s h)) (h .count) (h .new))
-    (λ t e. told-stored (seedIn (a .threshold) (rowsOf (a .fused-keys .now) (a .fused-distances .now) (a .fused-weights .now) (a .fused-count)))
-    (latticeOf (a .course)) (a .key) s told (length (a .keys .now)) (at-settled .settled .result) t e)
-    _ (at-rows .rows .given .1) (d .result) (d .last .1 .1 .1 .1 .1 .1 .1 .0) (d .last .1 .1 .1 .1 .1 .1 .1 .1 .0)
-    (d .last .1 .1 .1 .1 .1 .1 .1 .1 .1 .0) (d .last .1 .1 .1 .1 .1 .1 .1 .1 .1 .1 .0) (d .ensures) _ (at-why2 .why2 .given .1))
+    (d .last .1 .1 .1 .1 .1 .1 .1 .1 .1 .0) (d .last .1 .1 .1 .1 .1 .1 .1 .1 .1 .1 .0) (d .ensures) _ (at-why2 .why2 .given .1)
 
 same-length-7 : tie.Need-same-length-7
 same-length-7 c = search needs
@@ -130,24 +114,16 @@ returns-3 c =
     let at-settled = at-store .before .before .before in
     let at-start = at-settled .before .before .before .before .before .before .before .before .before .before in
     let a = at-start .args in
-    let at : (s : State) → Taken (a .lean) (a .key) s (a .count) (a .keys .now) (a .distances .now) (a .waiting) (a .estimates .now) (a .cells .now)
-    → at-settled .settled .result ≡ settled (latticeOf (a .course)) (s .stored) (a .key) =
-    λ s h. at-settled .settled .ensures (s .stored) (markingAlso (a .lean) (a .key) (s .waiting)) (h .marked) in
+    let x = at-settled .settled in
     let r = at-store .store in
     let d = at-spread .spread in
-    λ s h told. settle-by (a .lean) (latticeOf (a .course)) (roomsOf (a .keys .now) (a .cells .now)) (a .key) s (at-settled .settled .result) (at s h) _
+    λ s h told.
+    settle-done
+    (a .course) (at-start .pre .1 .1) (a .lean) (seedIn (a .threshold) (rowsOf (a .fused-keys .now) (a .fused-distances .now) (a .fused-weights .now) (a .fused-count)))
+    (a .key) (a .count) (a .keys .now) (a .distances .now) (a .waiting) (a .estimates .now) (a .cells .now) s h told (x .result)
+    (x .ensures (s .stored) (markingAlso (a .lean) (a .key) (s .waiting)) (h .marked)) (r .result) (r .last .1 .0) (r .last .1 .1 .0) (r .ensures) _ (at-rows .rows .given .1) (d .result)
     (d .last .1 .1 .1 .1 .1 .1 .1 .0) (d .last .1 .1 .1 .1 .1 .1 .1 .1 .0)
-    (d .last .1 .1 .1 .1 .1 .1 .1 .1 .1 .0) (d .last .1 .1 .1 .1 .1 .1 .1 .1 .1 .1 .0)
-    (both-done (a .lean) (seedIn (a .threshold) (rowsOf (a .fused-keys .now) (a .fused-distances .now) (a .fused-weights .now) (a .fused-count)))
-    (latticeOf (a .course)) (a .key) (store (length (a .keys .now)) (marchedRow (a .key) (at-settled .settled .result)) s)
-    (spread (latticeOf (a .course)) (length (a .cells .now)) (marchedRow (a .key) (at-settled .settled .result))) s
-    (a .waiting) (a .estimates .now) (a .cells .now) (h .heap) (h .lattice) (r .result) (r .last .1 .0) (r .last .1 .1 .0)
-    (r .ensures s (markingAlso (a .lean) (a .key) (s .waiting)) (marking (a .lean) (s .waiting)) (h .marked) (taken-same (a .lean) (a .key) (s .waiting))
-    (λ t. (h .places t, taken-spare (a .lean) (a .key) (s .waiting) t)) (finite-by (a .course) _ _ _ (at-start .pre .1 .1) (at s h)) (h .count) (h .new))
-    (λ t e. told-stored (seedIn (a .threshold) (rowsOf (a .fused-keys .now) (a .fused-distances .now) (a .fused-weights .now) (a .fused-count)))
-    (latticeOf (a .course)) (a .key) s told (length (a .keys .now)) (at-settled .settled .result) t e)
-    _ (at-rows .rows .given .1) (d .result) (d .last .1 .1 .1 .1 .1 .1 .1 .0) (d .last .1 .1 .1 .1 .1 .1 .1 .1 .0)
-    (d .last .1 .1 .1 .1 .1 .1 .1 .1 .1 .0) (d .last .1 .1 .1 .1 .1 .1 .1 .1 .1 .1 .0) (d .ensures) _ (at-held .held .given .1))
+    (d .last .1 .1 .1 .1 .1 .1 .1 .1 .1 .0) (d .last .1 .1 .1 .1 .1 .1 .1 .1 .1 .1 .0) (d .ensures) _ (at-held .held .given .1)
 
 pub settle-spec : {M : Type 1} → statement M
 settle-spec =

@@ -1,16 +1,11 @@
 -- `fronts::sow` meets its contract: a row is stored, then its neighbours wait.
 -- Assumes nothing.
-use mathlib.Core.Path.{_≡_, refl, sym, _∙_}
-use lib.ListN.{length}
-use Rattle.floats.specs.Floats.{sizeOf}
-use Rattle.neighbors.specs.Neighbors.{neighbours}
-use Rattle.marching.specs.March.{marchedRow, store, waitAll, sow}
+use mathlib.Core.Path.{_≡_, sym, _∙_}
 use Rattle.table.specs.Table.{rowsOf}
 use Rattle.marching.specs.Lattice.{latticeOf}
 use Rattle.marching.specs.Spreading.{seedIn}
 use Rattle.marching.proofs.Numbers.{seed-number}
-use Rattle.fronts.specs.Fronts.{marking}
-use Rattle.fronts.proofs.Stepping.{told-stored, no-row, no-cell, both-done, with-size, sow-spare}
+use Rattle.fronts.proofs.Stepping.{sow-no-row, sow-no-cell, sow-done}
 use borrow.Author.Needs.{needs}
 use Rattle.fronts.proofs.sow.Statement.{statement}
 use Rattle.fronts.proofs.sow.Tie as tie
@@ -50,7 +45,6 @@ same-length-2 : tie.Need-same-length-2
 same-length-2 c = search needs
 
 returns : tie.Need-returns
-unfolding sow
 returns c =
     let at-why = c .before in
     let at-store = at-why .before .before .before .before .before .before in
@@ -58,12 +52,10 @@ returns c =
     let a = at-start .args in
     let r = at-store .store in
     λ s h o told.
-    no-row (a .lean) (seedIn (a .threshold) (rowsOf (a .fused-keys .now) (a .fused-distances .now) (a .fused-weights .now) (a .fused-count)))
-    (latticeOf (a .course)) (a .key) (store (length (a .keys .now)) (marchedRow (a .key) (a .distance)) s)
-    (waitAll (length (a .cells .now)) (sizeOf (a .distance)) (neighbours (a .key))) s (a .waiting) (a .estimates .now) (a .cells .now)
-    (h .front .heap) (h .front .lattice) (r .result) (r .last .1 .0) (r .last .1 .1 .0)
-    (r .ensures s (marking (a .lean) (s .waiting)) (marking (a .lean) (s .waiting)) (h .front .marked) (λ j _. refl)
-    (λ t. (h .front .places t, sow-spare (a .lean) (a .key) (s .waiting) t)) (at-start .pre .1 .1) (h .count) o) _ (at-why .why .given .1) _ _
+    sow-no-row
+    (a .course) (a .lean) (seedIn (a .threshold) (rowsOf (a .fused-keys .now) (a .fused-distances .now) (a .fused-weights .now) (a .fused-count)))
+    (a .key) (a .count) (a .keys .now) (a .distances .now) (a .waiting) (a .estimates .now) (a .cells .now) s h o told (a .distance) (at-start .pre .1 .1)
+    (r .result) (r .last .1 .0) (r .last .1 .1 .0) (r .ensures) _ (at-why .why .given .1)
 
 same-length-3 : tie.Need-same-length-3
 same-length-3 c = search needs
@@ -78,7 +70,6 @@ same-length-6 : tie.Need-same-length-6
 same-length-6 c = search needs
 
 returns-2 : tie.Need-returns-2
-unfolding sow
 returns-2 c =
     let at-why2 = c .before in
     let at-wait-around = at-why2 .before .before .before .before .before .before .before .before .before .before in
@@ -90,21 +81,12 @@ returns-2 c =
     let r = at-store .store in
     let d = at-wait-around .wait-around in
     λ s h o told.
-    no-cell (a .lean) (seedIn (a .threshold) (rowsOf (a .fused-keys .now) (a .fused-distances .now) (a .fused-weights .now) (a .fused-count)))
-    (latticeOf (a .course)) (a .key) (store (length (a .keys .now)) (marchedRow (a .key) (a .distance)) s)
-    (waitAll (length (a .cells .now)) (sizeOf (a .distance)) (neighbours (a .key))) s (a .waiting) (a .estimates .now) (a .cells .now)
-    (h .front .heap) (h .front .lattice) (r .result) (r .last .1 .0) (r .last .1 .1 .0)
-    (r .ensures s (marking (a .lean) (s .waiting)) (marking (a .lean) (s .waiting)) (h .front .marked) (λ j _. refl)
-    (λ t. (h .front .places t, sow-spare (a .lean) (a .key) (s .waiting) t)) (at-start .pre .1 .1) (h .count) o)
-    (λ t e. told-stored (seedIn (a .threshold) (rowsOf (a .fused-keys .now) (a .fused-distances .now) (a .fused-weights .now) (a .fused-count)))
-    (latticeOf (a .course)) (a .key) s told (length (a .keys .now)) (a .distance) t e)
-    _ (at-rows .rows .given .1) (d .result) (d .last .1 .1 .1 .1 .1 .1 .1 .0) (d .last .1 .1 .1 .1 .1 .1 .1 .1 .0)
-    (d .last .1 .1 .1 .1 .1 .1 .1 .1 .1 .0) (d .last .1 .1 .1 .1 .1 .1 .1 .1 .1 .1 .0)
-    (with-size (a .lean) (seedIn (a .threshold) (rowsOf (a .fused-keys .now) (a .fused-distances .now) (a .fused-weights .now) (a .fused-count)))
-    (latticeOf (a .course)) (a .key) (length (a .cells .now)) (at-size .size .result) (sizeOf (a .distance)) (neighbours (a .key))
-    (r .last .1 .0) (r .last .1 .1 .0) (a .waiting) (a .estimates .now) (a .cells .now) (d .result)
+    sow-no-cell
+    (a .course) (a .lean) (seedIn (a .threshold) (rowsOf (a .fused-keys .now) (a .fused-distances .now) (a .fused-weights .now) (a .fused-count)))
+    (a .key) (a .count) (a .keys .now) (a .distances .now) (a .waiting) (a .estimates .now) (a .cells .now) s h o told (a .distance) (at-start .pre .1 .1)
+    (r .result) (r .last .1 .0) (r .last .1 .1 .0) (r .ensures) _ (at-rows .rows .given .1) (at-size .size .result) (at-size .size .ensures) (d .result)
     (d .last .1 .1 .1 .1 .1 .1 .1 .0) (d .last .1 .1 .1 .1 .1 .1 .1 .1 .0)
-    (d .last .1 .1 .1 .1 .1 .1 .1 .1 .1 .0) (d .last .1 .1 .1 .1 .1 .1 .1 .1 .1 .1 .0) (at-size .size .ensures) (d .ensures)) _ (at-why2 .why2 .given .1)
+    (d .last .1 .1 .1 .1 .1 .1 .1 .1 .1 .0) (d .last .1 .1 .1 .1 .1 .1 .1 .1 .1 .1 .0) (d .ensures) _ (at-why2 .why2 .given .1)
 
 same-length-7 : tie.Need-same-length-7
 same-length-7 c = search needs
@@ -119,7 +101,6 @@ same-length-10 : tie.Need-same-length-10
 same-length-10 c = search needs
 
 returns-3 : tie.Need-returns-3
-unfolding sow
 returns-3 c =
     let at-held = c .before in
     let at-wait-around = at-held .before .before .before .before .before .before .before .before .before .before in
@@ -131,21 +112,12 @@ returns-3 c =
     let r = at-store .store in
     let d = at-wait-around .wait-around in
     λ s h o told.
-    both-done (a .lean) (seedIn (a .threshold) (rowsOf (a .fused-keys .now) (a .fused-distances .now) (a .fused-weights .now) (a .fused-count)))
-    (latticeOf (a .course)) (a .key) (store (length (a .keys .now)) (marchedRow (a .key) (a .distance)) s)
-    (waitAll (length (a .cells .now)) (sizeOf (a .distance)) (neighbours (a .key))) s (a .waiting) (a .estimates .now) (a .cells .now)
-    (h .front .heap) (h .front .lattice) (r .result) (r .last .1 .0) (r .last .1 .1 .0)
-    (r .ensures s (marking (a .lean) (s .waiting)) (marking (a .lean) (s .waiting)) (h .front .marked) (λ j _. refl)
-    (λ t. (h .front .places t, sow-spare (a .lean) (a .key) (s .waiting) t)) (at-start .pre .1 .1) (h .count) o)
-    (λ t e. told-stored (seedIn (a .threshold) (rowsOf (a .fused-keys .now) (a .fused-distances .now) (a .fused-weights .now) (a .fused-count)))
-    (latticeOf (a .course)) (a .key) s told (length (a .keys .now)) (a .distance) t e)
-    _ (at-rows .rows .given .1) (d .result) (d .last .1 .1 .1 .1 .1 .1 .1 .0) (d .last .1 .1 .1 .1 .1 .1 .1 .1 .0)
-    (d .last .1 .1 .1 .1 .1 .1 .1 .1 .1 .0) (d .last .1 .1 .1 .1 .1 .1 .1 .1 .1 .1 .0)
-    (with-size (a .lean) (seedIn (a .threshold) (rowsOf (a .fused-keys .now) (a .fused-distances .now) (a .fused-weights .now) (a .fused-count)))
-    (latticeOf (a .course)) (a .key) (length (a .cells .now)) (at-size .size .result) (sizeOf (a .distance)) (neighbours (a .key))
-    (r .last .1 .0) (r .last .1 .1 .0) (a .waiting) (a .estimates .now) (a .cells .now) (d .result)
+    sow-done
+    (a .course) (a .lean) (seedIn (a .threshold) (rowsOf (a .fused-keys .now) (a .fused-distances .now) (a .fused-weights .now) (a .fused-count)))
+    (a .key) (a .count) (a .keys .now) (a .distances .now) (a .waiting) (a .estimates .now) (a .cells .now) s h o told (a .distance) (at-start .pre .1 .1)
+    (r .result) (r .last .1 .0) (r .last .1 .1 .0) (r .ensures) _ (at-rows .rows .given .1) (at-size .size .result) (at-size .size .ensures) (d .result)
     (d .last .1 .1 .1 .1 .1 .1 .1 .0) (d .last .1 .1 .1 .1 .1 .1 .1 .1 .0)
-    (d .last .1 .1 .1 .1 .1 .1 .1 .1 .1 .0) (d .last .1 .1 .1 .1 .1 .1 .1 .1 .1 .1 .0) (at-size .size .ensures) (d .ensures)) _ (at-held .held .given .1)
+    (d .last .1 .1 .1 .1 .1 .1 .1 .1 .1 .0) (d .last .1 .1 .1 .1 .1 .1 .1 .1 .1 .1 .0) (d .ensures) _ (at-held .held .given .1)
 
 pub sow-spec : {M : Type 1} → statement M
 sow-spec =
