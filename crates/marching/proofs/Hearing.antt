@@ -20,6 +20,7 @@ use Rattle.marching.specs.March.{MarchedRow, marchedRow, Cell, cell, Sta
 use Rattle.marching.specs.Promises.{Said, From}
 use Rattle.marching.proofs.KeysOnce.{insert-member}
 use Rattle.marching.proofs.Sound.{After, after-then, after-cond, after-weaken}
+use Rattle.marching.proofs.Spreading.{no-stored}
 
 -- ---- lists
 
@@ -30,20 +31,13 @@ all-map P Q (x ∷ xs) h a = (h x (a .0), all-map P Q xs h (a .1))
 
 -- ---- what is stored
 
--- a cell that has a distance is stored, one that has none is not
+-- a cell that has a distance is stored (one that has none is not: no-stored)
 stored-distance : (k : ℕ) (rs : List MarchedRow) {d : Float} → distanceOf k rs ≡ some d → isStored k rs ≡ true
 unfolding distanceOf member
 stored-distance k [] {d} h = absurd (let z : _≡_ {A = ℕ} 0 1 = cc in omega arith)
 stored-distance k (r ∷ rs) {d} h =
     cases (λ (b : Bool). cond b (some (r .distance)) (distanceOf k rs) ≡ some d → b || isStored k rs ≡ true) (eqb (r .key) k)
     (λ e g. refl) (λ e g. stored-distance k rs g) h
-
-no-distance : (k : ℕ) (rs : List MarchedRow) → distanceOf k rs ≡ none → isStored k rs ≡ false
-unfolding distanceOf member
-no-distance k [] h = refl
-no-distance k (r ∷ rs) h =
-    cases (λ (b : Bool). cond b (some (r .distance)) (distanceOf k rs) ≡ none → b || isStored k rs ≡ false) (eqb (r .key) k)
-    (λ e g. absurd (let z : _≡_ {A = ℕ} 0 1 = cc in omega arith)) (λ e g. no-distance k rs g) h
 
 -- what holds of every row holds of the one with this distance
 at-distance : (P : Float → Type 0) (k : ℕ) (rs : List MarchedRow) {d : Float} → distanceOf k rs ≡ some d → All (λ (r : MarchedRow). P (r .distance)) rs → P d
@@ -123,7 +117,7 @@ settling-said f rs k p (n ∷ ns) l i h a = one (distanceOf n rs) refl (λ j. se
         → Said f rs k p (n ∷ ns) (settling f rs k (suc p) (heard (f .size) (f .reach k p) largest o) ns)
     one none e later =
         inr (later (⊎-elim (λ (q : l ≡ n).
-        absurd (true≢false (sym h ∙ ap (λ (x : ℕ). isStored x rs) q ∙ no-distance n rs e))) (λ j. j)
+        absurd (true≢false (sym h ∙ ap (λ (x : ℕ). isStored x rs) q ∙ no-stored n rs e))) (λ j. j)
         (List·Memᴰ·cases-cons i)))
     one (some d) e later =
         let c = candidate (f .size) (f .reach k p) d in

@@ -71,15 +71,20 @@ no-stored k (r ∷ rs) h =
 pub stored-more : (n : ℕ) (r : MarchedRow) (rs : List MarchedRow) → isStored n (insert rowBefore r rs) ≡ eqb (r .key) n || isStored n rs
 stored-more n r rs = insert-member rowBefore r (λ (x : MarchedRow). x .key) n rs
 
--- (as in crates/fronts/proofs/Marking.antt, which could take it from here)
-pub distance-insert : (n : ℕ) (r : MarchedRow) (rs : List MarchedRow) → isStored (r .key) rs ≡ false → distanceOf n (insert rowBefore r rs) ≡ cond (eqb (r .key) n) (some (r .distance)) (distanceOf n rs)
+-- a new row's key has the row's distance, and every other key what it had
+pub distance-insert : (n : ℕ) (r : MarchedRow) (rs : List MarchedRow)
+    → isStored (r .key) rs ≡ false
+    → distanceOf n (insert rowBefore r rs) ≡ cond (eqb (r .key) n) (some (r .distance)) (distanceOf n rs)
 unfolding distanceOf insert member
 distance-insert n r [] o = refl
 distance-insert n r (s ∷ rs) o =
-    cases (λ (b : Bool). distanceOf n (cond b (s ∷ insert rowBefore r rs) (r ∷ (s ∷ rs))) ≡ cond (eqb (r .key) n) (some (r .distance)) (cond (eqb (s .key) n) (some (s .distance)) (distanceOf n rs))) (ltb (s .key) (r .key))
+    let before = cond (eqb (s .key) n) (some (s .distance)) (distanceOf n rs) in
+    let new : eqb (s .key) (r .key) ≡ false = or-first (eqb (s .key) (r .key)) (member (r .key) (keysOf rs)) o in
+    cases (λ (b : Bool). distanceOf n (cond b (s ∷ insert rowBefore r rs) (r ∷ (s ∷ rs))) ≡ cond (eqb (r .key) n) (some (r .distance)) before)
+    (ltb (s .key) (r .key))
     (λ e. rw (distance-insert n r rs (or-second (eqb (s .key) (r .key)) (member (r .key) (keysOf rs)) o))
     (swap (eqb (s .key) n) (eqb (r .key) n) (some (s .distance)) (some (r .distance)) (distanceOf n rs)
-    (λ p q. eqb-false (s .key) (r .key) (or-first (eqb (s .key) (r .key)) (member (r .key) (keysOf rs)) o) (eqb-true (s .key) n p ∙ sym (eqb-true (r .key) n q)))))
+    (λ p q. eqb-false (s .key) (r .key) new (eqb-true (s .key) n p ∙ sym (eqb-true (r .key) n q)))))
     (λ e. refl)
   where
     swap : (a b : Bool) (x y z : Option Float) → (a ≡ true → b ≡ true → ⊥) → cond a x (cond b y z) ≡ cond b y (cond a x z)
@@ -132,13 +137,21 @@ module _ (seed : ℕ → Bool) (f : Field) (r : MarchedRow) (rs : List MarchedRo
   quiet l o = rw (no-distance l rs o)
 
   -- the new row adds its own neighbours, if it has spread
-  pub any-insert : (ls : List ℕ) → anySpread seed f (insert rowBefore r rs) ls ≡ anySpread seed f rs ls || (hasSpread seed f (r .key) (some (r .distance)) && member (r .key) ls)
+  pub any-insert : (ls : List ℕ)
+      → anySpread seed f (insert rowBefore r rs) ls ≡ anySpread seed f rs ls || (hasSpread seed f (r .key) (some (r .distance)) && member (r .key) ls)
   unfolding anySpread member
   any-insert [] = cases (λ (b : Bool). false ≡ b && false) (hasSpread seed f (r .key) (some (r .distance))) (λ e. refl) (λ e. refl)
   any-insert (l ∷ ls) =
+      let own = hasSpread seed f (r .key) (some (r .distance)) in
+      let any = anySpread seed f rs ls in
       rw (distance-insert l r rs new, any-insert ls)
-      (cases (λ (b : Bool). eqb (r .key) l ≡ b → hasSpread seed f l (cond b (some (r .distance)) (distanceOf l rs)) || (anySpread seed f rs ls || (hasSpread seed f (r .key) (some (r .distance)) && member (r .key) ls)) ≡ (hasSpread seed f l (distanceOf l rs) || anySpread seed f rs ls) || (hasSpread seed f (r .key) (some (r .distance)) && (eqb l (r .key) || member (r .key) ls))) (eqb (r .key) l)
-      (λ _ e. let q : r .key ≡ l = eqb-true (r .key) l e in rw (← q, quiet (r .key) new, eq-eqb (r .key) (r .key) refl) (here (hasSpread seed f (r .key) (some (r .distance))) (anySpread seed f rs ls) (member (r .key) ls)))
+      (cases (λ (b : Bool).
+      eqb (r .key) l ≡ b
+      → hasSpread seed f l (cond b (some (r .distance)) (distanceOf l rs)) || (any || (own && member (r .key) ls))
+      ≡ (hasSpread seed f l (distanceOf l rs) || any) || (own && (eqb l (r .key) || member (r .key) ls))) (eqb (r .key) l)
+      (λ _ e.
+      let q : r .key ≡ l = eqb-true (r .key) l e in
+      rw (← q, quiet (r .key) new, eq-eqb (r .key) (r .key) refl) (here own any (member (r .key) ls)))
       (λ _ e. rw (ne-eqb l (r .key) (λ q. eqb-false (r .key) l e (sym q))) (sym (or-assoc (hasSpread seed f l (distanceOf l rs)) (anySpread seed f rs ls) _)))
       refl)
     where
@@ -152,7 +165,10 @@ module _ (seed : ℕ → Bool) (f : Field) (r : MarchedRow) (rs : List MarchedRo
   other-insert [] = refl
   other-insert (l ∷ ls) =
       rw (distance-insert l r rs new, other-insert ls)
-      (cases (λ (b : Bool). eqb (r .key) l ≡ b → (not (eqb l (r .key)) && hasSpread seed f l (cond b (some (r .distance)) (distanceOf l rs))) || anySpread seed f rs ls ≡ hasSpread seed f l (distanceOf l rs) || anySpread seed f rs ls) (eqb (r .key) l)
+      (cases (λ (b : Bool).
+      eqb (r .key) l ≡ b
+      → (not (eqb l (r .key)) && hasSpread seed f l (cond b (some (r .distance)) (distanceOf l rs))) || anySpread seed f rs ls
+      ≡ hasSpread seed f l (distanceOf l rs) || anySpread seed f rs ls) (eqb (r .key) l)
       (λ _ e. let q : r .key ≡ l = eqb-true (r .key) l e in rw (← q, quiet (r .key) new, eq-eqb (r .key) (r .key) refl))
       (λ _ e. rw (ne-eqb l (r .key) (λ q. eqb-false (r .key) l e (sym q))))
       refl)
@@ -175,7 +191,9 @@ module _ (room : ℕ) (e : Float) where
             cases (λ (b : Bool). eqb k n ≡ b → waits n (s .waiting) ≡ waits n (s .waiting) || (b || false)) (eqb k n)
             (λ _ q.
             let i : k ≡ n = eqb-true k n q in
-            let w : waits n (s .waiting) ≡ true = ⊎-elim (λ a. absurd (true≢false (sym a ∙ ap (λ (x : ℕ). isStored x (s .stored)) i ∙ o))) (λ a. ap (λ (x : ℕ). waits x (s .waiting)) (sym i) ∙ a) (or-cases (isStored k (s .stored)) (waits k (s .waiting)) h) in
+            let w : waits n (s .waiting) ≡ true =
+            ⊎-elim (λ a. absurd (true≢false (sym a ∙ ap (λ (x : ℕ). isStored x (s .stored)) i ∙ o)))
+            (λ a. ap (λ (x : ℕ). waits x (s .waiting)) (sym i) ∙ a) (or-cases (isStored k (s .stored)) (waits k (s .waiting)) h) in
             rw w)
             (λ _ q. or-comm false (waits n (s .waiting))) refl;
       })
@@ -199,7 +217,9 @@ module _ (room : ℕ) (e : Float) where
       (λ t u. after-weaken (Waited ks t) (Waited (k ∷ ks) s) (waitAll room e ks t)
       (λ v w. record {
         rows = w .rows ∙ u .rows;
-        cells = λ n o. w .cells n (ap (isStored n) (u .rows) ∙ o) ∙ ap (λ (b : Bool). b || member n ks) (u .cells n o) ∙ step (waits n (s .waiting)) (eqb k n) (member n ks);
+        cells = λ n o.
+            w .cells n (ap (isStored n) (u .rows) ∙ o) ∙ ap (λ (b : Bool). b || member n ks) (u .cells n o)
+            ∙ step (waits n (s .waiting)) (eqb k n) (member n ks);
       })
       (waitAll-waited ks t))
     where
@@ -244,11 +264,15 @@ module _ (f : Field) (seed : ℕ → Bool) where
   no-seed k s h o = cases (λ (b : Bool). seed k ≡ b → b ≡ false) (seed k) (λ _ e. absurd (true≢false (sym (h .sown k e) ∙ o))) (λ _ e. refl) refl
 
   -- what a row that is no seed adds
-  adds : (r : MarchedRow) → seed (r .key) ≡ false → (n : ℕ) → member n (cond (le (onward f (r .distance)) (f .most)) (f .near (r .key)) []) ≡ hasSpread seed f (r .key) (some (r .distance)) && member n (f .near (r .key))
+  adds : (r : MarchedRow)
+      → seed (r .key) ≡ false
+      → (n : ℕ)
+      → member n (cond (le (onward f (r .distance)) (f .most)) (f .near (r .key)) []) ≡ hasSpread seed f (r .key) (some (r .distance)) && member n (f .near (r .key))
   unfolding hasSpread member
   adds r e n =
       rw e
-      (cases (λ (b : Bool). member n (cond b (f .near (r .key)) []) ≡ b && member n (f .near (r .key))) (le (onward f (r .distance)) (f .most)) (λ _. refl) (λ _. refl))
+      (cases (λ (b : Bool). member n (cond b (f .near (r .key)) []) ≡ b && member n (f .near (r .key))) (le (onward f (r .distance)) (f .most))
+      (λ _. refl) (λ _. refl))
 
   -- before the first seed
   pub nothing-sowing : (rs : List MarchedRow) → ascending (keysOf rs) ≡ true → ((k : ℕ) → member k (keysOf rs) ≡ seed k) → Sowing rs nothing
@@ -269,23 +293,30 @@ module _ (f : Field) (seed : ℕ → Bool) where
 
 module _ (f : Field) (m : Rooms) where
   -- a row that is no seed has spread where its onward estimate is at most the maximum distance
-  pub spread-waited : (r : MarchedRow) (t : State) → After (Waited (cond (le (onward f (r .distance)) (f .most)) (f .near (r .key)) []) t) (spread f (m .cells) r t)
+  pub spread-waited : (r : MarchedRow) (t : State)
+      → After (Waited (cond (le (onward f (r .distance)) (f .most)) (f .near (r .key)) []) t) (spread f (m .cells) r t)
   unfolding spread After member
   spread-waited r t =
-      cases (λ (b : Bool). After (Waited (cond b (f .near (r .key)) []) t) (cond b (waitAll (m .cells) (onward f (r .distance)) (f .near (r .key)) t) (on t))) (le (onward f (r .distance)) (f .most))
+      let spread-on = waitAll (m .cells) (onward f (r .distance)) (f .near (r .key)) t in
+      cases (λ (b : Bool). After (Waited (cond b (f .near (r .key)) []) t) (cond b spread-on (on t))) (le (onward f (r .distance)) (f .most))
       (λ _. waitAll-waited (m .cells) (onward f (r .distance)) (f .near (r .key)) t)
       (λ _. record { rows = refl; cells = λ n o. or-comm false (waits n (t .waiting)) })
 
   -- the rows that a taking leaves
-  pub taking-rows : (c : Cell) (cs : List Cell) (s : State) → After (λ t. t .stored ≡ cond (isStored (c .key) (s .stored)) (s .stored) (insert rowBefore (marchedRow (c .key) (settled f (s .stored) (c .key))) (s .stored))) (taking f m (c ∷ cs) s)
+  pub taking-rows : (c : Cell) (cs : List Cell) (s : State)
+      → After (λ t. t .stored ≡ cond (isStored (c .key) (s .stored)) (s .stored)
+      (insert rowBefore (marchedRow (c .key) (settled f (s .stored) (c .key))) (s .stored))) (taking f m (c ∷ cs) s)
   unfolding taking visit settle After
   taking-rows c cs s =
       let r = marchedRow (c .key) (settled f (s .stored) (c .key)) in
       let s' = state (s .stored) cs (suc (s .takings)) in
-      after-cond (λ t. t .stored ≡ cond (isStored (c .key) (s .stored)) (s .stored) (insert rowBefore r (s .stored))) (isStored (c .key) (s .stored)) _ _
+      let left = cond (isStored (c .key) (s .stored)) (s .stored) (insert rowBefore r (s .stored)) in
+      after-cond (λ t. t .stored ≡ left) (isStored (c .key) (s .stored)) _ _
       (λ p. rw p)
-      (λ p. after-then (λ t. t ≡ state (insert rowBefore r (s .stored)) cs (suc (s .takings))) (λ t. t .stored ≡ cond (isStored (c .key) (s .stored)) (s .stored) (insert rowBefore r (s .stored))) (store (m .rows) r s') (spread f (m .cells) r) (store-is (m .rows) r s')
-      (λ t g. after-weaken _ (λ t. t .stored ≡ cond (isStored (c .key) (s .stored)) (s .stored) (insert rowBefore r (s .stored))) (spread f (m .cells) r t) (λ u w. w .rows ∙ ap (λ (x : State). x .stored) g ∙ rw p) (spread-waited r t)))
+      (λ p. after-then (λ t. t ≡ state (insert rowBefore r (s .stored)) cs (suc (s .takings))) (λ t. t .stored ≡ left) (store (m .rows) r s')
+      (spread f (m .cells) r) (store-is (m .rows) r s')
+      (λ t g. after-weaken _ (λ t. t .stored ≡ left) (spread f (m .cells) r t) (λ u w. w .rows ∙ ap (λ (x : State). x .stored) g ∙ rw p)
+      (spread-waited r t)))
 
 -- ---- the steps
 
@@ -297,7 +328,13 @@ module _ (f : Field) (m : Rooms) (back : (k l : ℕ) → l ∈ f .near k → k �
       (λ e. in-member k (f .near n) (back k n (member-in n (f .near k) e)))
 
   -- one row more, of a cell that is not stored; its neighbours wait if it has spread
-  grown : (r : MarchedRow) (s t u : State) (ks : List ℕ) → isStored (r .key) (s .stored) ≡ false → t .stored ≡ insert rowBefore r (s .stored) → ((n : ℕ) → isStored n (t .stored) ≡ false → waits n (t .waiting) ≡ anySpread seed f (s .stored) (f .near n)) → ((n : ℕ) → member n ks ≡ hasSpread seed f (r .key) (some (r .distance)) && member n (f .near (r .key))) → Waited ks t u → WaitsExactly seed f u
+  grown : (r : MarchedRow) (s t u : State) (ks : List ℕ)
+      → isStored (r .key) (s .stored) ≡ false
+      → t .stored ≡ insert rowBefore r (s .stored)
+      → ((n : ℕ) → isStored n (t .stored) ≡ false → waits n (t .waiting) ≡ anySpread seed f (s .stored) (f .near n))
+      → ((n : ℕ) → member n ks ≡ hasSpread seed f (r .key) (some (r .distance)) && member n (f .near (r .key)))
+      → Waited ks t u
+      → WaitsExactly seed f u
   grown r s t u ks new e h is w n o =
       let p : isStored n (t .stored) ≡ false = ap (isStored n) (sym (w .rows)) ∙ o in
       let q : u .stored ≡ insert rowBefore r (s .stored) = w .rows ∙ e in
@@ -306,16 +343,24 @@ module _ (f : Field) (m : Rooms) (back : (k l : ℕ) → l ∈ f .near k → k �
 
   -- ---- seeds
 
-  pub sow-exact : (r : MarchedRow) (s : State) → isStored (r .key) (s .stored) ≡ false → seed (r .key) ≡ true → WaitsExactly seed f s → After (λ t. (t .stored ≡ insert rowBefore r (s .stored)) × WaitsExactly seed f t) (sow (f .near) m r s)
+  pub sow-exact : (r : MarchedRow) (s : State)
+      → isStored (r .key) (s .stored) ≡ false
+      → seed (r .key) ≡ true
+      → WaitsExactly seed f s
+      → After (λ t. (t .stored ≡ insert rowBefore r (s .stored)) × WaitsExactly seed f t) (sow (f .near) m r s)
   unfolding sow
   sow-exact r s new sd h =
-      after-then (λ t. t ≡ state (insert rowBefore r (s .stored)) (s .waiting) (s .takings)) (λ t. (t .stored ≡ insert rowBefore r (s .stored)) × WaitsExactly seed f t) (store (m .rows) r s) _ (store-is (m .rows) r s)
-      (λ t e. after-weaken (Waited (f .near (r .key)) t) (λ u. (u .stored ≡ insert rowBefore r (s .stored)) × WaitsExactly seed f u) (waitAll (m .cells) _ (f .near (r .key)) t)
+      let stored = insert rowBefore r (s .stored) in
+      after-then (λ t. t ≡ state stored (s .waiting) (s .takings)) (λ t. (t .stored ≡ stored) × WaitsExactly seed f t) (store (m .rows) r s) _
+      (store-is (m .rows) r s)
+      (λ t e. after-weaken (Waited (f .near (r .key)) t) (λ u. (u .stored ≡ stored) × WaitsExactly seed f u) (waitAll (m .cells) _ (f .near (r .key)) t)
       (λ u w.
       let st : t .stored ≡ insert rowBefore r (s .stored) = ap (λ (x : State). x .stored) e in (
         w .rows ∙ st,
         grown r s t u (f .near (r .key)) new st
-            (λ n o. ap (λ (x : State). waits n (x .waiting)) e ∙ h n (or-second (eqb (r .key) n) (isStored n (s .stored)) (sym (stored-more n r (s .stored)) ∙ ap (isStored n) (sym st) ∙ o)))
+            (λ n o.
+            let z : eqb (r .key) n || isStored n (s .stored) ≡ false = sym (stored-more n r (s .stored)) ∙ ap (isStored n) (sym st) ∙ o in
+            ap (λ (x : State). waits n (x .waiting)) e ∙ h n (or-second (eqb (r .key) n) (isStored n (s .stored)) z))
             (λ n. rw (seed-spread f seed (r .key) (r .distance) sd)) w,
       ))
       (waitAll-waited (m .cells) _ (f .near (r .key)) t))
@@ -329,10 +374,13 @@ module _ (f : Field) (m : Rooms) (back : (k l : ℕ) → l ∈ f .near k → k �
       after-weaken (λ t. (t .stored ≡ insert rowBefore r (s .stored)) × WaitsExactly seed f t) (Sowing f seed rs) (sow (f .near) m r s)
       (λ t u. record {
         exact = u .1;
-        all = λ k. ap (λ (l : List MarchedRow). isStored k l || member k (keysOf rs)) (u .0) ∙ rw (stored-more k r (s .stored)) (turn (eqb (r .key) k) (isStored k (s .stored)) (member k (keysOf rs)) ∙ h .all k);
+        all = λ k.
+            ap (λ (l : List MarchedRow). isStored k l || member k (keysOf rs)) (u .0)
+            ∙ rw (stored-more k r (s .stored)) (turn (eqb (r .key) k) (isStored k (s .stored)) (member k (keysOf rs)) ∙ h .all k);
         once = o .1;
-        apart = λ k e. ap (isStored k) (u .0) ∙ stored-more k r (s .stored)
-            ∙ rw (ne-eqb (r .key) k (λ q. true≢false (sym e ∙ ap (λ (x : ℕ). member x (keysOf rs)) (sym q) ∙ o .0)), h .apart k (rw e (or-true (eqb (r .key) k))));
+        apart = λ k e.
+            let other : eqb (r .key) k ≡ false = ne-eqb (r .key) k (λ q. true≢false (sym e ∙ ap (λ (x : ℕ). member x (keysOf rs)) (sym q) ∙ o .0)) in
+            ap (isStored k) (u .0) ∙ stored-more k r (s .stored) ∙ rw (other, h .apart k (rw e (or-true (eqb (r .key) k))));
       })
       (sow-exact r s (h .apart (r .key) (rw self)) (sym (h .all (r .key)) ∙ rw self (or-true (isStored (r .key) (s .stored)))) (h .exact))
     where
@@ -346,7 +394,8 @@ module _ (f : Field) (m : Rooms) (back : (k l : ℕ) → l ∈ f .near k → k �
   pub sowAll-sowing : (rs qs : List MarchedRow) (s : State) → Sowing f seed (rs ++ qs) s → After (Sowing f seed qs) (sowAll (f .near) m rs s)
   unfolding sowAll After
   sowAll-sowing [] qs s h = h
-  sowAll-sowing (r ∷ rs) qs s h = after-then (Sowing f seed (rs ++ qs)) (Sowing f seed qs) (sow (f .near) m r s) _ (sow-sowing r (rs ++ qs) s h) (sowAll-sowing rs qs)
+  sowAll-sowing (r ∷ rs) qs s h =
+      after-then (Sowing f seed (rs ++ qs)) (Sowing f seed qs) (sow (f .near) m r s) _ (sow-sowing r (rs ++ qs) s h) (sowAll-sowing rs qs)
 
   -- ---- takings
 
@@ -362,7 +411,8 @@ module _ (f : Field) (m : Rooms) (back : (k l : ℕ) → l ∈ f .near k → k �
         sown = h .sown;
       })
       (λ p.
-      after-then (λ t. t ≡ state (insert rowBefore r (s .stored)) cs (suc (s .takings))) (Known f seed) (store (m .rows) r s') (spread f (m .cells) r) (store-is (m .rows) r s')
+      after-then (λ t. t ≡ state (insert rowBefore r (s .stored)) cs (suc (s .takings))) (Known f seed) (store (m .rows) r s')
+      (spread f (m .cells) r) (store-is (m .rows) r s')
       (λ t g. after-weaken (Waited (cond (le (onward f (r .distance)) (f .most)) (f .near (r .key)) []) t) (Known f seed) (spread f (m .cells) r t)
       (λ u w.
       let st : t .stored ≡ insert rowBefore r (s .stored) = ap (λ (x : State). x .stored) g in
@@ -370,7 +420,9 @@ module _ (f : Field) (m : Rooms) (back : (k l : ℕ) → l ∈ f .near k → k �
         exact = grown r s t u _ p st
             (λ n o.
             let z : eqb (c .key) n || isStored n (s .stored) ≡ false = sym (stored-more n r (s .stored)) ∙ ap (isStored n) (sym st) ∙ o in
-            ap (λ (x : State). waits n (x .waiting)) g ∙ others n (eqb-false (c .key) n (or-first (eqb (c .key) n) (isStored n (s .stored)) z)) ∙ h .exact n (or-second (eqb (c .key) n) (isStored n (s .stored)) z))
+            ap (λ (x : State). waits n (x .waiting)) g
+            ∙ others n (eqb-false (c .key) n (or-first (eqb (c .key) n) (isStored n (s .stored)) z))
+            ∙ h .exact n (or-second (eqb (c .key) n) (isStored n (s .stored)) z))
             (adds f seed r (no-seed f seed (c .key) s h p)) w;
         sown = λ k i. ap (isStored k) (w .rows ∙ st) ∙ stored-more k r (s .stored) ∙ rw (h .sown k i) (or-true (eqb (c .key) k));
       })
@@ -390,7 +442,9 @@ module _ (f : Field) (m : Rooms) (back : (k l : ℕ) → l ∈ f .near k → k �
   module _ (rs : List MarchedRow) (ascends : ascending (keysOf rs) ≡ true) (seeds-are : (k : ℕ) → member k (keysOf rs) ≡ seed k) where
     -- after all seeds
     pub all-sown : After (Known f seed) (sowAll (f .near) m rs nothing)
-    all-sown = after-weaken (Sowing f seed []) (Known f seed) (sowAll (f .near) m rs nothing) (sown-known f seed) (sowAll-sowing rs [] nothing (rw append-nil (nothing-sowing f seed rs ascends seeds-are)))
+    all-sown =
+        after-weaken (Sowing f seed []) (Known f seed) (sowAll (f .near) m rs nothing) (sown-known f seed)
+        (sowAll-sowing rs [] nothing (rw append-nil (nothing-sowing f seed rs ascends seeds-are)))
 
     -- after all seeds and any number of takings
     pub march-known : (n : ℕ) → After (Known f seed) (andThen (sowAll (f .near) m rs nothing) (takeUpTo f m n))
@@ -402,8 +456,18 @@ module _ (f : Field) (m : Rooms) (back : (k l : ℕ) → l ∈ f .near k → k �
     sowing-known ps qs e = sowAll-sowing ps qs nothing (rw e (nothing-sowing f seed rs ascends seeds-are))
 
 -- in words, of a cell that is not stored: where it waits a neighbour has spread, and where one has it waits
-pub waits-reached : (f : Field) (seed : ℕ → Bool) (s : State) → WaitsExactly seed f s → (n : ℕ) → isStored n (s .stored) ≡ false → waits n (s .waiting) ≡ true → Reached seed f (s .stored) n
+pub waits-reached : (f : Field) (seed : ℕ → Bool) (s : State)
+    → WaitsExactly seed f s
+    → (n : ℕ)
+    → isStored n (s .stored) ≡ false
+    → waits n (s .waiting) ≡ true
+    → Reached seed f (s .stored) n
 waits-reached f seed s h n o w = reached-of seed f (s .stored) n (sym (h n o) ∙ w)
 
-pub reached-waits : (f : Field) (seed : ℕ → Bool) (s : State) → WaitsExactly seed f s → (n : ℕ) → isStored n (s .stored) ≡ false → Reached seed f (s .stored) n → waits n (s .waiting) ≡ true
+pub reached-waits : (f : Field) (seed : ℕ → Bool) (s : State)
+    → WaitsExactly seed f s
+    → (n : ℕ)
+    → isStored n (s .stored) ≡ false
+    → Reached seed f (s .stored) n
+    → waits n (s .waiting) ≡ true
 reached-waits f seed s h n o r = h n o ∙ of-reached seed f (s .stored) n r

@@ -53,7 +53,9 @@ module _ (seed : ℕ → Bool) (f : Field) where
   unfolding member
   sow-told r q rs s t h own e w =
       new-decides r s t (h .apart (r .key) (rw (eq-eqb (q .key) (r .key) (sym own)))) e
-      (λ n o. ap (waits n) w ∙ h .exact n (or-second (eqb (r .key) n) (isStored n (s .stored)) (sym (stored-more n r (s .stored)) ∙ ap (isStored n) (sym e) ∙ o)))
+      (λ n o.
+      let z : eqb (r .key) n || isStored n (s .stored) ≡ false = sym (stored-more n r (s .stored)) ∙ ap (isStored n) (sym e) ∙ o in
+      ap (waits n) w ∙ h .exact n (or-second (eqb (r .key) n) (isStored n (s .stored)) z))
 
   pub settle-told : (r : MarchedRow) (c : Cell) (cs : List Cell) (s t : State)
       → Known f seed s
@@ -81,14 +83,17 @@ module _ (t : Float) where
   no-row-no-seed : (k : ℕ) (rs : List Row) → member k (tableKeys rs) ≡ false → seedIn t rs k ≡ false
   unfolding seedIn member
   no-row-no-seed k [] o = refl
-  no-row-no-seed k (r ∷ rs) o = rw (or-first (eqb (r .key) k) (member k (tableKeys rs)) o) (no-row-no-seed k rs (or-second (eqb (r .key) k) (member k (tableKeys rs)) o))
+  no-row-no-seed k (r ∷ rs) o =
+      rw (or-first (eqb (r .key) k) (member k (tableKeys rs)) o) (no-row-no-seed k rs (or-second (eqb (r .key) k) (member k (tableKeys rs)) o))
 
   -- a key is one of the seeds' where the table's row with that key is a seed
   pub seeds-looked-up : (rs : List Row) → Once (tableKeys rs) → (k : ℕ) → member k (keysOf (seeds t rs)) ≡ seedIn t rs k
   unfolding seeds seedIn member Once
   seeds-looked-up [] o k = refl
   seeds-looked-up (r ∷ rs) o k =
-      cases (λ (b : Bool). member k (keysOf (cond b (marchedRow (r .key) (r .distance) ∷ seeds t rs) (seeds t rs))) ≡ cond (eqb (r .key) k) b (seedIn t rs k)) (isSeed t r)
+      cases (λ (b : Bool).
+      member k (keysOf (cond b (marchedRow (r .key) (r .distance) ∷ seeds t rs) (seeds t rs)))
+      ≡ cond (eqb (r .key) k) b (seedIn t rs k)) (isSeed t r)
       (λ _. rw (seeds-looked-up rs (o .1) k) (first (eqb (r .key) k) (seedIn t rs k)))
       (λ _. rw (seeds-looked-up rs (o .1) k)
       (cases (λ (b : Bool). eqb (r .key) k ≡ b → seedIn t rs k ≡ cond b false (seedIn t rs k)) (eqb (r .key) k)
@@ -103,7 +108,9 @@ module _ (t : Float) where
   unfolding seedIn find seedAt
   seed-found [] k = refl
   seed-found (r ∷ rs) k =
-      cases (λ (b : Bool). cond b (isSeed t r) (seedIn t rs k) ≡ seedAt t (cond b (At 0) (next (find k (tableKeys rs)))) (tableDistances (r ∷ rs)) (tableWeights (r ∷ rs))) (eqb (r .key) k)
+      cases (λ (b : Bool).
+      cond b (isSeed t r) (seedIn t rs k)
+      ≡ seedAt t (cond b (At 0) (next (find k (tableKeys rs)))) (tableDistances (r ∷ rs)) (tableWeights (r ∷ rs))) (eqb (r .key) k)
       (λ _. refl) (λ _. seed-found rs k ∙ go (find k (tableKeys rs)))
     where
       go : (w : Found) → seedAt t w (tableDistances rs) (tableWeights rs) ≡ seedAt t (next w) (tableDistances (r ∷ rs)) (tableWeights (r ∷ rs))
@@ -116,7 +123,9 @@ distinct-once : (ks : List ℕ) → Distinct ks → Once ks
 unfolding Ordered Once
 distinct-once [] d = tt
 distinct-once (k ∷ ks) d =
-    (cases (λ (b : Bool). member k ks ≡ b → b ≡ false) (member k ks) (λ _ e. absurd (d .0 k (member-in k ks e) refl)) (λ _ e. refl) refl, distinct-once ks (d .1))
+    let first : member k ks ≡ false =
+    cases (λ (b : Bool). member k ks ≡ b → b ≡ false) (member k ks) (λ _ e. absurd (d .0 k (member-in k ks e) refl)) (λ _ e. refl) refl in
+    (first, distinct-once ks (d .1))
 
 pub neighbours-once : (k : ℕ) → Once (neighbours k)
 neighbours-once k = distinct-once (neighbours k) (neighbours-distinct k)
