@@ -13,6 +13,7 @@ use lib.ListN.{length, take, length-map}
 use lib.Ieee.{Float, nan, inf, fin, up, down, lt, eq, le, ofBits}
 use Rattle.floats.specs.Floats.{zero32, million, within}
 use Rattle.floats.proofs.Order.{within-size}
+use Rattle.floats.proofs.Sizes.{Small}
 use Rattle.ids.specs.Key.{onLattice}
 use Rattle.lists.specs.Lists.{_∈_, All}
 use Rattle.lists.specs.Padding.{padded}
@@ -27,7 +28,7 @@ use Rattle.table.proofs.SettingsLaws.{settings-known, farthest-known}
 use Rattle.marching.specs.March.{MarchedRow, State, Rooms, on, keysOf, distancesOf, seeds}
 use Rattle.marching.specs.Lattice.{marchFrom}
 use Rattle.marching.proofs.Lattice.{seeds-all}
-use Rattle.marching.proofs.Small.{Small, small-most, small-within}
+use Rattle.marching.proofs.Small.{small-most, small-within}
 use Rattle.marching.proofs.Facts.{marches}
 use Rattle.marched.specs.Marched.{marchedTable, pairs, marchedRowsOf, marchedRowsOk, marchedThen, marchedCheck}
 

@@ -9,6 +9,7 @@ use lib.ListN.{length}
 use lib.Ieee.{Float, lt, le, ofBits, toBits, binary32}
 use Rattle.floats.specs.Floats.{zero32, thousand, million, within, between, positiveTo}
 use Rattle.floats.proofs.Order.{within-size}
+use Rattle.floats.proofs.Sizes.{Small}
 use Rattle.ids.specs.Key.{onLattice}
 use Rattle.lists.specs.Lists.{_∈_, All}
 use Rattle.lists.proofs.Bools.{cases, and-first, and-second}
@@ -30,8 +31,7 @@ use Rattle.table.proofs.Checking.{sound}
 use Rattle.marching.proofs.Sound.{after-on, Ended, takings-few}
 use Rattle.marching.proofs.Bounded.{settled-within, march-within}
 use Rattle.marching.proofs.Lattice.{seeds-all, lattice-ends, lattice-keeps}
-use Rattle.marching.proofs.Least.{plain}
-use Rattle.marching.proofs.Small.{Small, small-below, small-million, small-thousand, small-most, small-within, plain-positive, said-small}
+use Rattle.marching.proofs.Small.{small-below, small-million, small-thousand, small-most, small-within, plain-positive, said-small}
 use Rattle.marching.proofs.Hearing.{Sure, all-map, march-said}
 
 -- ---- what the tests say
@@ -71,10 +71,6 @@ accepted s t e =
 -- ---- the lattice
 
 -- its steps are at most 2
-length-plain : (p : ℕ) → plain (lengthAt p) ≡ true
-unfolding lengthAt ofBits
-length-plain p = cases (λ (b : Bool). plain (cond b diagonal axial) ≡ true) (ltb p 8) (λ e. refl) (λ e. refl)
-
 length-small : (p : ℕ) → Small 2 (lengthAt p)
 unfolding lengthAt ofBits
 length-small p = cases (λ (b : Bool). Small 2 (cond b diagonal axial)) (ltb p 8) (λ e. lit≤ tt) (λ e. lit≤ tt)
@@ -87,9 +83,8 @@ module _ (size most : Float) (p : positiveTo thousand size ≡ true) where
   sure : (d : Float) → Small 1000000 d → Sure (lattice size most) d
   sure d h k i =
       let u = plain-positive size (and-first (lt zero32 size) (le size thousand) p) in
-      said-small size (lengthAt i) d u
-      (small-below size thousand 1000 u (and-second (lt zero32 size) (le size thousand) p) small-thousand)
-      (length-plain i) (length-small i) h
+      said-small size (lengthAt i) d
+      (small-below size thousand 1000 u (and-second (lt zero32 size) (le size thousand) p) small-thousand) (length-small i) h
 
   settled-sure :
       (le zero32 most ≡ true) × (le most million ≡ true)

@@ -199,10 +199,10 @@ unfolding units
 units-plain f q k =
     cond-plain (ltb (q * 2 ^ k) (2 ^ (low f + suc (emax f)))) (odd (suc (prec f)) false q k (low f)) (inf false) (odd-plain (suc (prec f)) q k (low f)) refl
 
-pub round-plain : (f : Format) (n d : ℕ) → plain (round f false n d) ≡ true
+round-plain : (f : Format) (n d : ℕ) → plain (round f false n d) ≡ true
 round-plain f n d = rw round-is (units-plain f _ _)
 
-pub add-plain : (x y : Float) → plain x ≡ true → plain y ≡ true → plain (add binary32 x y) ≡ true
+add-plain : (x y : Float) → plain x ≡ true → plain y ≡ true → plain (add binary32 x y) ≡ true
 unfolding add sum
 add-plain nan y p q = absurd (false≢true p)
 add-plain (inf true) y p q = absurd (false≢true p)

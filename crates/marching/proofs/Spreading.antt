@@ -267,7 +267,8 @@ module _ (f : Field) (seed : ℕ → Bool) where
   adds : (r : MarchedRow)
       → seed (r .key) ≡ false
       → (n : ℕ)
-      → member n (cond (le (onward f (r .distance)) (f .most)) (f .near (r .key)) []) ≡ hasSpread seed f (r .key) (some (r .distance)) && member n (f .near (r .key))
+      → member n (cond (le (onward f (r .distance)) (f .most)) (f .near (r .key)) [])
+      ≡ hasSpread seed f (r .key) (some (r .distance)) && member n (f .near (r .key))
   unfolding hasSpread member
   adds r e n =
       rw e
