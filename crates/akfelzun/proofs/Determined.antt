@@ -446,7 +446,9 @@ pub akf-export-mesh-stl-determined :
     (κs : _) (a : _) (r r' : _) (s s' : _)
     → akf_export_mesh_stl.Post κs a r s
     → akf_export_mesh_stl.Post κs a r' s'
-    → (r ≡ r') × (now (s .1 .1 .1 .1 .1 .1 .1 .1 .0) ≡ now (s' .1 .1 .1 .1 .1 .1 .1 .1 .0)) × (now (s .1 .1 .1 .1 .1 .1 .1 .1 .1 .0) ≡ now (s' .1 .1 .1 .1 .1 .1 .1 .1 .1 .0))
+    → (r ≡ r')
+    × (now (s .1 .1 .1 .1 .1 .1 .1 .1 .0) ≡ now (s' .1 .1 .1 .1 .1 .1 .1 .1 .0))
+    × (now (s .1 .1 .1 .1 .1 .1 .1 .1 .1 .0) ≡ now (s' .1 .1 .1 .1 .1 .1 .1 .1 .1 .0))
 akf-export-mesh-stl-determined κs a r r' s s' p q = (p .0 ∙ sym (q .0), p .1 .0 ∙ sym (q .1 .0), p .1 .1 ∙ sym (q .1 .1))
 
 pub akf-import-mesh-stl-determined :

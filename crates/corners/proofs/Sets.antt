@@ -38,7 +38,8 @@ both-lent xs ys zs n is js ks m e =
 module _ {A B : Type 0} (make : A → A → A → B) (d : A) where
   module _ (xs ys zs : List A) (n : ℕ) (l : Lent xs ys zs n) (i : ℕ) where
     -- the entry at place i, and those after it
-    pub next : i < n → drop i (take n (besideBy make xs ys zs)) ≡ make (getD xs i d) (getD ys i d) (getD zs i d) ∷ drop (i + 1) (take n (besideBy make xs ys zs))
+    pub next : i < n
+        → drop i (take n (besideBy make xs ys zs)) ≡ make (getD xs i d) (getD ys i d) (getD zs i d) ∷ drop (i + 1) (take n (besideBy make xs ys zs))
     next h = by-at make xs ys zs d d d n i (l .second) (l .third) h (l .fits) ∙ rw (add-one i)
 
     pub none-left : n ≤ i → drop i (take n (besideBy make xs ys zs)) ≡ []
@@ -76,5 +77,7 @@ module _ {A B : Type 0} (make : A → A → A → B) (d : A) where
       pub first-passes : i < n → every test (drop i (take n (besideBy make xs ys zs))) ≡ true → test (make (getD xs i d) (getD ys i d) (getD zs i d)) ≡ true
       first-passes h e = and-first _ _ (all-pass h e)
 
-      pub others-pass : i < n → every test (drop i (take n (besideBy make xs ys zs))) ≡ true → every test (drop (i + 1) (take n (besideBy make xs ys zs))) ≡ true
+      pub others-pass : i < n
+          → every test (drop i (take n (besideBy make xs ys zs))) ≡ true
+          → every test (drop (i + 1) (take n (besideBy make xs ys zs))) ≡ true
       others-pass h e = and-second (test (make (getD xs i d) (getD ys i d) (getD zs i d))) _ (all-pass h e)

@@ -59,7 +59,8 @@ module _ (v : Checked) (ks : List ℕ) (ds ws : List Float) (cnt a b : ℕ) (tes
       go (Refused why) q = refl
 
   -- a list that holds a column of what the scan finds holds that of the closed edges
-  pub column-closed : (f : Edge → ℕ) (room : ℕ) → heldFor 0 (answerIf v es a) room (map f es) ≡ heldFor 0 (closedAnswer v t a) room (map f (closedEdges (rows t)))
+  pub column-closed : (f : Edge → ℕ) (room : ℕ)
+      → heldFor 0 (answerIf v es a) room (map f es) ≡ heldFor 0 (closedAnswer v t a) room (map f (closedEdges (rows t)))
   unfolding answerIf heldFor
   column-closed f room = go v refl ∙ ap (λ (l : Listed). heldFor 0 l room (map f (closedEdges (rows t)))) closed-answer
     where
@@ -69,7 +70,9 @@ module _ (v : Checked) (ks : List ℕ) (ds ws : List Float) (cnt a b : ℕ) (tes
 
   module _ (e : Listed) (answer : e ≡ answerIf v es a) where
     -- a list that holds such a column, by the answer
-    pub held-closed : (f : Edge → ℕ) (room : ℕ) (l : List ℕ) → l ≡ heldFor 0 e room (map f es) → l ≡ heldFor 0 (closedAnswer v t a) room (map f (closedEdges (rows t)))
+    pub held-closed : (f : Edge → ℕ) (room : ℕ) (l : List ℕ)
+        → l ≡ heldFor 0 e room (map f es)
+        → l ≡ heldFor 0 (closedAnswer v t a) room (map f (closedEdges (rows t)))
     held-closed f room l h = h ∙ ap (λ (x : Listed). heldFor 0 x room (map f es)) answer ∙ column-closed f room
 
     -- the two lists hold the closed edges of an accepted table

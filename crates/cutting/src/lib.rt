@@ -143,7 +143,8 @@ fn cut_third(
     t2: &mut [u32],
 ) -> usize
     requires { ⌜ Beside (now cells) (now inside) × Meets (now cells) i (now meets) × (i < j) × (j < length (now cells))
-        × (adjacent (getD (now cells) i 0) (getD (now cells) j 0) ≡ true) × Numbered (now first) (now second) edges × Even (now t0) (now t1) (now t2) × (at ≤ 900000000) ⌝ }
+        × (adjacent (getD (now cells) i 0) (getD (now cells) j 0) ≡ true) × Numbered (now first) (now second) edges
+        × Even (now t0) (now t1) (now t2) × (at ≤ 900000000) ⌝ }
     ensures { λ r. ⌜ Puts (cutsOf (edgesIn (now (first .entry)) (now (second .entry)) edges) (sided own side)
         (withThird (sidedAt (now (cells .entry)) (now (inside .entry)) i) (sidedAt (now (cells .entry)) (now (inside .entry)) j)
         (drop (j + 1) (sidedBy (now (cells .entry)) (now (inside .entry))))))

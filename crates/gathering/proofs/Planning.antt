@@ -135,7 +135,9 @@ module _ (most : Float) (ks : List ℕ) (ds ws : List Float) (n : ℕ) (known : 
       }
 
 -- a table's own rows laid back
-pub relaid-same : (ks : List ℕ) (ds ws : List Float) (n : ℕ) → lengthsOk (length ks) (length ds) (length ws) n ≡ true → relaid (table ks ds ws n) (rowsOf ks ds ws n) ≡ table ks ds ws n
+pub relaid-same : (ks : List ℕ) (ds ws : List Float) (n : ℕ)
+    → lengthsOk (length ks) (length ds) (length ws) n ≡ true
+    → relaid (table ks ds ws n) (rowsOf ks ds ws n) ≡ table ks ds ws n
 unfolding relaid
 relaid-same ks ds ws n known =
     let f = lengths-known (length ks) (length ds) (length ws) n known in

@@ -148,7 +148,9 @@ by-over b p s =
     (λ c e. rw (le-ltb (below s) (above s) (omega arith)) refl)
 
 -- on ascending keys a seat over a row is where its key is found
-pub seat-find : (k : ℕ) (ks : List ℕ) → ascending ks ≡ true → find k ks ≡ cond (ltb (below (seatOf k ks)) (above (seatOf k ks))) (At (below (seatOf k ks))) Absent
+pub seat-find : (k : ℕ) (ks : List ℕ)
+    → ascending ks ≡ true
+    → find k ks ≡ cond (ltb (below (seatOf k ks)) (above (seatOf k ks))) (At (below (seatOf k ks))) Absent
 unfolding findBy
 seat-find k ks a =
     sym (findBy-find k ks a)

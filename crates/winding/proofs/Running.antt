@@ -191,7 +191,8 @@ local-all left b0 b1 b2 b3 =
     (λ j. everyCorner (λ k. faceTest left (signs b0 b1 b2 b3) i j k && everyCorner (λ l. innerTest left (signs b0 b1 b2 b3) i j k l))))
 
 local-tests : everyBool (λ left. everyBool (λ b0. everyBool (λ b1. everyBool (λ b2. everyBool (λ b3. local-all left b0 b1 b2 b3))))) ≡ true
-unfolding everyBool everyCorner local-all faceTest innerTest runsBy runCounts kept oddSigns forward oddOrder other pick free apart3 samePair meets countsBy counts
+unfolding everyBool everyCorner local-all faceTest innerTest runsBy runCounts kept oddSigns forward oddOrder other
+    pick free apart3 samePair meets countsBy counts
 local-tests = refl
 
 local-law : (left b0 b1 b2 b3 : Bool) (i j k : Corner)

@@ -57,5 +57,6 @@ expected =
     ∷ (three 1 0 3 ∷ three 1 3 2 ∷ []) ∷ []
 
 samples : map turnedTriangles tables ≡ expected
-unfolding tables expected turnedTriangles closedTriangles edges crossesIn tetrahedra lt ofBits morton respaced threes withTwo withThird neighboursBy offsets inBox reachedFrom shown stored
+unfolding tables expected turnedTriangles closedTriangles edges crossesIn tetrahedra lt ofBits morton respaced threes
+    withTwo withThird neighboursBy offsets inBox reachedFrom shown stored
 samples = refl

@@ -28,7 +28,8 @@ mul-is-seed c =
     let at-find = at-known .before .before in
     let at-start = at-find .before .before .before .before in
     let l = at-start .pre in
-    omega (arith, place-below (at-start .args .threshold) _ _ _ _ l _ _ (sym (at-find .find-row .ensures) ∙ at-known .i .given .1), l .fits, l .distances, l .weights)
+    let found = sym (at-find .find-row .ensures) ∙ at-known .i .given .1 in
+    omega (arith, place-below (at-start .args .threshold) _ _ _ _ l _ _ found, l .fits, l .distances, l .weights)
 
 shared-slice-read-is-seed : tie.Need-shared-slice-read-is-seed
 shared-slice-read-is-seed c =
@@ -36,7 +37,8 @@ shared-slice-read-is-seed c =
     let at-find = at-known .before .before in
     let at-start = at-find .before .before .before .before in
     let l = at-start .pre in
-    omega (arith, place-below (at-start .args .threshold) _ _ _ _ l _ _ (sym (at-find .find-row .ensures) ∙ at-known .i .given .1), l .fits, l .distances, l .weights)
+    let found = sym (at-find .find-row .ensures) ∙ at-known .i .given .1 in
+    omega (arith, place-below (at-start .args .threshold) _ _ _ _ l _ _ found, l .fits, l .distances, l .weights)
 
 mul-is-seed-2 : tie.Need-mul-is-seed-2
 mul-is-seed-2 c =
@@ -44,7 +46,8 @@ mul-is-seed-2 c =
     let at-find = at-known .before .before in
     let at-start = at-find .before .before .before .before in
     let l = at-start .pre in
-    omega (arith, place-below (at-start .args .threshold) _ _ _ _ l _ _ (sym (at-find .find-row .ensures) ∙ at-known .i .given .1), l .fits, l .distances, l .weights)
+    let found = sym (at-find .find-row .ensures) ∙ at-known .i .given .1 in
+    omega (arith, place-below (at-start .args .threshold) _ _ _ _ l _ _ found, l .fits, l .distances, l .weights)
 
 shared-slice-read-is-seed-2 : tie.Need-shared-slice-read-is-seed-2
 shared-slice-read-is-seed-2 c =
@@ -52,7 +55,8 @@ shared-slice-read-is-seed-2 c =
     let at-find = at-known .before .before in
     let at-start = at-find .before .before .before .before in
     let l = at-start .pre in
-    omega (arith, place-below (at-start .args .threshold) _ _ _ _ l _ _ (sym (at-find .find-row .ensures) ∙ at-known .i .given .1), l .fits, l .distances, l .weights)
+    let found = sym (at-find .find-row .ensures) ∙ at-known .i .given .1 in
+    omega (arith, place-below (at-start .args .threshold) _ _ _ _ l _ _ found, l .fits, l .distances, l .weights)
 
 is-seed-requires : tie.Need-is-seed-requires
 is-seed-requires c κs = search needs

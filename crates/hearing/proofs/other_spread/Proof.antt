@@ -87,7 +87,8 @@ returns-2 c =
     let l = c .before in
     let a = l .before .before .before .before .before .before .before .before .args in
     λ rs ws h.
-    other-none (neighbours (a .key)) _ (l .loop .inv .0) _ (latticeOf (a .course)) (a .from) rs (l .loop .i) (omega (arith, c .loop-test .left, l .loop .inv .1))
+    other-none (neighbours (a .key)) _ (l .loop .inv .0) _ (latticeOf (a .course)) (a .from) rs (l .loop .i)
+    (omega (arith, c .loop-test .left, l .loop .inv .1))
     ∙ sym (l .loop .inv .4 rs ws h)
 
 pub other-spread-spec : {M : Type 1} → statement M

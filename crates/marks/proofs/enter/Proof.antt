@@ -56,7 +56,9 @@ same-length-2 c = search needs
 returns-2 : tie.Need-returns-2 Inv-loop μ-loop
 unfolding Tried
 returns-2 c =
-    around-none _ _ _ _ _ _ _ _ _ _ (c .before .before .before .before .before .before .loop .inv) (c .before .before .before .before .if2 .taken) _ (c .before .following .ensures) (c .if3 .taken)
+    let h = c .before .before .before .before .before .before .loop .inv in
+    let n = c .before .before .before .before .if2 .taken in
+    around-none _ _ _ _ _ _ _ _ _ _ h n _ (c .before .following .ensures) (c .if3 .taken)
 
 mul-keys : tie.Need-mul-keys Inv-loop μ-loop
 mul-keys c = search needs

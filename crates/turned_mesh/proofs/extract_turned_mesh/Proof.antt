@@ -55,10 +55,14 @@ same-length-9 : tie.Need-same-length-9
 same-length-9 c = at-closed c .extract-closed-mesh .kept .1 .1 .1 .1 .1 .1 .1 .1 .1 .1 .1 .1 .1 .0
 
 same-length-10 : tie.Need-same-length-10
-same-length-10 c = at-turned c .turn-meshed .kept .1 .1 .1 .1 .1 .1 .1 .1 .0 ∙ at-closed c .extract-closed-mesh .kept .1 .1 .1 .1 .1 .1 .1 .1 .1 .1 .1 .1 .1 .1 .0
+same-length-10 c =
+    at-turned c .turn-meshed .kept .1 .1 .1 .1 .1 .1 .1 .1 .0
+    ∙ at-closed c .extract-closed-mesh .kept .1 .1 .1 .1 .1 .1 .1 .1 .1 .1 .1 .1 .1 .1 .0
 
 same-length-11 : tie.Need-same-length-11
-same-length-11 c = at-turned c .turn-meshed .kept .1 .1 .1 .1 .1 .1 .1 .1 .1 .0 ∙ at-closed c .extract-closed-mesh .kept .1 .1 .1 .1 .1 .1 .1 .1 .1 .1 .1 .1 .1 .1 .1 .0
+same-length-11 c =
+    at-turned c .turn-meshed .kept .1 .1 .1 .1 .1 .1 .1 .1 .1 .0
+    ∙ at-closed c .extract-closed-mesh .kept .1 .1 .1 .1 .1 .1 .1 .1 .1 .1 .1 .1 .1 .1 .1 .0
 
 returns : tie.Need-returns
 returns c =
