@@ -21,6 +21,7 @@ use Rattle.tetrahedra.specs.Tetrahedra.{weightedKeys, tetrahedra}
 use Rattle.tetrahedra.specs.ClosedEdges.{insideAt, closedEdges}
 use Rattle.tetrahedra.specs.ClosedTriangles.{numberIn, vertexOf, rising, cut, cutBy, trianglesOf, closedTriangles}
 use Rattle.tetrahedra.specs.Near.{higher, close, startingAt, nearTetrahedra}
+use Rattle.tetrahedra.proofs.Local.{signs, signs-are}
 use Rattle.tetrahedra.proofs.TetrahedronLaws.{tetrahedra-are, rising-in}
 use Rattle.tetrahedra.proofs.ClosedEdgeLaws.{crossed-in}
 use Rattle.tetrahedra.proofs.NearLaws.{starting-in, near-same}
@@ -86,34 +87,31 @@ module _ {A B : Type 0} (f : A → B) where
 
 -- by its four keys and their sides
 module _ (es : List Edge) (t : Four) where
-  by-sides : (a b c d : Bool) (within : Corner → Bool)
-      → within c0 ≡ a
-      → within c1 ≡ b
-      → within c2 ≡ c
-      → within c3 ≡ d
-      → cutBy (vertexOf es t) within ≡ trianglesBy es (cutOf a b c d (t .a) (t .b) (t .c) (t .d))
+  by-signs : (a b c d : Bool) → cutBy (vertexOf es t) (signs a b c d) ≡ trianglesBy es (cutOf a b c d (t .a) (t .b) (t .c) (t .d))
   unfolding cutBy cut kept vertexOf trianglesBy patchBy trianglesOfPatch
-  by-sides true true true true within p q r s = rw (p, q, r, s)
-  by-sides true true true false within p q r s = rw (p, q, r, s)
-  by-sides true true false true within p q r s = rw (p, q, r, s)
-  by-sides true true false false within p q r s = rw (p, q, r, s)
-  by-sides true false true true within p q r s = rw (p, q, r, s)
-  by-sides true false true false within p q r s = rw (p, q, r, s)
-  by-sides true false false true within p q r s = rw (p, q, r, s)
-  by-sides true false false false within p q r s = rw (p, q, r, s)
-  by-sides false true true true within p q r s = rw (p, q, r, s)
-  by-sides false true true false within p q r s = rw (p, q, r, s)
-  by-sides false true false true within p q r s = rw (p, q, r, s)
-  by-sides false true false false within p q r s = rw (p, q, r, s)
-  by-sides false false true true within p q r s = rw (p, q, r, s)
-  by-sides false false true false within p q r s = rw (p, q, r, s)
-  by-sides false false false true within p q r s = rw (p, q, r, s)
-  by-sides false false false false within p q r s = rw (p, q, r, s)
+  by-signs true true true true = refl
+  by-signs true true true false = refl
+  by-signs true true false true = refl
+  by-signs true true false false = refl
+  by-signs true false true true = refl
+  by-signs true false true false = refl
+  by-signs true false false true = refl
+  by-signs true false false false = refl
+  by-signs false true true true = refl
+  by-signs false true true false = refl
+  by-signs false true false true = refl
+  by-signs false true false false = refl
+  by-signs false false true true = refl
+  by-signs false false true false = refl
+  by-signs false false false true = refl
+  by-signs false false false false = refl
 
   pub cut-same : (rows : List Row)
       → trianglesOf rows es t
       ≡ trianglesBy es (cutOf (insideAt rows (t .a)) (insideAt rows (t .b)) (insideAt rows (t .c)) (insideAt rows (t .d)) (t .a) (t .b) (t .c) (t .d))
-  cut-same rows = by-sides _ _ _ _ (λ (c : Corner). insideAt rows (at t c)) refl refl refl refl
+  cut-same rows =
+      ap (cutBy (vertexOf es t)) (sym (signs-are (λ (c : Corner). insideAt rows (at t c))))
+      ∙ by-signs (insideAt rows (t .a)) (insideAt rows (t .b)) (insideAt rows (t .c)) (insideAt rows (t .d))
 
 -- ---- the tetrahedra of a cell
 

@@ -1,5 +1,6 @@
 -- `batches::batch_step` meets its contract: what a part through own rows leaves, or one reading more.
 -- Assumes nothing.
+use mathlib.Core.Path.{_∙_}
 use native.Mathlib.Omega.{arith}
 use Rattle.owning.proofs.Running.{run-goes, stops-too, goes-too, then-runs}
 use borrow.Author.Needs.{needs}
@@ -13,13 +14,13 @@ batch-one-requires : tie.Need-batch-one-requires
 batch-one-requires c κs = search needs
 
 same-length : tie.Need-same-length
-same-length c = search needs
+same-length c = c .before .before .before .before .before .before .batch-one .kept .1 .0
 
 same-length-2 : tie.Need-same-length-2
-same-length-2 c = search needs
+same-length-2 c = c .before .before .before .before .before .before .batch-one .kept .1 .1 .0
 
 same-length-3 : tie.Need-same-length-3
-same-length-3 c = search needs
+same-length-3 c = c .before .before .before .before .before .before .batch-one .kept .1 .1 .1 .0
 
 returns : tie.Need-returns
 returns c = search needs
@@ -33,13 +34,13 @@ enum-known-run : tie.Need-enum-known-run
 enum-known-run c = search needs
 
 same-length-4 : tie.Need-same-length-4
-same-length-4 c = search needs
+same-length-4 c = c .before .before .before .before .before .before .before .before .before .batch-run .kept .1 .0
 
 same-length-5 : tie.Need-same-length-5
-same-length-5 c = search needs
+same-length-5 c = c .before .before .before .before .before .before .before .before .before .batch-run .kept .1 .1 .0
 
 same-length-6 : tie.Need-same-length-6
-same-length-6 c = search needs
+same-length-6 c = c .before .before .before .before .before .before .before .before .before .batch-run .kept .1 .1 .1 .0
 
 returns-2 : tie.Need-returns-2
 returns-2 c =
@@ -50,13 +51,13 @@ enum-known-run-2 : tie.Need-enum-known-run-2
 enum-known-run-2 c = search needs
 
 same-length-7 : tie.Need-same-length-7
-same-length-7 c = search needs
+same-length-7 c = c .before .before .before .before .before .before .before .before .before .before .batch-run .kept .1 .0
 
 same-length-8 : tie.Need-same-length-8
-same-length-8 c = search needs
+same-length-8 c = c .before .before .before .before .before .before .before .before .before .before .batch-run .kept .1 .1 .0
 
 same-length-9 : tie.Need-same-length-9
-same-length-9 c = search needs
+same-length-9 c = c .before .before .before .before .before .before .before .before .before .before .batch-run .kept .1 .1 .1 .0
 
 returns-3 : tie.Need-returns-3
 returns-3 c =
@@ -67,13 +68,22 @@ batch-one-requires-2 : tie.Need-batch-one-requires-2
 batch-one-requires-2 c κs = search needs
 
 same-length-10 : tie.Need-same-length-10
-same-length-10 c = search needs
+same-length-10 c =
+    let at-batch-one2 = c .before .before .before .before .before .before in
+    let at-batch-run = at-batch-one2 .before .before .before .before .before .before .before .before .before .before .before .before .before .before .before in
+    at-batch-one2 .batch-one2 .kept .1 .0 ∙ at-batch-run .batch-run .kept .1 .0
 
 same-length-11 : tie.Need-same-length-11
-same-length-11 c = search needs
+same-length-11 c =
+    let at-batch-one2 = c .before .before .before .before .before .before in
+    let at-batch-run = at-batch-one2 .before .before .before .before .before .before .before .before .before .before .before .before .before .before .before in
+    at-batch-one2 .batch-one2 .kept .1 .1 .0 ∙ at-batch-run .batch-run .kept .1 .1 .0
 
 same-length-12 : tie.Need-same-length-12
-same-length-12 c = search needs
+same-length-12 c =
+    let at-batch-one2 = c .before .before .before .before .before .before in
+    let at-batch-run = at-batch-one2 .before .before .before .before .before .before .before .before .before .before .before .before .before .before .before in
+    at-batch-one2 .batch-one2 .kept .1 .1 .1 .0 ∙ at-batch-run .batch-run .kept .1 .1 .1 .0
 
 returns-4 : tie.Need-returns-4
 returns-4 c =

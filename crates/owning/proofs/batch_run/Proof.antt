@@ -51,7 +51,8 @@ load-own-requires c κs =
     let f =
     lengths-known (length (s .args .keys .now)) (length (s .args .distances .now)) (length (s .args .weights .now))
     (s .args .count .now) (k .lengths) in
-    (k .lengths, ((k .order, rw length-replicate (at-own-rows .own-rows .ensures .0 .0)), simp (at-own-rows .own-rows .kept .0, length-replicate, le-leb _ _ (at-own-rows .own-rows .ensures .0 .0))))
+    let few = at-own-rows .own-rows .ensures .0 .0 in
+    (k .lengths, ((k .order, rw length-replicate few), simp (at-own-rows .own-rows .kept .0, length-replicate, le-leb _ _ few)))
 
 slice-aggregate-fuse-run : tie.Need-slice-aggregate-fuse-run
 slice-aggregate-fuse-run c = search needs
@@ -67,7 +68,9 @@ slice-aggregate-fuse-run-4 c = search needs
 
 sub-fuse-run : tie.Need-sub-fuse-run
 sub-fuse-run c =
-    let s = c .before .before .before .before .before .before .before .before .before .before .before .before .before .before .before .before .before .before .before .before .before .before .before .before .before .before .before .before in
+    let at-load = c .before .before .before .before .before .before .before in
+    let at-own-rows = at-load .before .before .before .before .before .before .before .before .before .before in
+    let s = at-own-rows .before .before .before .before .before .before .before .before .before .before .before in
     let k = sound (s .args .settings) (table (s .args .keys .now) (s .args .distances .now) (s .args .weights .now) (s .args .count .now)) (s .pre .0) in
     let f =
     lengths-known (length (s .args .keys .now)) (length (s .args .distances .now)) (length (s .args .weights .now))
@@ -168,13 +171,13 @@ settle-own-requires c κs =
     )
 
 same-length : tie.Need-same-length
-same-length c = search needs
+same-length c = c .before .before .before .before .before .before .before .settle-own .kept .1 .0
 
 same-length-2 : tie.Need-same-length-2
-same-length-2 c = search needs
+same-length-2 c = c .before .before .before .before .before .before .before .settle-own .kept .1 .1 .0
 
 same-length-3 : tie.Need-same-length-3
-same-length-3 c = search needs
+same-length-3 c = c .before .before .before .before .before .before .before .settle-own .kept .1 .1 .1 .0
 
 returns : tie.Need-returns
 returns c =
@@ -188,7 +191,8 @@ returns c =
     lengths-known (length (s .args .keys .now)) (length (s .args .distances .now)) (length (s .args .weights .now))
     (s .args .count .now) (k .lengths) in
     settled (s .args .settings) (s .args .keys .now) (s .args .distances .now) (s .args .weights .now)
-    (s .args .count .now) (s .pre .0) _ _ _ _ _ (at-load .load-own .kept .1 .1 .1 .1 .1 .1 .1 .0) (at-own-rows .own-rows .kept .0) (at-load .load-own .kept .1 .1 .1 .1 .1 .0)
+    (s .args .count .now) (s .pre .0) _ _ _ _ _ (at-load .load-own .kept .1 .1 .1 .1 .1 .1 .1 .0)
+    (at-own-rows .own-rows .kept .0) (at-load .load-own .kept .1 .1 .1 .1 .1 .0)
     (at-load .load-own .kept .1 .1 .1 .1 .1 .1 .0) (at-own-rows .own-rows .ensures .0 .0) (at-own-rows .own-rows .ensures .0 .1)
     (at-load .load-own .ensures) _ _ _ _ _ _ (at-fuse-run .fuse-run .ensures) (omega (arith, f)) _ _ _
     (at-settle .settle-own .ensures)

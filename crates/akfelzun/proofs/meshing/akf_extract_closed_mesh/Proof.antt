@@ -13,45 +13,51 @@ extract-closed-mesh-requires c κs = search needs
 mesh-back-requires : tie.Need-mesh-back-requires
 mesh-back-requires c κs = search needs
 
+-- the place where the mesh is made
+abbrev at-mesh : tie.After-mesh-back → tie.After-extract-closed-mesh
+at-mesh c =
+    let written = c .before .before .before .before .before .before .before .before .before .before .before .before in
+    written .before .before .before .before .before .before .before .before .before .before .before
+
 same-length : tie.Need-same-length
-same-length c = search needs
+same-length c = at-mesh c .extract-closed-mesh .kept .1 .1 .1 .1 .1 .0
 
 same-length-2 : tie.Need-same-length-2
-same-length-2 c = search needs
+same-length-2 c = at-mesh c .extract-closed-mesh .kept .1 .1 .1 .1 .1 .1 .0
 
 same-length-3 : tie.Need-same-length-3
-same-length-3 c = search needs
+same-length-3 c = at-mesh c .extract-closed-mesh .kept .1 .1 .1 .1 .1 .1 .1 .0
 
 same-length-4 : tie.Need-same-length-4
-same-length-4 c = search needs
+same-length-4 c = at-mesh c .extract-closed-mesh .kept .1 .1 .1 .1 .1 .1 .1 .1 .0
 
 same-length-5 : tie.Need-same-length-5
-same-length-5 c = search needs
+same-length-5 c = at-mesh c .extract-closed-mesh .kept .1 .1 .1 .1 .1 .1 .1 .1 .1 .0
 
 same-length-6 : tie.Need-same-length-6
-same-length-6 c = search needs
+same-length-6 c = at-mesh c .extract-closed-mesh .kept .1 .1 .1 .1 .1 .1 .1 .1 .1 .1 .0
 
 same-length-7 : tie.Need-same-length-7
-same-length-7 c = search needs
+same-length-7 c = at-mesh c .extract-closed-mesh .kept .1 .1 .1 .1 .1 .1 .1 .1 .1 .1 .1 .0
 
 same-length-8 : tie.Need-same-length-8
-same-length-8 c = search needs
+same-length-8 c = at-mesh c .extract-closed-mesh .kept .1 .1 .1 .1 .1 .1 .1 .1 .1 .1 .1 .1 .0
 
 same-length-9 : tie.Need-same-length-9
-same-length-9 c = search needs
+same-length-9 c = at-mesh c .extract-closed-mesh .kept .1 .1 .1 .1 .1 .1 .1 .1 .1 .1 .1 .1 .1 .0
 
 same-length-10 : tie.Need-same-length-10
-same-length-10 c = search needs
+same-length-10 c = at-mesh c .extract-closed-mesh .kept .1 .1 .1 .1 .1 .1 .1 .1 .1 .1 .1 .1 .1 .1 .0
 
 same-length-11 : tie.Need-same-length-11
-same-length-11 c = search needs
+same-length-11 c = at-mesh c .extract-closed-mesh .kept .1 .1 .1 .1 .1 .1 .1 .1 .1 .1 .1 .1 .1 .1 .1 .0
 
 returns : tie.Need-returns
 returns c =
     let written = c .before .before .before .before .before .before .before .before .before .before .before .before in
-    let at-mesh = written .before .before .before .before .before .before .before .before .before .before .before in
-    let at-settings = at-mesh .before .before .before .before .before .before .before .before .before .before .before .before in
-    mesh-back (rw (at-settings .settings-of .ensures) at (at-mesh .extract-closed-mesh .ensures)) (c .mesh-back .ensures)
+    let made = written .before .before .before .before .before .before .before .before .before .before .before in
+    let at-settings = made .before .before .before .before .before .before .before .before .before .before .before .before in
+    mesh-back (rw (at-settings .settings-of .ensures) at (made .extract-closed-mesh .ensures)) (c .mesh-back .ensures)
 
 pub akf-extract-closed-mesh-spec : {M : Type 1} → statement M
 akf-extract-closed-mesh-spec =
