@@ -31,19 +31,34 @@ clear-from-u32-requires-3 : tie.Need-clear-from-u32-requires-3
 clear-from-u32-requires-3 c κs = search needs
 
 same-length : tie.Need-same-length
-same-length c = search needs
+same-length c =
+    let cleared = c .before .before .before .before .before .before in
+    let at-cut = cleared .before .before .before .before .before .before .before .before .before .before .before .before .before in
+    at-cut .before .before .before .before .before .before .before .before .before .before .list-tested .kept .1 .1 .1 .1 .1 .1 .0
 
 same-length-2 : tie.Need-same-length-2
-same-length-2 c = search needs
+same-length-2 c =
+    let cleared = c .before .before .before .before .before .before in
+    let at-cut = cleared .before .before .before .before .before .before .before .before .before .before .before .before .before in
+    at-cut .before .before .before .before .before .before .before .before .before .before .list-tested .kept .1 .1 .1 .1 .1 .1 .1 .0
 
 same-length-3 : tie.Need-same-length-3
-same-length-3 c = search needs
+same-length-3 c =
+    let cleared = c .before .before .before .before .before .before in
+    let at-cut = cleared .before .before .before .before .before .before .before .before .before .before .before .before .before in
+    cleared .before .before .before .before .clear-from-u32 .kept .0 ∙ at-cut .cut-checked .kept .1 .1 .1 .1 .1 .1 .1 .0
 
 same-length-4 : tie.Need-same-length-4
-same-length-4 c = search needs
+same-length-4 c =
+    let cleared = c .before .before .before .before .before .before in
+    let at-cut = cleared .before .before .before .before .before .before .before .before .before .before .before .before .before in
+    cleared .clear-from-u322 .kept .0 ∙ at-cut .cut-checked .kept .1 .1 .1 .1 .1 .1 .1 .1 .0
 
 same-length-5 : tie.Need-same-length-5
-same-length-5 c = search needs
+same-length-5 c =
+    let cleared = c .before .before .before .before .before .before in
+    let at-cut = cleared .before .before .before .before .before .before .before .before .before .before .before .before .before in
+    c .before .before .clear-from-u323 .kept .0 ∙ at-cut .cut-checked .kept .1 .1 .1 .1 .1 .1 .1 .1 .1 .0
 
 returns : tie.Need-returns
 returns c =

@@ -1,5 +1,6 @@
 -- `cutting::put_patch` meets its contract: no triangle, one or two are put.
 -- Assumes nothing.
+use mathlib.Core.Path.{_∙_}
 use native.Mathlib.Omega.{arith}
 use Rattle.cutting.proofs.PutLaws.{empty-put, single-put, double-put}
 use borrow.Author.Needs.{needs}
@@ -43,13 +44,13 @@ returns : tie.Need-returns
 returns c = (rw (c .enum-told .given .1) (empty-put _ _ _ _), omega arith)
 
 same-length : tie.Need-same-length
-same-length c = search needs
+same-length c = c .before .before .before .before .before .before .put-triangle .kept .1 .1 .0
 
 same-length-2 : tie.Need-same-length-2
-same-length-2 c = search needs
+same-length-2 c = c .before .before .before .before .before .before .put-triangle .kept .1 .1 .1 .0
 
 same-length-3 : tie.Need-same-length-3
-same-length-3 c = search needs
+same-length-3 c = c .before .before .before .before .before .before .put-triangle .kept .1 .1 .1 .1 .0
 
 returns-2 : tie.Need-returns-2
 returns-2 c =
@@ -59,13 +60,22 @@ returns-2 c =
     (rw told (single-put _ _ _ _ _ _ _ _ (e .0) (e .1 .0) (e .1 .1)), omega arith)
 
 same-length-4 : tie.Need-same-length-4
-same-length-4 c = search needs
+same-length-4 c =
+    let second = c .before .before .before .before .before .before in
+    let first = second .before .before .before .before .before .before .before .before .before .before in
+    second .put-triangle3 .kept .1 .1 .0 ∙ first .put-triangle2 .kept .1 .1 .0
 
 same-length-5 : tie.Need-same-length-5
-same-length-5 c = search needs
+same-length-5 c =
+    let second = c .before .before .before .before .before .before in
+    let first = second .before .before .before .before .before .before .before .before .before .before in
+    second .put-triangle3 .kept .1 .1 .1 .0 ∙ first .put-triangle2 .kept .1 .1 .1 .0
 
 same-length-6 : tie.Need-same-length-6
-same-length-6 c = search needs
+same-length-6 c =
+    let second = c .before .before .before .before .before .before in
+    let first = second .before .before .before .before .before .before .before .before .before .before in
+    second .put-triangle3 .kept .1 .1 .1 .1 .0 ∙ first .put-triangle2 .kept .1 .1 .1 .1 .0
 
 returns-3 : tie.Need-returns-3
 returns-3 c =

@@ -82,22 +82,22 @@ loop-again c =
     let nz = c .before .before .put3 .ensures in (
       v .0,
       t,
-      omega (arith, at-put .put .kept .0, v .2),
-      omega (arith, at-put2 .put2 .kept .0, v .3),
-      omega (arith, c .before .before .put3 .kept .0, v .4),
+      at-put .put .kept .0 ∙ v .2,
+      at-put2 .put2 .kept .0 ∙ v .3,
+      c .before .before .put3 .kept .0 ∙ v .4,
       v .5 ∙ column-more (λ (u : Normal). u .x) _ i _ _ _ _ next (nx ∙ rw t),
       v .6 ∙ column-more (λ (u : Normal). u .y) _ i _ _ _ _ next (ny ∙ rw t),
       v .7 ∙ column-more (λ (u : Normal). u .z) _ i _ _ _ _ next (nz ∙ rw t),
     )
 
 same-length : tie.Need-same-length Inv-loop μ-loop
-same-length c = search needs
+same-length c = c .before .loop .inv .2
 
 same-length-2 : tie.Need-same-length-2 Inv-loop μ-loop
-same-length-2 c = search needs
+same-length-2 c = c .before .loop .inv .3
 
 same-length-3 : tie.Need-same-length-3 Inv-loop μ-loop
-same-length-3 c = search needs
+same-length-3 c = c .before .loop .inv .4
 
 returns : tie.Need-returns Inv-loop μ-loop
 returns c =

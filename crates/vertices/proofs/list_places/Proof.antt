@@ -86,22 +86,22 @@ loop-again c =
     let py = at-put2 .put2 .ensures in
     let pz = c .before .before .put3 .ensures in (
       v .0,
-      omega (arith, at-put .put .kept .0, v .1),
-      omega (arith, at-put2 .put2 .kept .0, v .2),
-      omega (arith, c .before .before .put3 .kept .0, v .3),
+      at-put .put .kept .0 ∙ v .1,
+      at-put2 .put2 .kept .0 ∙ v .2,
+      c .before .before .put3 .kept .0 ∙ v .3,
       v .4 ∙ column-more (λ (u : Vertex). u .x .0) _ i _ _ _ _ next (px ∙ rw t),
       v .5 ∙ column-more (λ (u : Vertex). u .y .0) _ i _ _ _ _ next (py ∙ rw t),
       v .6 ∙ column-more (λ (u : Vertex). u .z .0) _ i _ _ _ _ next (pz ∙ rw t),
     )
 
 same-length : tie.Need-same-length Inv-loop μ-loop
-same-length c = search needs
+same-length c = c .before .loop .inv .1
 
 same-length-2 : tie.Need-same-length-2 Inv-loop μ-loop
-same-length-2 c = search needs
+same-length-2 c = c .before .loop .inv .2
 
 same-length-3 : tie.Need-same-length-3 Inv-loop μ-loop
-same-length-3 c = search needs
+same-length-3 c = c .before .loop .inv .3
 
 returns : tie.Need-returns Inv-loop μ-loop
 returns c =
