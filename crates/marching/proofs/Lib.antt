@@ -1,6 +1,7 @@
 -- Laws on the march.
 pub mod KeysOnce
 pub mod Sound
+pub mod Crowding
 pub mod Wider
 pub mod Rows
 pub mod Looking

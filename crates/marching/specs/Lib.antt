@@ -2,3 +2,4 @@ pub mod March
 pub mod Lattice
 pub mod Promises
 pub mod Spreading
+pub mod Crowding

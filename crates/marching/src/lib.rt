@@ -4,11 +4,13 @@ use floats::clamp;
 use floats::sign;
 use floats::size;
 ghost use mathlib.Core.Path.{_≡_};
+ghost use Prim.Native.Nat.{_≤_, _<_, _^_};
 ghost use lib.Ieee.{neg, le};
 ghost use Rattle.floats.specs.Floats.{clampOf};
 ghost use Rattle.table.specs.Table.{row};
 ghost use Rattle.marching.specs.March.{candidate, better, isSeed, onward};
 ghost use Rattle.marching.specs.Lattice.{lengthAt, latticeOf};
+ghost use Rattle.marching.specs.Crowding.{surelyFull};
 
 // What a march goes by: the voxel size and the maximum distance.
 pub struct Course {
@@ -75,4 +77,19 @@ pub fn is_seed(threshold: f32, key: u64, distance: f32, weight: f32) -> bool
     } else {
         false
     }
+}
+
+// Whether the march is sure to end for want of a row's place: every waiting cell is taken yet, and takings are at most the rows; and each place that is
+// left for a row adds at most 14 waiting cells, for which there is room.
+pub fn surely_full(
+    places: usize,
+    waiting_places: usize,
+    rows: usize,
+    waiting: usize,
+    takings: usize,
+) -> bool
+    requires { ⌜ (places < 2 ^ 60) × (rows ≤ places) × (waiting < 2 ^ 60) × (takings ≤ places) ⌝ }
+    ensures { λ r. ⌜ r ≡ surelyFull places «waiting_places» rows waiting takings ⌝ }
+{
+    (places < takings + waiting) & (waiting + 14 * (places - rows) <= waiting_places)
 }
