@@ -11,7 +11,7 @@ use Rattle.table.specs.declared.Checked.the-variants as checked
 use Rattle.marching.specs.declared.Course.{Course}
 use Rattle.marching.specs.March.{State, Going, on, refused}
 use Rattle.fronts.specs.declared.Stop.{Stop}
-use Rattle.fronts.specs.declared.Stop.the-variants.{NoRow, NoCell, NoMark}
+use Rattle.fronts.specs.declared.Stop.the-variants.{NoRow, NoCell}
 use Rattle.fronts.specs.Fronts.{Fair}
 use Rattle.racing.specs.declared.Raced.{Raced}
 use Rattle.racing.specs.declared.Raced.the-variants as raced
@@ -19,11 +19,10 @@ use Rattle.racing.specs.Racing.{Tabled, Blank, Laid}
 use Rattle.esdf.specs.declared.Marched.{Marched}
 use Rattle.esdf.specs.declared.Marched.the-variants as marched
 
--- the refusal of a march that stopped; no march of racing says that its marks outgrew the lists
+-- the refusal of a march that stopped
 abbrev pub refusalOf : Stop → Refusal
 refusalOf NoRow = NoPlace
 refusalOf NoCell = NoWaitingPlace
-refusalOf NoMark = NoPlace
 
 abbrev pub marchedOf : Raced → Marched
 marchedOf (raced.Done n t) = marched.Done n t

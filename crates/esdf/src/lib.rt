@@ -33,7 +33,6 @@ fn refusal_of(why: Stop) -> Refusal
     match why {
         Stop::NoRow => Refusal::NoPlace,
         Stop::NoCell => Refusal::NoWaitingPlace,
-        Stop::NoMark => Refusal::NoPlace,
     }
 }
 

@@ -7,7 +7,7 @@ use Prim.Native.Nat.{ℕ, suc, _+_, _<_, _≤_}
 use native.Mathlib.Omega.{arith}
 use borrow.Author.Tests.{eqb-true, eqb-false, lt-ltb, le-ltb, eq-eqb}
 use lib.Dec.{eqb}
-use lib.ListN.{length, set, length-set}
+use lib.ListN.{length, set, length-set, length-map}
 use lib.Ieee.{Float, eq}
 use Rattle.floats.specs.Floats.{isFinite}
 use Rattle.heap.specs.Heap.{Heaped}
@@ -16,7 +16,7 @@ use Rattle.lists.specs.Lists.{insert}
 use Rattle.lists.proofs.Bools.{cases}
 use Rattle.lists.proofs.Inserting.{insert-length}
 use Rattle.marks.specs.declared.Spot.the-variants.{At, Absent}
-use Rattle.marks.specs.Marks.{label, spotOf, look, Kept, occupied, MayEnter, Entered, Tried, Enters}
+use Rattle.marks.specs.Marks.{label, spotOf, look, Kept, Entered, Enters}
 use Rattle.marks.proofs.Keeping.{label-own, value-at, value-absent, look-set, look-set-other}
 use Rattle.search.specs.Keys.{member}
 use Rattle.marching.specs.March.{MarchedRow, marchedRow, Cell, cell, State, state, Field, Going, on, rowBefore, cellBefore, keysOf, cellsOf, distanceOf, isStored, waits, store, wait}
@@ -24,9 +24,10 @@ use Rattle.marching.specs.Spreading.{otherSpread, Told}
 use Rattle.marching.proofs.KeysOnce.{insert-member, ascending-insert}
 use Rattle.marching.proofs.Spreading.{no-distance, no-stored, distance-insert}
 use Rattle.hearing.specs.Hearing.{waitingMark, orWaits, markOf, Marked}
+use Rattle.hearing.proofs.Fitting.{marks-fit}
 use Rattle.hearing.proofs.Saying.{unmarked}
 use Rattle.hearing.proofs.Walking.{real-key}
-use Rattle.fronts.specs.declared.Stop.the-variants.{NoRow, NoCell, NoMark}
+use Rattle.fronts.specs.declared.Stop.the-variants.{NoRow, NoCell}
 use Rattle.fronts.specs.declared.Placed.{Placed}
 use Rattle.fronts.specs.declared.Placed.the-variants.{Now, Not}
 use Rattle.fronts.specs.Fronts.{marking, Front, Stopped, LeftRows, LeftCells, DoesWait}
@@ -210,7 +211,6 @@ module _ (e : Float) (k : ℕ) (on-lattice : onLattice k ≡ true) (s : State) (
                   (λ j. insert-member cellBefore (cell e k) (λ (c : Cell). c .key) j (s .waiting)) (no-distance k (s .stored) (bare .0)) refl;
               heap = pushed (s .waiting) (h .heap) o (bare .1);
               lattice = lattice-more e k (s .waiting) on-lattice (h .lattice);
-              places = λ f. absurd (true≢false (sym f));
             },
           ),
         ),
@@ -252,7 +252,6 @@ module _ (seed : ℕ → Bool) (f : Field) (from : ℕ) (e : Float) (k : ℕ) (o
           marked = h .marked;
           heap = pushed (s .waiting) (h .heap) o (tells ∙ t);
           lattice = lattice-more e k (s .waiting) on-lattice (h .lattice);
-          places = h .places;
         },
       ),
     ),
@@ -260,10 +259,10 @@ module _ (seed : ℕ → Bool) (f : Field) (from : ℕ) (e : Float) (k : ℕ) (o
 
 -- ---- storing
 
-module _ (lean : Bool) (k : ℕ) (on-lattice : onLattice k ≡ true) (v : Float) (f : isFinite v ≡ true) (s : State) (ws vs : List ℕ) (n : ℕ) (ks : List ℕ)
-    (ds : List Float) (h : Marked (s .stored) ws ks ds) (same : (j : ℕ) → (k ≡ j → ⊥) → member j ws ≡ member j vs)
-    (spare : lean ≡ true → (occupied ks ≡ length (s .stored)) × (member k ws ≡ false)) (c : n ≡ length (s .stored)) (o : member k (keysOf (s .stored)) ≡ false) where
-  pub store-full : length ks ≤ n → LeftRows lean (store (length ks) (marchedRow k v) s) s vs (Not NoRow) ks ds
+module _ (k : ℕ) (on-lattice : onLattice k ≡ true) (v : Float) (f : isFinite v ≡ true) (s : State) (ws vs : List ℕ) (n : ℕ) (ks : List ℕ) (ds : List Float)
+    (h : Marked (s .stored) ws ks ds) (same : (j : ℕ) → (k ≡ j → ⊥) → member j ws ≡ member j vs) (c : n ≡ length (s .stored))
+    (o : member k (keysOf (s .stored)) ≡ false) where
+  pub store-full : length ks ≤ n → LeftRows (store (length ks) (marchedRow k v) s) s vs (Not NoRow) ks ds
   unfolding store LeftRows Stopped
   store-full l = rw (le-ltb (length (s .stored)) (length ks) (omega arith))
 
@@ -274,10 +273,9 @@ module _ (lean : Bool) (k : ℕ) (on-lattice : onLattice k ≡ true) (v : Float)
         → length ds' ≡ length ks'
         → look k ks' ds' ≡ some v
         → ((j : ℕ) → (label j ≡ label k → ⊥) → look j ks' ds' ≡ look j ks ds)
-        → (lean ≡ true → occupied ks' ≡ suc (length (s .stored)))
-        → LeftRows lean (store (length ks) (marchedRow k v) s) s vs (Now (n + 1)) ks' ds'
+        → LeftRows (store (length ks) (marchedRow k v) s) s vs (Now (n + 1)) ks' ds'
     unfolding store LeftRows
-    stored ks' ds' kept long new others places =
+    stored ks' ds' kept long new others =
         let m = insert-length rowBefore (marchedRow k v) (s .stored) in (
           state (insert rowBefore (marchedRow k v) (s .stored)) (s .waiting) (s .takings),
           (
@@ -286,58 +284,46 @@ module _ (lean : Bool) (k : ℕ) (on-lattice : onLattice k ≡ true) (v : Float)
               refl,
               (
                 marked-row (s .stored) ws ks ds h k (real-key k on-lattice) v ks' ds' kept long new others vs same o f,
-                (omega arith, λ t. places t ∙ sym m),
+                omega arith,
               ),
             ),
           ),
         )
 
-    -- a key with a mark: in a lean march there is none, as it is not stored
-    pub store-at : (i : ℕ) → spotOf k ks ≡ At i → LeftRows lean (store (length ks) (marchedRow k v) s) s vs (Now (n + 1)) ks (set ds i v)
-    unfolding orWaits
+    -- a key with a mark gets another
+    pub store-at : (i : ℕ) → spotOf k ks ≡ At i → LeftRows (store (length ks) (marchedRow k v) s) s vs (Now (n + 1)) ks (set ds i v)
     store-at i a =
         stored ks (set ds i v) (h .kept) (length-set ds i v ∙ h .long) (look-set k ks ds i a (h .long) v) (look-set-other k ks ds i a (h .long) v)
-        (λ t.
-        let q : some _ ≡ none = sym (value-at (label k) ks ds i a) ∙ h .marks k (real-key k on-lattice) ∙ rw (no-distance k (s .stored) o, spare t .1) in
-        absurd (let z : _≡_ {A = ℕ} 0 1 = cc in omega arith))
 
-    pub store-put : (ks' : List ℕ) (ds' : List Float) → Entered k v ks ds ks' ds' → LeftRows lean (store (length ks) (marchedRow k v) s) s vs (Now (n + 1)) ks' ds'
-    store-put ks' ds' did =
-        stored ks' ds' (did .kept) (did .values ∙ sym (did .places)) (did .value) (did .others) (λ t. did .fuller ∙ ap suc (spare t .0))
-
-    -- every place is taken: not in a lean march
-    pub store-none : length ks ≤ occupied ks → (ks' : List ℕ) (ds' : List Float) → LeftRows lean (store (length ks) (marchedRow k v) s) s vs (Not NoMark) ks' ds'
-    unfolding LeftRows Stopped
-    store-none full ks' ds' =
-        cases (λ (b : Bool). lean ≡ b → b ≡ false) lean (λ _ t. absurd (let q = spare t .0 in omega arith)) (λ _ _. refl) refl
+    -- one without gets its first
+    pub store-put : (ks' : List ℕ) (ds' : List Float) → Entered k v ks ds ks' ds' → LeftRows (store (length ks) (marchedRow k v) s) s vs (Now (n + 1)) ks' ds'
+    store-put ks' ds' did = stored ks' ds' (did .kept) (did .values ∙ sym (did .places)) (did .value) (did .others)
 
 -- ---- putting a mark in
 
--- it was put in where that is answered
+-- where stored cells and those with the mark of a waiting one are fewer than the places, one is empty
 pub entered-by :
-    (k p : ℕ) (v : Float) (ks : List ℕ) (ds : List Float) (r : Bool) (ks' : List ℕ) (ds' : List Float)
-    → Enters k p v ks ds r ks' ds'
-    → r ≡ true
-    → Kept ks
-    → length ds ≡ length ks
+    (rs : List MarchedRow) (ws : List ℕ) (k p : ℕ) (v : Float) (ks : List ℕ) (ds : List Float) (ks' : List ℕ) (ds' : List Float)
+    → Enters k p v ks ds ks' ds'
+    → Marked rs ws ks ds
+    → length rs + length ws < length ks
     → spotOf k ks ≡ Absent p
     → Entered k v ks ds ks' ds'
-unfolding Tried
-entered-by k p v ks ds r ks' ds' did t kept long absent =
-    subst (λ (b : Bool). Tried b k v ks ds ks' ds') t (did (record { kept = kept; long = long; absent = absent }))
+entered-by rs ws k p v ks ds ks' ds' did h few absent =
+    did (record { kept = h .kept; long = h .long; absent = absent; room = let m = marks-fit rs ws ks ds h in omega arith })
 
--- every place is taken where it is not
-pub not-entered :
-    (k p : ℕ) (v : Float) (ks : List ℕ) (ds : List Float) (r : Bool) (ks' : List ℕ) (ds' : List Float)
-    → Enters k p v ks ds r ks' ds'
-    → r ≡ false
-    → Kept ks
-    → length ds ≡ length ks
+-- in a march with marks of waiting cells
+pub waits-entered :
+    (s : State) (k p : ℕ) (v : Float) (ks : List ℕ) (ds : List Float) (ks' : List ℕ) (ds' : List Float) (w : ℕ) (es : List Float) (cs : List ℕ)
+    → Enters k p v ks ds ks' ds'
+    → Front false s ks ds w es cs
+    → length (s .stored) + length (s .waiting) < length ks
     → spotOf k ks ≡ Absent p
-    → length ks ≤ occupied ks
-unfolding Tried
-not-entered k p v ks ds r ks' ds' did t kept long absent =
-    subst (λ (b : Bool). Tried b k v ks ds ks' ds') t (did (record { kept = kept; long = long; absent = absent }))
+    → Entered k v ks ds ks' ds'
+unfolding marking
+waits-entered s k p v ks ds ks' ds' w es cs did h few absent =
+    entered-by (s .stored) (cellsOf (s .waiting)) k p v ks ds ks' ds' did (h .marked)
+    (let m = length-map (s .waiting) (λ (c : Cell). c .key) in omega arith) absent
 
 -- a march of the same kind
 pub wait-as :

@@ -1,13 +1,14 @@
 -- Steps on all four lists: a row is stored, then cells wait; and a cell is taken. Assumes nothing.
 use mathlib.Core.Path.{_≡_, refl, sym, ap, subst, _∙_}
-use mathlib.Core.Bool.{Bool, true, false, _||_, or-true, false≢true}
+use mathlib.Core.Bool.{Bool, true, false, _||_, or-true}
 use mathlib.Core.List.{List, [], _∷_}
 use mathlib.Core.Option.{some, none}
-use Prim.Native.Nat.{ℕ, suc, _-_, _<_}
+use Prim.Native.Nat.{ℕ, suc, _+_, _-_, _<_}
 use native.Mathlib.Nat.{not-suc-le-zero}
+use native.Mathlib.Omega.{arith}
 use borrow.Author.Tests.{ne-eqb, eq-eqb}
 use lib.Dec.{eqb}
-use lib.ListN.{length, getD}
+use lib.ListN.{length, getD, length-map}
 use lib.Ieee.{Float, le, eq}
 use Rattle.floats.specs.Floats.{isFinite, sizeOf}
 use Rattle.floats.proofs.Order.{le-first}
@@ -15,7 +16,7 @@ use Rattle.heap.specs.Heap.{Heaped}
 use Rattle.heap.proofs.Laws.{heaped-key}
 use Rattle.ids.specs.Key.{onLattice}
 use Rattle.lists.specs.Lists.{insert}
-use Rattle.marks.specs.Marks.{occupied}
+use Rattle.lists.proofs.Inserting.{insert-length}
 use Rattle.neighbors.specs.Neighbors.{neighbours}
 use Rattle.search.specs.Keys.{member}
 use Rattle.marching.specs.March.{MarchedRow, marchedRow, Cell, State, state, Field, Rooms, rooms, Going, on, andThen, rowBefore, keysOf, cellsOf, distanceOf, isStored, store, waitAll, sow, settled, onward, spread, settle, visit, taking, take}
@@ -31,7 +32,7 @@ use Rattle.fronts.specs.declared.Placed.{Placed}
 use Rattle.fronts.specs.declared.Placed.the-variants.{Now, Not}
 use Rattle.fronts.specs.declared.Step.{Step}
 use Rattle.fronts.specs.declared.Step.the-variants as step
-use Rattle.fronts.specs.Fronts.{Fair, marking, markingAlso, Front, Held, Taken, roomsOf, LeftRows, LeftCells, Left, ToldOnce, ToldFirst, DoesWait}
+use Rattle.fronts.specs.Fronts.{Fair, marking, markingAlso, Front, Held, Taken, Roomy, roomsOf, LeftRows, LeftCells, Left, ToldOnce, ToldFirst, DoesWait}
 use Rattle.fronts.proofs.Marking.{marked-skip, stored-some}
 use Rattle.fronts.proofs.Walking.{stopped-then, stopped-by}
 
@@ -50,52 +51,67 @@ told-stored seed f k s told room d t e =
     (store-is room (marchedRow k d) s) e in
     told d t (ap (λ (x : State). x .stored) i) (ap (λ (x : State). x .waiting) i)
 
+-- a place less for marks
+pub stored-room :
+    (lean : Bool) (m n : ℕ) (r : MarchedRow) (s : State) (ks ks' : List ℕ)
+    → length ks' ≡ length ks
+    → Roomy lean (suc n) s ks
+    → (t : State)
+    → store m r s ≡ on t
+    → Roomy lean n t ks'
+stored-room lean m n r s ks ks' wide room t e q =
+    let i = after-on (λ t. t ≡ state (insert rowBefore r (s .stored)) (s .waiting) (s .takings)) (store m r s) t (store-is m r s) e in
+    let a = ap (λ (x : State). length (x .stored)) i in
+    let b = ap (λ (x : State). length (x .waiting)) i in
+    let l = insert-length rowBefore r (s .stored) in
+    let c = room q in
+    omega arith
+
 -- ---- a row is stored (g), then cells wait (go)
 
 module _ (lean : Bool) (seed : ℕ → Bool) (f : Field) (k : ℕ) (g : Going) (go : State → Going) (s : State) (w : ℕ) (es : List Float) (cs : List ℕ)
     (h : Heaped (s .waiting) w es cs) (lattice : (j : ℕ) → member j (cellsOf (s .waiting)) ≡ true → onLattice j ≡ true) (p : Placed) (ks : List ℕ)
-    (ds : List Float) (did : LeftRows lean g s (marking lean (s .waiting)) p ks ds) where
+    (ds : List Float) (did : LeftRows g s (marking lean (s .waiting)) p ks ds) where
   pub no-row : (why : Stop) → p ≡ Not why → (es' : List Float) (cs' : List ℕ) → Left lean (andThen g go) (step.Not why) ks ds es' cs'
   unfolding LeftRows Left
-  no-row why e es' cs' = stopped-then lean g go why (subst (λ (o : Placed). LeftRows lean g s (marking lean (s .waiting)) o ks ds) e did)
+  no-row why e es' cs' = stopped-then g go why (subst (λ (o : Placed). LeftRows g s (marking lean (s .waiting)) o ks ds) e did)
 
-  module _ (told : (t : State) → g ≡ on t → Told seed f k (f .near k) t) (n : ℕ) (e : p ≡ Now n) (q : Placed) (ks' : List ℕ) (ds' es' : List Float) (cs' : List ℕ)
+  module _ (told : (t : State) → g ≡ on t → Told seed f k (f .near k) t) (room : (t : State) → g ≡ on t → Roomy lean (length (f .near k)) t ks) (n : ℕ)
+      (e : p ≡ Now n) (q : Placed) (ks' : List ℕ) (ds' es' : List Float) (cs' : List ℕ)
       (then-did : DoesWait lean seed f k (f .near k) go ks ds w es cs q ks' ds' es' cs') where
-    stored : LeftRows lean g s (marking lean (s .waiting)) (Now n) ks ds
-    stored = subst (λ (o : Placed). LeftRows lean g s (marking lean (s .waiting)) o ks ds) e did
+    stored : LeftRows g s (marking lean (s .waiting)) (Now n) ks ds
+    stored = subst (λ (o : Placed). LeftRows g s (marking lean (s .waiting)) o ks ds) e did
 
     front : (t : State)
         → t .waiting ≡ s .waiting
         → Marked (t .stored) (marking lean (s .waiting)) ks ds
-        → (lean ≡ true → occupied ks ≡ length (t .stored))
         → Front lean t ks ds w es cs
-    front t a m places =
+    front t a m =
         record {
           marked = subst (λ (l : List Cell). Marked (t .stored) (marking lean l) ks ds) (sym a) m;
           heap = subst (λ (l : List Cell). Heaped l w es cs) (sym a) h;
           lattice = λ j i. lattice j (sym (ap (λ (l : List Cell). member j (cellsOf l)) a) ∙ i);
-          places = places;
         }
 
     waited : (o : Placed) → q ≡ o → (t : State) → Front lean t ks ds w es cs → g ≡ on t → LeftCells lean (go t) t o ks' ds' es' cs'
-    waited o a t b m = subst (λ (o : Placed). LeftCells lean (go t) t o ks' ds' es' cs') a (then-did t b (told t m))
+    waited o a t b m = subst (λ (o : Placed). LeftCells lean (go t) t o ks' ds' es' cs') a (then-did t b (told t m) (room t m))
 
     pub no-cell : (why : Stop) → q ≡ Not why → Left lean (andThen g go) (step.Not why) ks' ds' es' cs'
     unfolding LeftRows LeftCells Left andThen
     no-cell why a =
         let x = stored in
-        stopped-by lean (andThen g go) (go (x .0)) why (ap (λ (y : Going). andThen y go) (x .1 .0))
-        (waited (Not why) a (x .0) (front (x .0) (x .1 .1 .0) (x .1 .1 .1 .0) (x .1 .1 .1 .1 .1)) (x .1 .0))
+        stopped-by (andThen g go) (go (x .0)) why (ap (λ (y : Going). andThen y go) (x .1 .0))
+        (waited (Not why) a (x .0) (front (x .0) (x .1 .1 .0) (x .1 .1 .1 .0)) (x .1 .0))
 
     pub both-done : (w' : ℕ) → q ≡ Now w' → Left lean (andThen g go) (step.On n w') ks' ds' es' cs'
     unfolding LeftRows LeftCells Left andThen
     both-done w' a =
         let x = stored in
-        let y = waited (Now w') a (x .0) (front (x .0) (x .1 .1 .0) (x .1 .1 .1 .0) (x .1 .1 .1 .1 .1)) (x .1 .0) in (
+        let y = waited (Now w') a (x .0) (front (x .0) (x .1 .1 .0) (x .1 .1 .1 .0)) (x .1 .0) in (
           y .0,
           (
             ap (λ (z : Going). andThen z go) (x .1 .0) ∙ y .1 .0,
-            record { front = y .1 .1 .1; count = x .1 .1 .1 .1 .0 ∙ ap length (sym (y .1 .1 .0)) },
+            record { front = y .1 .1 .1; count = x .1 .1 .1 .1 ∙ ap length (sym (y .1 .1 .0)) },
           ),
         )
 
@@ -119,12 +135,12 @@ module _ (lean : Bool) (seed : ℕ → Bool) (f : Field) (r : MarchedRow) (ks : 
       → DoesWait lean seed f (r .key) (f .near (r .key)) (waitAll (length cs) e (f .near (r .key))) ks ds w es cs q ks' ds' es' cs'
       → DoesWait lean seed f (r .key) (f .near (r .key)) (spread f (length cs) r) ks ds w es cs q ks' ds' es' cs'
   unfolding spread
-  spread-waits a q ks' ds' es' cs' did s h told =
-      subst (λ (g : Going). LeftCells lean g s q ks' ds' es' cs') (sym (rw (← o, ← asked, a))) (did s h told)
+  spread-waits a q ks' ds' es' cs' did s h told room =
+      subst (λ (g : Going). LeftCells lean g s q ks' ds' es' cs') (sym (rw (← o, ← asked, a))) (did s h told room)
 
   pub spread-stays : b ≡ false → DoesWait lean seed f (r .key) (f .near (r .key)) (spread f (length cs) r) ks ds w es cs (Now w) ks ds es cs
   unfolding spread LeftCells
-  spread-stays a s h told = (s, (rw (← o, ← asked, a), (refl, h)))
+  spread-stays a s h told room = (s, (rw (← o, ← asked, a), (refl, h)))
 
 -- ---- a cell gets its distance
 
@@ -144,16 +160,19 @@ unfolding member markingAlso marking
 taken-same true k cs j d = refl
 taken-same false k cs j d = rw (ne-eqb k j d)
 
--- a lean march has no mark of it
-pub taken-spare : (lean : Bool) (k : ℕ) (cs : List Cell) → lean ≡ true → member k (markingAlso lean k cs) ≡ false
-unfolding member markingAlso
-taken-spare true k cs e = refl
-taken-spare false k cs e = absurd (false≢true e)
+-- marks of stored and waiting cells leave a place, in a lean march where rows do
+pub marks-spare : (lean : Bool) (n : ℕ) (s : State) (ks : List ℕ) → Roomy lean (suc n) s ks → length (s .stored) < length ks
+    → length (s .stored) + length (marking lean (s .waiting)) < length ks
+unfolding marking
+marks-spare true n s ks room l = omega arith
+marks-spare false n s ks room l = let a = room refl in let b = length-map (s .waiting) (λ (c : Cell). c .key) in omega arith
 
-pub sow-spare : (lean : Bool) (k : ℕ) (cs : List Cell) → lean ≡ true → member k (marking lean cs) ≡ false
-unfolding member marking
-sow-spare true k cs e = refl
-sow-spare false k cs e = absurd (false≢true e)
+-- and that of a cell that was taken
+pub taken-spare : (lean : Bool) (k n : ℕ) (s : State) (ks : List ℕ) → Roomy lean (suc (suc n)) s ks → length (s .stored) < length ks
+    → length (s .stored) + length (markingAlso lean k (s .waiting)) < length ks
+unfolding markingAlso
+taken-spare true k n s ks room l = omega arith
+taken-spare false k n s ks room l = let a = room refl in let b = length-map (s .waiting) (λ (c : Cell). c .key) in omega arith
 
 -- ---- the first waiting cell is taken
 
@@ -220,7 +239,6 @@ module _ (lean : Bool) (seed : ℕ → Bool) (f : Field) (s : State) (n : ℕ) (
               marked = skips lean (getD cs 0 0) (parts .1 .0) (s .stored) ks ds d e marked-all;
               heap = popped (parts .0) (parts .1 .0) full;
               lattice = others-lattice;
-              places = h .front .places;
             };
             count = h .count;
           },
@@ -230,14 +248,16 @@ module _ (lean : Bool) (seed : ℕ → Bool) (f : Field) (s : State) (n : ℕ) (
   pub take-settles :
       isFinite d ≡ false
       → ToldFirst seed f s
+      → ((k : ℕ) → Roomy lean (suc (length (f .near k))) s ks)
       → (r : Step) (ks' : List ℕ) (ds' es'' : List Float) (cs'' : List ℕ)
       → ((t : State)
       → Taken lean (getD cs 0 0) t n ks ds (w - 1) es' cs'
       → ToldOnce seed f (getD cs 0 0) t
+      → Roomy lean (suc (suc (length (f .near (getD cs 0 0))))) t ks
       → Left lean (settle f (roomsOf ks cs') (getD cs 0 0) t) r ks' ds' es'' cs'')
       → Left lean (take f (roomsOf ks cs) s) r ks' ds' es'' cs''
   unfolding visit
-  take-settles a told r ks' ds' es'' cs'' did =
+  take-settles a told room r ks' ds' es'' cs'' did =
       let o : member (getD cs 0 0) (keysOf (s .stored)) ≡ false = no-stored (getD cs 0 0) (s .stored) (here ∙ rw a) in
       let once : ToldOnce seed f (getD cs 0 0) after =
       subst (λ (k : ℕ). ToldOnce seed f k after) (sym key-is) (told (parts .0) (parts .1 .0) (parts .1 .1) (sym (ap (λ (k : ℕ). isStored k (s .stored)) key-is) ∙ o)) in
@@ -248,11 +268,10 @@ module _ (lean : Bool) (seed : ℕ → Bool) (f : Field) (s : State) (n : ℕ) (
         marked = marked-all;
         heap = popped (parts .0) (parts .1 .0) full;
         lattice = others-lattice;
-        places = h .front .places;
         count = h .count;
         new = o;
       })
-      once))
+      once (λ q. let x = room (getD cs 0 0) q in let y = ap length (parts .1 .1) in omega arith)))
 
 -- a settled distance is finite
 pub finite-by : (c : Course) (d : Float) (rs : List MarchedRow) (k : ℕ) → Fair c → d ≡ settled (latticeOf c) rs k → isFinite d ≡ true
@@ -261,25 +280,29 @@ finite-by c d rs k fair e = rw e (settled-finite (latticeOf c) rs k (fair .least
 -- ---- the two steps whole
 
 -- what storing k at the distance d says
-abbrev pub Stores : Bool → ℕ → Float → ℕ → List ℕ → List Float → Placed → List ℕ → List Float → Type 0
-Stores lean k d n ks ds p ks' ds' =
+abbrev pub Stores : ℕ → Float → ℕ → List ℕ → List Float → Placed → List ℕ → List Float → Type 0
+Stores k d n ks ds p ks' ds' =
     (s : State) (ws vs : List ℕ)
     → Marked (s .stored) ws ks ds
     → ((j : ℕ) → (k ≡ j → ⊥) → member j ws ≡ member j vs)
-    → (lean ≡ true → (occupied ks ≡ length (s .stored)) × (member k ws ≡ false))
+    → (length (s .stored) < length ks → length (s .stored) + length ws < length ks)
     → isFinite d ≡ true
     → n ≡ length (s .stored)
     → member k (keysOf (s .stored)) ≡ false
-    → LeftRows lean (store (length ks) (marchedRow k d) s) s vs p ks' ds'
+    → LeftRows (store (length ks) (marchedRow k d) s) s vs p ks' ds'
 
 -- a seed is sown
 module _ (c : Course) (lean : Bool) (seed : ℕ → Bool) (k n : ℕ) (ks : List ℕ) (ds : List Float) (w : ℕ) (es : List Float) (cs : List ℕ) (s : State)
-    (h : Held lean s n ks ds w es cs) (o : member k (keysOf (s .stored)) ≡ false) (told : ToldOnce seed (latticeOf c) k s) (d : Float)
-    (finite : isFinite d ≡ true) (p : Placed) (ks₁ : List ℕ) (ds₁ : List Float) (stores : Stores lean k d n ks ds p ks₁ ds₁) where
-  sown-row : LeftRows lean (store (length ks) (marchedRow k d) s) s (marking lean (s .waiting)) p ks₁ ds₁
+    (h : Held lean s n ks ds w es cs) (o : member k (keysOf (s .stored)) ≡ false) (told : ToldOnce seed (latticeOf c) k s)
+    (room : Roomy lean (suc (length (neighbours k))) s ks) (d : Float) (finite : isFinite d ≡ true) (p : Placed) (ks₁ : List ℕ) (ds₁ : List Float)
+    (wide : length ks₁ ≡ length ks) (stores : Stores k d n ks ds p ks₁ ds₁) where
+  sown-row : LeftRows (store (length ks) (marchedRow k d) s) s (marking lean (s .waiting)) p ks₁ ds₁
   sown-row =
       stores s (marking lean (s .waiting)) (marking lean (s .waiting)) (h .front .marked) (λ j _. refl)
-      (λ t. (h .front .places t, sow-spare lean k (s .waiting) t)) finite (h .count) o
+      (marks-spare lean (length (neighbours k)) s ks room) finite (h .count) o
+
+  after-room : (t : State) → store (length ks) (marchedRow k d) s ≡ on t → Roomy lean (length (neighbours k)) t ks₁
+  after-room = stored-room lean (length ks) (length (neighbours k)) (marchedRow k d) s ks ks₁ wide room
 
   pub sow-no-row : (why : Stop) → p ≡ Not why → Left lean (sow neighbours (roomsOf ks cs) (marchedRow k d) s) (step.Not why) ks₁ ds₁ es cs
   unfolding sow
@@ -293,24 +316,29 @@ module _ (c : Course) (lean : Bool) (seed : ℕ → Bool) (k n : ℕ) (ks : List
     unfolding sow
     sow-no-cell why a =
         no-cell lean seed (latticeOf c) k (store (length ks) (marchedRow k d) s) (waitAll (length cs) (sizeOf d) (neighbours k)) s w es cs
-        (h .front .heap) (h .front .lattice) p ks₁ ds₁ sown-row (λ t g. told-stored seed (latticeOf c) k s told (length ks) d t g) m e q ks' ds' es' cs'
+        (h .front .heap) (h .front .lattice) p ks₁ ds₁ sown-row (λ t g. told-stored seed (latticeOf c) k s told (length ks) d t g) after-room m e q ks' ds' es' cs'
         (with-size lean seed (latticeOf c) k (length cs) x (sizeOf d) (neighbours k) ks₁ ds₁ w es cs q ks' ds' es' cs' is waits) why a
 
     pub sow-done : (w' : ℕ) → q ≡ Now w' → Left lean (sow neighbours (roomsOf ks cs) (marchedRow k d) s) (step.On m w') ks' ds' es' cs'
     unfolding sow
     sow-done w' a =
         both-done lean seed (latticeOf c) k (store (length ks) (marchedRow k d) s) (waitAll (length cs) (sizeOf d) (neighbours k)) s w es cs
-        (h .front .heap) (h .front .lattice) p ks₁ ds₁ sown-row (λ t g. told-stored seed (latticeOf c) k s told (length ks) d t g) m e q ks' ds' es' cs'
+        (h .front .heap) (h .front .lattice) p ks₁ ds₁ sown-row (λ t g. told-stored seed (latticeOf c) k s told (length ks) d t g) after-room m e q ks' ds' es' cs'
         (with-size lean seed (latticeOf c) k (length cs) x (sizeOf d) (neighbours k) ks₁ ds₁ w es cs q ks' ds' es' cs' is waits) w' a
 
 -- a taken cell is settled
 module _ (c : Course) (fair : Fair c) (lean : Bool) (seed : ℕ → Bool) (k n : ℕ) (ks : List ℕ) (ds : List Float) (w : ℕ) (es : List Float) (cs : List ℕ)
-    (s : State) (h : Taken lean k s n ks ds w es cs) (told : ToldOnce seed (latticeOf c) k s) (d : Float) (is : d ≡ settled (latticeOf c) (s .stored) k)
-    (p : Placed) (ks₁ : List ℕ) (ds₁ : List Float) (stores : Stores lean k d n ks ds p ks₁ ds₁) where
-  settled-row : LeftRows lean (store (length ks) (marchedRow k d) s) s (marking lean (s .waiting)) p ks₁ ds₁
+    (s : State) (h : Taken lean k s n ks ds w es cs) (told : ToldOnce seed (latticeOf c) k s)
+    (room : Roomy lean (suc (suc (length (neighbours k)))) s ks) (d : Float) (is : d ≡ settled (latticeOf c) (s .stored) k)
+    (p : Placed) (ks₁ : List ℕ) (ds₁ : List Float) (wide : length ks₁ ≡ length ks) (stores : Stores k d n ks ds p ks₁ ds₁) where
+  settled-row : LeftRows (store (length ks) (marchedRow k d) s) s (marking lean (s .waiting)) p ks₁ ds₁
   settled-row =
       stores s (markingAlso lean k (s .waiting)) (marking lean (s .waiting)) (h .marked) (taken-same lean k (s .waiting))
-      (λ t. (h .places t, taken-spare lean k (s .waiting) t)) (finite-by c d (s .stored) k fair is) (h .count) (h .new)
+      (taken-spare lean k (length (neighbours k)) s ks room) (finite-by c d (s .stored) k fair is) (h .count) (h .new)
+
+  settled-room : (t : State) → store (length ks) (marchedRow k d) s ≡ on t → Roomy lean (length (neighbours k)) t ks₁
+  settled-room =
+      stored-room lean (length ks) (length (neighbours k)) (marchedRow k d) s ks ks₁ wide (λ q. let a = room q in omega arith)
 
   pub settle-no-row : (why : Stop) → p ≡ Not why → Left lean (settle (latticeOf c) (roomsOf ks cs) k s) (step.Not why) ks₁ ds₁ es cs
   settle-no-row why e =
@@ -324,10 +352,10 @@ module _ (c : Course) (fair : Fair c) (lean : Bool) (seed : ℕ → Bool) (k n :
     settle-no-cell why a =
         settle-by lean (latticeOf c) (roomsOf ks cs) k s d is (step.Not why) ks' ds' es' cs'
         (no-cell lean seed (latticeOf c) k (store (length ks) (marchedRow k d) s) (spread (latticeOf c) (length cs) (marchedRow k d)) s w es cs
-        (h .heap) (h .lattice) p ks₁ ds₁ settled-row (λ t g. told-stored seed (latticeOf c) k s told (length ks) d t g) m e q ks' ds' es' cs' waits why a)
+        (h .heap) (h .lattice) p ks₁ ds₁ settled-row (λ t g. told-stored seed (latticeOf c) k s told (length ks) d t g) settled-room m e q ks' ds' es' cs' waits why a)
 
     pub settle-done : (w' : ℕ) → q ≡ Now w' → Left lean (settle (latticeOf c) (roomsOf ks cs) k s) (step.On m w') ks' ds' es' cs'
     settle-done w' a =
         settle-by lean (latticeOf c) (roomsOf ks cs) k s d is (step.On m w') ks' ds' es' cs'
         (both-done lean seed (latticeOf c) k (store (length ks) (marchedRow k d) s) (spread (latticeOf c) (length cs) (marchedRow k d)) s w es cs
-        (h .heap) (h .lattice) p ks₁ ds₁ settled-row (λ t g. told-stored seed (latticeOf c) k s told (length ks) d t g) m e q ks' ds' es' cs' waits w' a)
+        (h .heap) (h .lattice) p ks₁ ds₁ settled-row (λ t g. told-stored seed (latticeOf c) k s told (length ks) d t g) settled-room m e q ks' ds' es' cs' waits w' a)

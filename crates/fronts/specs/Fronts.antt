@@ -1,6 +1,6 @@
 -- What the functions of the march promise each other. The marched lists hold a mark for each stored cell and, but in a lean march, for each waiting
 -- one, in no order; the waiting lists are a heap.
-use Prim.Native.Nat.{ℕ, suc}
+use Prim.Native.Nat.{ℕ, suc, _+_, _≤_}
 use mathlib.Core.Path.{_≡_}
 use mathlib.Core.Bool.{Bool, true, false}
 use mathlib.Core.List.{List, [], _∷_}
@@ -10,7 +10,6 @@ use Rattle.floats.specs.Floats.{zero32, isFinite}
 use Rattle.heap.specs.Heap.{Heaped}
 use Rattle.ids.specs.Key.{onLattice}
 use Rattle.lists.specs.Lists.{insert}
-use Rattle.marks.specs.Marks.{occupied}
 use Rattle.refusals.specs.declared.Refusal.the-variants.{NoPlace, NoWaitingPlace}
 use Rattle.search.specs.Keys.{member}
 use Rattle.marching.specs.declared.Course.{Course}
@@ -18,7 +17,7 @@ use Rattle.marching.specs.March.{marchedRow, Cell, State, state, Field, Going, 
 use Rattle.marching.specs.Spreading.{Told}
 use Rattle.hearing.specs.Hearing.{Marked}
 use Rattle.fronts.specs.declared.Stop.{Stop}
-use Rattle.fronts.specs.declared.Stop.the-variants.{NoRow, NoCell, NoMark}
+use Rattle.fronts.specs.declared.Stop.the-variants.{NoRow, NoCell}
 use Rattle.fronts.specs.declared.Placed.{Placed}
 use Rattle.fronts.specs.declared.Placed.the-variants as placed
 use Rattle.fronts.specs.declared.Step.{Step}
@@ -46,44 +45,43 @@ unfoldable pub marking : Bool → List Cell → List ℕ
 marking true cs = []
 marking false cs = cellsOf cs
 
--- four lists hold a state, whose waiting cells are on the lattice; a lean march takes a place for each row alone
+-- four lists hold a state, whose waiting cells are on the lattice
 pub record Front (lean : Bool) (s : State) (ks : List ℕ) (ds : List Float) (w : ℕ) (es : List Float) (cs : List ℕ) : Type 0 where
   pub marked : Marked (s .stored) (marking lean (s .waiting)) ks ds
   pub heap : Heaped (s .waiting) w es cs
   pub lattice : (k : ℕ) → member k (cellsOf (s .waiting)) ≡ true → onLattice k ≡ true
-  pub places : lean ≡ true → occupied ks ≡ length (s .stored)
 
 -- and n rows are stored
 pub record Held (lean : Bool) (s : State) (n : ℕ) (ks : List ℕ) (ds : List Float) (w : ℕ) (es : List Float) (cs : List ℕ) : Type 0 where
   pub front : Front lean s ks ds w es cs
   pub count : n ≡ length (s .stored)
 
+-- n marks more have a place beside those of rows and waiting cells; a lean march asks for none
+abbrev pub Roomy : Bool → ℕ → State → List ℕ → Type 0
+Roomy lean n s ks = lean ≡ false → length (s .stored) + length (s .waiting) + n ≤ length ks
+
 -- ---- what a step leaves
 
--- why a step stopped: a row or a cell has no place; or a mark has none, which no lean march needs
-unfoldable pub Stopped : Bool → Going → Stop → Type 0
-Stopped lean g NoRow = g ≡ refused NoPlace
-Stopped lean g NoCell = g ≡ refused NoWaitingPlace
-Stopped lean g NoMark = lean ≡ false
+-- why a step stopped: a row or a cell has no place
+unfoldable pub Stopped : Going → Stop → Type 0
+Stopped g NoRow = g ≡ refused NoPlace
+Stopped g NoCell = g ≡ refused NoWaitingPlace
 
 -- a step on the rows, from the state s; afterwards the cells vs have marks beside them
-unfoldable pub LeftRows : Bool → Going → State → List ℕ → Placed → List ℕ → List Float → Type 0
-LeftRows lean g s vs (placed.Now n) ks ds =
-    (t : State)
-    × ((g ≡ on t)
-    × ((t .waiting ≡ s .waiting)
-    × (Marked (t .stored) vs ks ds × ((n ≡ length (t .stored)) × (lean ≡ true → occupied ks ≡ length (t .stored))))))
-LeftRows lean g s vs (placed.Not why) ks ds = Stopped lean g why
+unfoldable pub LeftRows : Going → State → List ℕ → Placed → List ℕ → List Float → Type 0
+LeftRows g s vs (placed.Now n) ks ds =
+    (t : State) × ((g ≡ on t) × ((t .waiting ≡ s .waiting) × (Marked (t .stored) vs ks ds × (n ≡ length (t .stored)))))
+LeftRows g s vs (placed.Not why) ks ds = Stopped g why
 
 -- a step on the waiting cells
 unfoldable pub LeftCells : Bool → Going → State → Placed → List ℕ → List Float → List Float → List ℕ → Type 0
 LeftCells lean g s (placed.Now w) ks ds es cs = (t : State) × ((g ≡ on t) × ((t .stored ≡ s .stored) × Front lean t ks ds w es cs))
-LeftCells lean g s (placed.Not why) ks ds es cs = Stopped lean g why
+LeftCells lean g s (placed.Not why) ks ds es cs = Stopped g why
 
 -- a step on both
 unfoldable pub Left : Bool → Going → Step → List ℕ → List Float → List Float → List ℕ → Type 0
 Left lean g (step.On n w) ks ds es cs = (t : State) × ((g ≡ on t) × Held lean t n ks ds w es cs)
-Left lean g (step.Not why) ks ds es cs = Stopped lean g why
+Left lean g (step.Not why) ks ds es cs = Stopped g why
 
 -- once k is stored, it is told of its neighbours who waits
 abbrev pub ToldOnce : (ℕ → Bool) → Field → ℕ → State → Type 0
@@ -102,7 +100,7 @@ ToldFirst seed f s =
 abbrev pub DoesWait : Bool → (ℕ → Bool) → Field → ℕ → List ℕ → (State → Going) → List ℕ → List Float → ℕ → List Float → List ℕ → Placed → List ℕ
     → List Float → List Float → List ℕ → Type 0
 DoesWait lean seed f k ns go ks ds w es cs r ks' ds' es' cs' =
-    (s : State) → Front lean s ks ds w es cs → Told seed f k ns s → LeftCells lean (go s) s r ks' ds' es' cs'
+    (s : State) → Front lean s ks ds w es cs → Told seed f k ns s → Roomy lean (length ns) s ks → LeftCells lean (go s) s r ks' ds' es' cs'
 
 -- k, which is not stored yet, is stored
 abbrev pub DoesSow : Bool → (ℕ → Bool) → Field → ℕ → (State → Going) → ℕ → List ℕ → List Float → ℕ → List Float → List ℕ → Step → List ℕ → List Float
@@ -112,13 +110,18 @@ DoesSow lean seed f k go n ks ds w es cs r ks' ds' es' cs' =
     → Held lean s n ks ds w es cs
     → member k (keysOf (s .stored)) ≡ false
     → ToldOnce seed f k s
+    → Roomy lean (suc (length (f .near k))) s ks
     → Left lean (go s) r ks' ds' es' cs'
 
 -- the first waiting cell is taken
 abbrev pub DoesTake : Bool → (ℕ → Bool) → Field → (State → Going) → ℕ → List ℕ → List Float → ℕ → List Float → List ℕ → Step → List ℕ → List Float
     → List Float → List ℕ → Type 0
 DoesTake lean seed f go n ks ds w es cs r ks' ds' es' cs' =
-    (s : State) → Held lean s n ks ds w es cs → ToldFirst seed f s → Left lean (go s) r ks' ds' es' cs'
+    (s : State)
+    → Held lean s n ks ds w es cs
+    → ToldFirst seed f s
+    → ((k : ℕ) → Roomy lean (suc (length (f .near k))) s ks)
+    → Left lean (go s) r ks' ds' es' cs'
 
 -- the marks of a lean march; of another also that of k, which waits no more
 unfoldable pub markingAlso : Bool → ℕ → List Cell → List ℕ
@@ -130,11 +133,14 @@ pub record Taken (lean : Bool) (k : ℕ) (s : State) (n : ℕ) (ks : List ℕ) (
   pub marked : Marked (s .stored) (markingAlso lean k (s .waiting)) ks ds
   pub heap : Heaped (s .waiting) w es cs
   pub lattice : (j : ℕ) → member j (cellsOf (s .waiting)) ≡ true → onLattice j ≡ true
-  pub places : lean ≡ true → occupied ks ≡ length (s .stored)
   pub count : n ≡ length (s .stored)
   pub new : member k (keysOf (s .stored)) ≡ false
 
 abbrev pub DoesSettle : Bool → (ℕ → Bool) → Field → ℕ → (State → Going) → ℕ → List ℕ → List Float → ℕ → List Float → List ℕ → Step → List ℕ
     → List Float → List Float → List ℕ → Type 0
 DoesSettle lean seed f k go n ks ds w es cs r ks' ds' es' cs' =
-    (s : State) → Taken lean k s n ks ds w es cs → ToldOnce seed f k s → Left lean (go s) r ks' ds' es' cs'
+    (s : State)
+    → Taken lean k s n ks ds w es cs
+    → ToldOnce seed f k s
+    → Roomy lean (suc (suc (length (f .near k)))) s ks
+    → Left lean (go s) r ks' ds' es' cs'

@@ -1,7 +1,7 @@
 // The march over lent lists: the marched lists are a table of marks with open addressing, the waiting lists a heap. A stored cell's mark is its
 // distance, a waiting one's is +infinity.
 // A lean march has no marks of waiting cells, and so a place for every row that may be stored; who waits it reads off the stored neighbours that have
-// spread. It takes longer, and is run where the marks outgrew the lists.
+// spread. Its steps take longer, and are taken where marks of waiting cells would outgrow the lists.
 use heap::pop;
 use heap::push;
 use hearing::known;
@@ -16,14 +16,14 @@ use marks::find;
 ghost use mathlib.Core.Path.{_≡_};
 ghost use mathlib.Core.Bool.{true, false};
 ghost use mathlib.Core.List.{List, [], _∷_};
-ghost use Prim.Native.Nat.{ℕ, _≤_, _<_};
+ghost use Prim.Native.Nat.{ℕ, _+_, _≤_, _<_};
 ghost use lib.ListN.{length, getD};
 ghost use lib.Ieee.{eq};
 ghost use Rattle.floats.specs.Floats.{isFinite};
 ghost use Rattle.ids.specs.Key.{onLattice};
 ghost use Rattle.neighbors.specs.Neighbors.{neighbours};
 ghost use Rattle.marks.specs.declared.Spot.the-variants.{Absent};
-ghost use Rattle.marks.specs.Marks.{spotOf, occupied};
+ghost use Rattle.marks.specs.Marks.{spotOf};
 ghost use Rattle.search.specs.Keys.{member};
 ghost use Rattle.table.specs.Table.{rowsOf};
 ghost use Rattle.marching.specs.March.{marchedRow, State, keysOf, store, wait, waitAll, sow, spread, settle, take};
@@ -32,11 +32,10 @@ ghost use Rattle.marching.specs.Spreading.{seedIn};
 ghost use Rattle.hearing.specs.Hearing.{Marked, Lent};
 ghost use Rattle.fronts.specs.Fronts.{Fair, Paired, roomsOf, Front, LeftRows, LeftCells, DoesWait, DoesSow, DoesSettle, DoesTake};
 
-// Why a march stopped: no place for a row, none for a waiting cell, or none for a mark.
+// Why a march stopped: no place for a row, or none for a waiting cell.
 pub enum Stop {
     NoRow,
     NoCell,
-    NoMark,
 }
 
 // How many there are now.
@@ -66,15 +65,14 @@ fn wait_marked(
     requires { ⌜ (spotOf key (now keys) ≡ Absent place) × ((onLattice key ≡ true) × (eq estimate estimate ≡ true)) ⌝ }
     ensures { λ r. ⌜ ((s : State)
         → Front false s (now (keys .entry)) (now (distances .entry)) waiting (now (estimates .entry)) (now (cells .entry))
+        → length (s .stored) + length (s .waiting) < length (now (keys .entry))
         → LeftCells false (wait (length (now (cells .entry))) estimate key s) s r
         (now (keys .exit)) (now (distances .exit)) (now (estimates .exit)) (now (cells .exit))) ⌝ }
 {
     if cells.len() <= waiting {
         return Placed::Not(Stop::NoCell);
     }
-    if !enter(keys, distances, place, key, f32::from_bits(0x7F80_0000)) {
-        return Placed::Not(Stop::NoMark);
-    }
+    enter(keys, distances, place, key, f32::from_bits(0x7F80_0000));
     let held = waiting + 1;
     push(estimates, cells, waiting, estimate, key);
     Placed::Now(held)
@@ -248,23 +246,16 @@ fn wait_around(
 }
 
 // A new row: its mark is its distance.
-fn store(
-    lean: bool,
-    keys: &mut [u64],
-    distances: &mut [f32],
-    count: usize,
-    key: u64,
-    distance: f32,
-) -> Placed
+fn store(keys: &mut [u64], distances: &mut [f32], count: usize, key: u64, distance: f32) -> Placed
     requires { ⌜ (length (now distances) ≡ length (now keys)) × (onLattice key ≡ true) ⌝ }
     ensures { λ r. ⌜ ((s : State) (ws vs : List ℕ)
         → Marked (s .stored) ws (now (keys .entry)) (now (distances .entry))
         → ((j : ℕ) → (key ≡ j → ⊥) → member j ws ≡ member j vs)
-        → (lean ≡ true → (occupied (now (keys .entry)) ≡ length (s .stored)) × (member key ws ≡ false))
+        → (length (s .stored) < length (now (keys .entry)) → length (s .stored) + length ws < length (now (keys .entry)))
         → isFinite distance ≡ true
         → count ≡ length (s .stored)
         → member key (keysOf (s .stored)) ≡ false
-        → LeftRows lean (store (length (now (keys .entry))) (marchedRow key distance) s) s vs r (now (keys .exit))
+        → LeftRows (store (length (now (keys .entry))) (marchedRow key distance) s) s vs r (now (keys .exit))
         (now (distances .exit))) ⌝ }
 {
     if keys.len() <= count {
@@ -276,9 +267,7 @@ fn store(
             Placed::Now(count + 1)
         }
         Spot::Absent(place) => {
-            if !enter(keys, distances, place, key, distance) {
-                return Placed::Not(Stop::NoMark);
-            }
+            enter(keys, distances, place, key, distance);
             Placed::Now(count + 1)
         }
     }
@@ -311,7 +300,7 @@ pub fn sow(
         waiting (now (estimates .entry)) (now (cells .entry)) r
         (now (keys .exit)) (now (distances .exit)) (now (estimates .exit)) (now (cells .exit)) ⌝ }
 {
-    match store(lean, keys, distances, count, key, distance) {
+    match store(keys, distances, count, key, distance) {
         Placed::Not(why) => Step::Not(why),
         Placed::Now(rows) => {
             match wait_around(
@@ -414,7 +403,7 @@ fn settle(
         (now (keys .exit)) (now (distances .exit)) (now (estimates .exit)) (now (cells .exit)) ⌝ }
 {
     let distance = settled(keys, distances, course, key);
-    match store(lean, keys, distances, count, key, distance) {
+    match store(keys, distances, count, key, distance) {
         Placed::Not(why) => Step::Not(why),
         Placed::Now(rows) => {
             match spread(

@@ -1,3 +1,4 @@
+pub mod Fitting
 pub mod Saying
 pub mod Seeding
 pub mod Walking

@@ -113,7 +113,7 @@ looked k ks ds d e = go (standing k ks) refl e
     go (Absent i) f e = absurd (let o : _≡_ {A = ℕ} 0 1 = cc in omega arith)
 
 -- one that stands nowhere has none
-value-none : (k : ℕ) (ks : List ℕ) (ds : List Float) → ((i : ℕ) → getD ks i 0 ≡ k → ⊥) → valueOf k ks ds ≡ none
+pub value-none : (k : ℕ) (ks : List ℕ) (ds : List Float) → ((i : ℕ) → getD ks i 0 ≡ k → ⊥) → valueOf k ks ds ≡ none
 unfolding valueAt
 value-none k ks ds n = go (standing k ks) refl
   where
@@ -121,25 +121,31 @@ value-none k ks ds n = go (standing k ks) refl
     go (At i) f = absurd (n i (standing-at k ks i f))
     go (Absent i) f = refl
 
--- one that stands where it stood, with the value that it had
-pub value-same :
-    (k : ℕ)
-    → (k ≡ 0 → ⊥)
-    → (ks : List ℕ) (ds : List Float) (ks' : List ℕ) (ds' : List Float)
-    → Kept ks
-    → Kept ks'
-    → ((i : ℕ) → getD ks i 0 ≡ k → (getD ks' i 0 ≡ k) × (getD ds' i nan ≡ getD ds i nan))
-    → ((i : ℕ) → getD ks' i 0 ≡ k → getD ks i 0 ≡ k)
-    → valueOf k ks' ds' ≡ valueOf k ks ds
-value-same k n ks ds ks' ds' h h' f g = go (standing k ks) refl
-  where
-    go : (s : Spot) → standing k ks ≡ s → valueOf k ks' ds' ≡ valueOf k ks ds
-    go (At i) e =
-        let b = f i (standing-at k ks i e) in
-        value-at k ks' ds' i (kept-found ks' h' k n i (b .0)) ∙ ap some (b .1) ∙ sym (value-at k ks ds i e)
-    go (Absent p) e =
-        let o = kept-absent ks h k n p e in
-        value-none k ks' ds' (λ i x. o i (g i x)) ∙ sym (value-none k ks ds o)
+-- the label k stands somewhere, with the value d
+abbrev pub Stands : ℕ → Float → List ℕ → List Float → Type 0
+Stands k d ks ds = (q : ℕ) × ((getD ks q 0 ≡ k) × (getD ds q nan ≡ d))
+
+module _ (k : ℕ) (n : k ≡ 0 → ⊥) (ks : List ℕ) (ds : List Float) (ks' : List ℕ) (ds' : List Float) (h : Kept ks) (h' : Kept ks') where
+  -- one that stands in both lists with the same values, or in none
+  pub value-moved : ((d : Float) → Stands k d ks ds → Stands k d ks' ds') → ((d : Float) → Stands k d ks' ds' → Stands k d ks ds)
+      → valueOf k ks' ds' ≡ valueOf k ks ds
+  value-moved f g = go (standing k ks) refl
+    where
+      go : (s : Spot) → standing k ks ≡ s → valueOf k ks' ds' ≡ valueOf k ks ds
+      go (At i) e =
+          let b = f (getD ds i nan) (i, (standing-at k ks i e, refl)) in
+          value-at k ks' ds' (b .0) (kept-found ks' h' k n (b .0) (b .1 .0)) ∙ ap some (b .1 .1) ∙ sym (value-at k ks ds i e)
+      go (Absent p) e =
+          let o = kept-absent ks h k n p e in
+          value-none k ks' ds' (λ i x. let b = g (getD ds' i nan) (i, (x, refl)) in o (b .0) (b .1 .0)) ∙ sym (value-none k ks ds o)
+
+  -- one that stands where it stood, with the value that it had
+  pub value-same : ((i : ℕ) → getD ks i 0 ≡ k → (getD ks' i 0 ≡ k) × (getD ds' i nan ≡ getD ds i nan))
+      → ((i : ℕ) → getD ks' i 0 ≡ k → getD ks i 0 ≡ k)
+      → valueOf k ks' ds' ≡ valueOf k ks ds
+  value-same f g =
+      value-moved (λ d b. let c = f (b .0) (b .1 .0) in (b .0, (c .0, c .1 ∙ b .1 .1)))
+      (λ d b. let c = g (b .0) (b .1 .0) in (b .0, (c, sym (f (b .0) c .1) ∙ b .1 .1)))
 
 -- ---- nothing stands there
 

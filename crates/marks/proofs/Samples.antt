@@ -1,10 +1,11 @@
--- Searches computed: key 0, a key after the list's end, and absent ones whose search ends early.
+-- Searches computed: key 0, a key after the list's end, and absent ones whose search ends early; places on a path.
 -- Assumes nothing.
 use mathlib.Core.Path.{_≡_, refl}
+use mathlib.Core.Bool.{true, false}
 use mathlib.Core.List.{List, [], _∷_}
 use Prim.Native.Nat.{ℕ, _+_, _^_}
 use Rattle.marks.specs.declared.Spot.the-variants.{At, Absent}
-use Rattle.marks.specs.Marks.{label, home, seek, orAgain, halt, spotAt, spotOf}
+use Rattle.marks.specs.Marks.{label, home, earlier, seek, orAgain, halt, spotAt, spotOf}
 
 -- 63 and 31 have their home at place 7, the larger first, so 31 stands at place 0; key 0 stands as 1; 2 places are empty
 abbrev table : List ℕ
@@ -23,3 +24,8 @@ absent = (refl, refl, refl)
 pub scattered : (home 8 1024 ≡ 2) × (home (2 ^ 40 + 8) 1024 ≡ 186) × (home (2 ^ 60 + 8) 1024 ≡ 234)
 unfolding home
 scattered = (refl, refl, refl)
+
+-- a path that begins at place 7 goes on at place 0; no place comes before itself
+pub order : (earlier 7 7 0 ≡ true) × (earlier 7 0 1 ≡ true) × (earlier 7 0 7 ≡ false) × (earlier 7 1 0 ≡ false) × (earlier 7 7 7 ≡ false)
+unfolding earlier
+order = (refl, refl, refl, refl, refl)

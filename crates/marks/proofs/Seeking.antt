@@ -11,7 +11,7 @@ use lib.Dec.{ltb}
 use lib.ListN.{length, getD}
 use Rattle.lists.proofs.Bools.{cases}
 use Rattle.marks.specs.Marks.{home, along, Outranked, seek, orAgain, halt}
-use Rattle.marks.proofs.Pathing.{home-within, Side, along-either, along-once}
+use Rattle.marks.proofs.Pathing.{home-within, Side, along-either, along-which}
 
 module _ (k : ℕ) (ks : List ℕ) where
   -- ---- the loop's steps
@@ -72,9 +72,6 @@ module _ (k : ℕ) (ks : List ℕ) where
           rw z at (ltb-true k (getD ks i 0) e)) refl
 
   -- ---- the whole path
-
-  abbrev late : ℕ → ℕ
-  late q = along (home k (length ks)) (length ks) q
 
   -- only larger labels stand before p on the path, and one that is not larger stands at p if it stands anywhere
   pub record Halted (p : ℕ) : Type 0 where
@@ -139,16 +136,8 @@ module _ (k : ℕ) (ks : List ℕ) where
   halted-once p l e o =
       let r = halt-right in
       let s = r .here p l e in
-      cases (λ (t : Bool). ltb (late (halt k ks)) (late p) ≡ t → halt k ks ≡ p) (ltb (late (halt k ks)) (late p))
-      (λ _ t. absurd (let w = o (halt k ks) (s .0) (ltb-true (late (halt k ks)) (late p) t) in omega arith))
-      (λ _ t.
-      cases (λ (u : Bool). ltb (late p) (late (halt k ks)) ≡ u → halt k ks ≡ p) (ltb (late p) (late (halt k ks)))
-      (λ _ u. absurd (let w = r .before p l (ltb-true (late p) (late (halt k ks)) u) in omega arith))
-      (λ _ u.
-      let v = ltb-false (late p) (late (halt k ks)) u in
-      let w = ltb-false (late (halt k ks)) (late p) t in
-      along-once (home k (length ks)) (length ks) (halt k ks) p (s .0) l (omega arith)) refl)
-      refl
+      along-which (home k (length ks)) (length ks) (halt k ks) p (s .0) l (λ t. absurd (let w = o (halt k ks) (s .0) t in omega arith)) (λ z. z)
+      (λ t. absurd (let w = r .before p l t in omega arith))
 
   -- ---- the code's searches
 

@@ -1,12 +1,12 @@
 -- A list of keys as a table with open addressing. A key's label stands for it: 1 for key 0, else the key itself; key 1 is on no lattice.
 -- 0 is an empty place. A label's path goes from its home to the end of the list, and then from the first place to its home; before a label
 -- stand only larger ones on its path.
-use Prim.Native.Nat.{ℕ, zero, suc, _+_, _*_, _/_, _%_, _^_, _-_, _<_, _≤_}
+use Prim.Native.Nat.{ℕ, zero, suc, _+_, _*_, _/_, _%_, _^_, _-_, _<_}
 use mathlib.Core.Path.{_≡_}
-use mathlib.Core.Bool.{Bool, true, false, cond}
+use mathlib.Core.Bool.{Bool, cond, _&&_, _||_}
 use mathlib.Core.List.{List, [], _∷_}
 use mathlib.Core.Option.{Option, none, some}
-use lib.Dec.{eqb, ltb}
+use lib.Dec.{eqb, leb, ltb}
 use lib.ListN.{length, getD}
 use lib.Ieee.{Float, nan}
 use Rattle.marks.specs.declared.Spot.{Spot}
@@ -33,6 +33,10 @@ home k n = cond (ltb n 8) 0 (mixed (packed k / 8) * (n / 8 % 2 ^ 32) / 2 ^ 32 * 
 -- how late the place q comes on a path that begins at h among n places: those below h come after all others
 unfoldable pub along : ℕ → ℕ → ℕ → ℕ
 along h n q = cond (ltb q h) (q + n) q
+
+-- whether the place a comes before the place b on a path that begins at h, among any number of places that has both
+unfoldable pub earlier : ℕ → ℕ → ℕ → Bool
+earlier h a b = cond (leb h a) (ltb b h || ltb a b) (ltb b h && ltb a b)
 
 -- all labels are larger than k before the place p on the path of k
 abbrev pub Outranked : ℕ → List ℕ → ℕ → Type 0
@@ -92,11 +96,12 @@ occupied (x ∷ xs) = cond (eqb x 0) (occupied xs) (suc (occupied xs))
 unfoldable pub following : ℕ → ℕ → ℕ
 following i n = cond (ltb (i + 1) n) (i + 1) 0
 
--- k is absent, and its search ended at p
+-- k is absent, and its search ended at p; a place is empty
 pub record MayEnter (k p : ℕ) (ks : List ℕ) (ds : List Float) : Type 0 where
   pub kept : Kept ks
   pub long : length ds ≡ length ks
   pub absent : spotOf k ks ≡ Absent p
+  pub room : occupied ks < length ks
 
 -- k has the value v now; every other key has the value that it had
 pub record Entered (k : ℕ) (v : Float) (ks : List ℕ) (ds : List Float) (ks' : List ℕ) (ds' : List Float) : Type 0 where
@@ -107,11 +112,27 @@ pub record Entered (k : ℕ) (v : Float) (ks : List ℕ) (ds : List Float) (ks' 
   pub others : (j : ℕ) → (label j ≡ label k → ⊥) → look j ks' ds' ≡ look j ks ds
   pub fuller : occupied ks' ≡ suc (occupied ks)
 
--- it was put in; or no place was empty, and nothing is said
-unfoldable pub Tried : Bool → ℕ → Float → List ℕ → List Float → List ℕ → List Float → Type 0
-Tried true k v ks ds ks' ds' = Entered k v ks ds ks' ds'
-Tried false k v ks ds ks' ds' = length ks ≤ occupied ks
-
 -- what putting in a key does to lists in which it is absent
-abbrev pub Enters : ℕ → ℕ → Float → List ℕ → List Float → Bool → List ℕ → List Float → Type 0
-Enters k p v ks ds r ks' ds' = MayEnter k p ks ds → Tried r k v ks ds ks' ds'
+abbrev pub Enters : ℕ → ℕ → Float → List ℕ → List Float → List ℕ → List Float → Type 0
+Enters k p v ks ds ks' ds' = MayEnter k p ks ds → Entered k v ks ds ks' ds'
+
+-- ---- a key that stood there
+
+-- labels stand on their paths, and a place is empty
+pub record MayLeave (ks : List ℕ) (ds : List Float) : Type 0 where
+  pub kept : Kept ks
+  pub long : length ds ≡ length ks
+  pub room : occupied ks < length ks
+
+-- k has no value any more; every other key has the value that it had
+pub record Gone (k : ℕ) (ks : List ℕ) (ds : List Float) (ks' : List ℕ) (ds' : List Float) : Type 0 where
+  pub kept : Kept ks'
+  pub places : length ks' ≡ length ks
+  pub values : length ds' ≡ length ks
+  pub value : look k ks' ds' ≡ none
+  pub others : (j : ℕ) → (label j ≡ label k → ⊥) → look j ks' ds' ≡ look j ks ds
+  pub emptier : occupied ks ≡ suc (occupied ks')
+
+-- what taking out the label at p does to lists in which it is k's
+abbrev pub Leaves : ℕ → List ℕ → List Float → List ℕ → List Float → Type 0
+Leaves p ks ds ks' ds' = (k : ℕ) → spotOf k ks ≡ At p → MayLeave ks ds → Gone k ks ds ks' ds'

@@ -1,9 +1,9 @@
 // Marks: a lent list of keys as a table with open addressing, its values in a list beside it. Key 0 stands there as 1, which is no key of the lattice;
-// a place that holds 0 is empty. Before a key stand only larger ones on its path, so a search ends at the first that is not larger. Nothing is ever taken out.
+// a place that holds 0 is empty. Before a key stand only larger ones on its path, so a search ends at the first that is not larger.
 ghost use mathlib.Core.Path.{_≡_};
 ghost use Prim.Native.Nat.{_≤_, _<_, _-_};
 ghost use lib.ListN.{length};
-ghost use Rattle.marks.specs.Marks.{label, home, seek, halt, spotOf, following, Enters};
+ghost use Rattle.marks.specs.Marks.{label, home, seek, halt, spotOf, following, earlier, Enters, Leaves};
 
 // The first 32 bits of a number.
 const NARROW: u64 = 0x1_0000_0000;
@@ -85,13 +85,13 @@ fn following(i: usize, places: usize) -> usize
 }
 
 // A key that is absent is put in from the place on where its search ended; each smaller one on the way gives up its place, with its value, and goes on.
-// False where every place is taken; then the lists are spoilt.
-pub fn enter(keys: &mut [u64], values: &mut [f32], place: usize, key: u64, value: f32) -> bool
+// Where every place is taken, the lists are spoilt.
+pub fn enter(keys: &mut [u64], values: &mut [f32], place: usize, key: u64, value: f32)
     requires { ⌜ length (now values) ≡ length (now keys) ⌝ }
-    ensures { λ r. ⌜ Enters key place value (now (keys .entry)) (now (values .entry)) r (now (keys .exit)) (now (values .exit)) ⌝ }
+    ensures { λ _. ⌜ Enters key place value (now (keys .entry)) (now (values .entry)) (now (keys .exit)) (now (values .exit)) ⌝ }
 {
     if keys.len() <= place {
-        return false;
+        return;
     }
     let mut k = label(key);
     let mut v = value;
@@ -101,7 +101,7 @@ pub fn enter(keys: &mut [u64], values: &mut [f32], place: usize, key: u64, value
         let there = values[i];
         let next = following(i, keys.len());
         if next == place {
-            return false;
+            return;
         }
         if here < k {
             keys[i] = k;
@@ -113,5 +113,41 @@ pub fn enter(keys: &mut [u64], values: &mut [f32], place: usize, key: u64, value
     }
     keys[i] = k;
     values[i] = v;
-    true
+}
+
+// Whether one place comes before another on a path that begins at a third.
+fn comes_first(start: usize, a: usize, b: usize) -> bool
+    ensures { λ r. ⌜ r ≡ earlier start a b ⌝ }
+{
+    if start <= a {
+        (b < start) | (a < b)
+    } else {
+        (b < start) & (a < b)
+    }
+}
+
+// The label at a place goes, with its value; each later one whose path comes by the empty place moves there and leaves its own.
+// Where every place is taken, the lists are spoilt.
+pub fn leave(keys: &mut [u64], values: &mut [f32], place: usize)
+    requires { ⌜ (length (now values) ≡ length (now keys)) × (place < length (now keys)) ⌝ }
+    ensures { λ _. ⌜ Leaves place (now (keys .entry)) (now (values .entry)) (now (keys .exit)) (now (values .exit)) ⌝ }
+{
+    let mut hole = place;
+    let mut i = place;
+    while keys[i] != 0 {
+        let here = keys[i];
+        let there = values[i];
+        let next = following(i, keys.len());
+        if next == place {
+            return;
+        }
+        if comes_first(home(here, keys.len()), hole, i) {
+            keys[hole] = here;
+            values[hole] = there;
+            hole = i;
+        }
+        i = next;
+    }
+    keys[hole] = 0;
+    values[hole] = 0.0;
 }

@@ -20,8 +20,8 @@ use Rattle.lists.specs.Padding.{padded}
 use Rattle.lists.specs.Places.{filled}
 use Rattle.lists.proofs.PaddingLaws.{padded-length}
 use Rattle.marks.specs.declared.Spot.the-variants.{At}
-use Rattle.marks.specs.Marks.{label, standing, occupied}
-use Rattle.marks.proofs.Keeping.{label-real, within, standing-at, looked, kept-at, kept-once, value-at, kept-none, look-none, occupied-none}
+use Rattle.marks.specs.Marks.{label, standing}
+use Rattle.marks.proofs.Keeping.{label-real, within, standing-at, looked, kept-at, kept-once, value-at, kept-none, look-none}
 use Rattle.search.specs.Keys.{member, ascending}
 use Rattle.table.specs.Table.{Row}
 use Rattle.table.specs.Rows.{keysOf as tableKeys}
@@ -33,18 +33,19 @@ use Rattle.marching.proofs.Lattice.{seeds-ascend, lattice-keeps}
 use Rattle.marching.proofs.Sound.{after-on}
 use Rattle.neighbors.specs.Neighbors.{neighbours}
 use Rattle.hearing.specs.Hearing.{orWaits, Marked}
+use Rattle.hearing.proofs.Fitting.{keyFor, key-for, key-real}
 use Rattle.hearing.proofs.Walking.{real-key}
 use Rattle.fronts.specs.declared.Stop.{Stop}
-use Rattle.fronts.specs.declared.Step.{Step}
-use Rattle.fronts.specs.declared.Step.the-variants.{On, Not}
 use Rattle.racing.specs.declared.Raced.{Raced}
 use Rattle.racing.specs.declared.Raced.the-variants as raced
-use Rattle.fronts.specs.Fronts.{marking, Held, roomsOf, Left}
-use Rattle.racing.specs.Racing.{unlabelled, Blank, Sown, Emptied, Laid, Finished}
+use Rattle.racing.specs.declared.Went.{Went}
+use Rattle.racing.specs.declared.Went.the-variants.{On, Not}
+use Rattle.fronts.specs.Fronts.{marking, Held, roomsOf}
+use Rattle.racing.specs.Racing.{unlabelled, Ready, Goes, Blank, Sown, Emptied, Laid, Finished}
 use Rattle.fronts.proofs.Marking.{stored-here}
 use Rattle.fronts.proofs.Walking.{stopped-then}
 use Rattle.racing.proofs.Marching.{same-rooms}
-use Rattle.racing.proofs.Labelling.{relabel, labelled, keyFor, key-for, key-real, labels-ascend, distances-same, distance-labelled, labelled-from, keys-back}
+use Rattle.racing.proofs.Labelling.{relabel, labelled, labels-ascend, distances-same, distance-labelled, labelled-from, keys-back}
 
 -- ---- blank lists
 
@@ -76,23 +77,25 @@ cleared ks₀ cs₀ ds₀ es₀ ks cs ds es p q a b c d =
       cells = d ∙ ap (λ (i : ℕ). replicate i 0) w;
     }
 
-pub blank-held : (lean : Bool) (ks : List ℕ) (ds es : List Float) (cs : List ℕ) → Blank ks ds es cs → Held lean nothing 0 ks ds 0 es cs
+pub blank-ready : (lean : Bool) (ks : List ℕ) (ds es : List Float) (cs : List ℕ) → Blank ks ds es cs → Ready lean nothing 0 ks ds 0 es cs
 unfolding padded orWaits distanceOf member ascending marking
-blank-held lean ks ds es cs h =
+blank-ready lean ks ds es cs h =
     record {
-      front = record {
-        marked = record {
-          marks = λ k n. look-none (length ks - 0) ks (h .keys) k ds ∙ sym (unmarked lean k);
-          kept = kept-none (length ks - 0) ks (h .keys);
-          long = blank-long zero32 (length ks) ds (h .distances);
-          finite = λ k d e. absurd (let z : _≡_ {A = ℕ} 0 1 = cc in omega arith);
-          ascends = refl;
+      held = record {
+        front = record {
+          marked = record {
+            marks = λ k n. look-none (length ks - 0) ks (h .keys) k ds ∙ sym (unmarked lean k);
+            kept = kept-none (length ks - 0) ks (h .keys);
+            long = blank-long zero32 (length ks) ds (h .distances);
+            finite = λ k d e. absurd (let z : _≡_ {A = ℕ} 0 1 = cc in omega arith);
+            ascends = refl;
+          };
+          heap = heaped-start es cs (h .estimates) (h .cells);
+          lattice = λ k e. absurd (let z : _≡_ {A = ℕ} 0 1 = cc in omega arith);
         };
-        heap = heaped-start es cs (h .estimates) (h .cells);
-        lattice = λ k e. absurd (let z : _≡_ {A = ℕ} 0 1 = cc in omega arith);
-        places = λ t. occupied-none (length ks - 0) ks (h .keys);
+        count = refl;
       };
-      count = refl;
+      spare = λ _ l. absurd (omega arith);
     }
   where
     unmarked : (l : Bool) (k : ℕ) → orWaits none (member k (marking l [])) ≡ none
@@ -119,18 +122,14 @@ nil : (cs : List Cell) → 0 ≡ length cs → cs ≡ []
 nil [] e = refl
 nil (c ∷ cs) e = absurd (suc-ne-zero _ (sym e))
 
-module _ (lean : Bool) (s : State) (n : ℕ) (ks : List ℕ) (ds es : List Float) (cs : List ℕ) (h : Held lean s n ks ds 0 es cs)
+module _ (s : State) (n : ℕ) (ks : List ℕ) (ds es : List Float) (cs : List ℕ) (h : Held true s n ks ds 0 es cs)
     (own : All (λ (r : MarchedRow). onLattice (r .key) ≡ true) (s .stored)) where
   pub empty : s .waiting ≡ []
   empty = nil (s .waiting) (h .front .heap .counted)
 
   bare : Marked (s .stored) [] ks ds
   unfolding marking
-  bare = subst (λ (l : List ℕ). Marked (s .stored) l ks ds) (ap (marking lean) empty ∙ none-marked lean) (h .front .marked)
-    where
-      none-marked : (b : Bool) → marking b [] ≡ []
-      none-marked true = refl
-      none-marked false = refl
+  bare = h .front .marked
 
   -- a stored row stands somewhere, by its label
   stands : (r : MarchedRow) → r ∈ s .stored → (i : ℕ) × ((i < length ks) × (getD ks i 0 ≡ label (r .key)))
@@ -209,50 +208,50 @@ unlabel-one (k ∷ ks) l e = rw (eq-eqb k 1 e)
 
 -- ---- the whole
 
-module _ (lean : Bool) (c : Course) (t : Float) (rs : List Row) (ks₀ cs₀ : List ℕ) (r : Step) (ks : List ℕ) (ds es : List Float)
-    (cs : List ℕ) (did : Left lean (sowAll neighbours (roomsOf ks₀ cs₀) (seeds t rs) nothing) r ks ds es cs) where
+module _ (c : Course) (t : Float) (rs : List Row) (ks₀ cs₀ : List ℕ) (r : Went) (ks : List ℕ) (ds es : List Float)
+    (cs : List ℕ) (did : Goes (sowAll neighbours (roomsOf ks₀ cs₀) (seeds t rs) nothing) r ks ds es cs) where
   -- a seed stops it
   pub march-stopped :
       (why : Stop)
       → r ≡ Not why
       → (ks' : List ℕ) (ds' es' : List Float) (cs' : List ℕ)
-      → Finished lean (marchFrom (c .size) (c .most) (roomsOf ks₀ cs₀) t rs) (raced.Not why) ks' ds' es' cs'
-  unfolding Left Finished march.march
+      → Finished (marchFrom (c .size) (c .most) (roomsOf ks₀ cs₀) t rs) (raced.Not why) ks' ds' es' cs'
+  unfolding Goes Finished march.march
   march-stopped why e ks' ds' es' cs' =
-      stopped-then lean _ _ why (subst (λ (x : Step). Left lean (sowAll neighbours (roomsOf ks₀ cs₀) (seeds t rs) nothing) x ks ds es cs) e did)
+      stopped-then _ _ why (subst (λ (x : Went). Goes (sowAll neighbours (roomsOf ks₀ cs₀) (seeds t rs) nothing) x ks ds es cs) e did)
 
-  module _ (a : ascending (tableKeys rs) ≡ true) (p : length ks ≡ length ks₀) (q : length cs ≡ length cs₀) (n w : ℕ) (e : r ≡ On n w) where
+  module _ (a : ascending (tableKeys rs) ≡ true) (p : length ks ≡ length ks₀) (q : length cs ≡ length cs₀) (n w : ℕ) (lean : Bool) (e : r ≡ On n w lean) where
     -- all seeds are sown
     pub sown-all : (s : State) × ((sowAll neighbours (roomsOf ks₀ cs₀) (seeds t rs) nothing ≡ on s) × Sown (seeds t rs) neighbours lean s n ks ds w es cs)
-    unfolding Left
+    unfolding Goes
     sown-all =
-        let x = subst (λ (x : Step). Left lean (sowAll neighbours (roomsOf ks₀ cs₀) (seeds t rs) nothing) x ks ds es cs) e did in (
+        let x = subst (λ (x : Went). Goes (sowAll neighbours (roomsOf ks₀ cs₀) (seeds t rs) nothing) x ks ds es cs) e did in (
           x .0,
           (
             x .1 .0,
             record {
               ascends = seeds-ascend t rs a;
               sown = ap (λ (m : Rooms). sowAll neighbours m (seeds t rs) nothing) (same-rooms (roomsOf ks₀ cs₀) ks cs p q) ∙ x .1 .0;
-              held = x .1 .1;
+              ready = x .1 .1;
             },
           ),
         )
 
     module _ (o : Raced) (ks' : List ℕ) (ds' es' : List Float) (cs' : List ℕ)
         (takes : (s : State) → Sown (seeds t rs) neighbours lean s n ks ds w es cs
-        → Emptied lean (takeUpTo (latticeOf c) (roomsOf ks cs) (suc (length ks)) s) o ks' ds' es' cs') where
-      emptied : Emptied lean (marchFrom (c .size) (c .most) (roomsOf ks₀ cs₀) t rs) o ks' ds' es' cs'
+        → Emptied (takeUpTo (latticeOf c) (roomsOf ks cs) (suc (length ks)) s) o ks' ds' es' cs') where
+      emptied : Emptied (marchFrom (c .size) (c .most) (roomsOf ks₀ cs₀) t rs) o ks' ds' es' cs'
       unfolding march.march andThen
       emptied =
           let x = sown-all in
-          subst (λ (g : Going). Emptied lean (andThen g (takeUpTo (latticeOf c) (roomsOf ks₀ cs₀) (suc (length ks₀)))) o ks' ds' es' cs') (sym (x .1 .0))
-          (subst (λ (m : Rooms). Emptied lean (takeUpTo (latticeOf c) m (suc (m .rows)) (x .0)) o ks' ds' es' cs')
+          subst (λ (g : Going). Emptied (andThen g (takeUpTo (latticeOf c) (roomsOf ks₀ cs₀) (suc (length ks₀)))) o ks' ds' es' cs') (sym (x .1 .0))
+          (subst (λ (m : Rooms). Emptied (takeUpTo (latticeOf c) m (suc (m .rows)) (x .0)) o ks' ds' es' cs')
           (same-rooms (roomsOf ks₀ cs₀) ks cs p q) (takes (x .0) (x .1 .1)))
 
       -- a taking stops it
-      pub march-halted : (why : Stop) → o ≡ raced.Not why → Finished lean (marchFrom (c .size) (c .most) (roomsOf ks₀ cs₀) t rs) (raced.Not why) ks' ds' es' cs'
+      pub march-halted : (why : Stop) → o ≡ raced.Not why → Finished (marchFrom (c .size) (c .most) (roomsOf ks₀ cs₀) t rs) (raced.Not why) ks' ds' es' cs'
       unfolding Emptied Finished
-      march-halted why f = subst (λ (x : Raced). Emptied lean (marchFrom (c .size) (c .most) (roomsOf ks₀ cs₀) t rs) x ks' ds' es' cs') f emptied
+      march-halted why f = subst (λ (x : Raced). Emptied (marchFrom (c .size) (c .most) (roomsOf ks₀ cs₀) t rs) x ks' ds' es' cs') f emptied
 
       -- no cell waits any more, and the rows are sorted
       pub march-done :
@@ -263,11 +262,11 @@ module _ (lean : Bool) (c : Course) (t : Float) (rs : List Row) (ks₀ cs₀ : L
           → length ks‴ ≡ length ks'
           → ((rs : List MarchedRow) → Scattered rs ks' ds' → (ks'' ≡ padded 0 (length ks') (keysOf rs)) × (ds'' ≡ padded zero32 (length ks') (distancesOf rs)))
           → ks‴ ≡ unlabelled ks''
-          → Finished lean (marchFrom (c .size) (c .most) (roomsOf ks₀ cs₀) t rs) (raced.Done i j) ks‴ ds'' es' cs'
+          → Finished (marchFrom (c .size) (c .most) (roomsOf ks₀ cs₀) t rs) (raced.Done i j) ks‴ ds'' es' cs'
       unfolding Emptied Finished
       march-done all i j f ks'' ks‴ ds'' l sorted back =
-          let x = subst (λ (x : Raced). Emptied lean (marchFrom (c .size) (c .most) (roomsOf ks₀ cs₀) t rs) x ks' ds' es' cs') f emptied in
+          let x = subst (λ (x : Raced). Emptied (marchFrom (c .size) (c .most) (roomsOf ks₀ cs₀) t rs) x ks' ds' es' cs') f emptied in
           let own =
           after-on (λ s. All (λ (r : MarchedRow). onLattice (r .key) ≡ true) (s .stored)) (marchFrom (c .size) (c .most) (roomsOf ks₀ cs₀) t rs) (x .0)
           (lattice-keeps (c .size) (c .most) (roomsOf ks₀ cs₀) t rs all) (x .1 .0) in
-          (x .0, (x .1 .0, (x .1 .1 .0, laid lean (x .0) i ks' ds' es' cs' (x .1 .1 .1 .0) own (x .1 .1 .1 .1) ks'' ks‴ ds'' l sorted back)))
+          (x .0, (x .1 .0, (x .1 .1 .0, laid (x .0) i ks' ds' es' cs' (x .1 .1 .1 .0) own (x .1 .1 .1 .1) ks'' ks‴ ds'' l sorted back)))

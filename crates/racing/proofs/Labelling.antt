@@ -18,6 +18,7 @@ use Rattle.marks.specs.Marks.{label}
 use Rattle.marks.proofs.Keeping.{label-real, label-own}
 use Rattle.search.specs.Keys.{risesFrom, ascending}
 use Rattle.marching.specs.March.{MarchedRow, marchedRow, keysOf, distancesOf, distanceOf}
+use Rattle.hearing.proofs.Fitting.{keyFor}
 use Rattle.hearing.proofs.Walking.{real-key}
 use Rattle.racing.specs.Racing.{unlabelled}
 
@@ -27,21 +28,6 @@ relabel r = marchedRow (label (r .key)) (r .distance)
 
 abbrev pub labelled : List MarchedRow → List MarchedRow
 labelled rs = map relabel rs
-
--- the key that a label stands for
-abbrev pub keyFor : ℕ → ℕ
-keyFor x = cond (eqb x 1) 0 x
-
-pub key-for : (x : ℕ) → (x ≡ 0 → ⊥) → label (keyFor x) ≡ x
-unfolding label
-key-for x n =
-    cases (λ (b : Bool). eqb x 1 ≡ b → cond (eqb (cond b 0 x) 0) 1 (cond b 0 x) ≡ x) (eqb x 1)
-    (λ _ e. sym (eqb-true x 1 e)) (λ _ e. rw (ne-eqb x 0 n)) refl
-
-pub key-real : (x : ℕ) → keyFor x ≡ 1 → ⊥
-key-real x e =
-    cases (λ (b : Bool). eqb x 1 ≡ b → cond b 0 x ≡ 1 → ⊥) (eqb x 1)
-    (λ _ _ q. omega arith) (λ _ n q. eqb-false x 1 n q) refl e
 
 -- a key of the lattice comes back
 key-back : (k : ℕ) → (k ≡ 1 → ⊥) → keyFor (label k) ≡ k

@@ -1,4 +1,4 @@
 pub mod Marching
+pub mod Lightening
 pub mod Labelling
 pub mod Finishing
-pub mod Leaning

@@ -24,16 +24,19 @@ use Rattle.marching.specs.March as march
 use Rattle.marching.specs.Spreading.{seedIn}
 use Rattle.marching.proofs.KeysOnce.{Once, ascending-once, both, both-none, both-other, insert-member}
 use Rattle.marching.proofs.Sound.{After, after-on, after-cond, after-weaken, Sound, SoundOn, sow-sound, sowAll-sound, nothing-sound, take-sound, takings-few, empty-stays}
+use Rattle.marching.specs.Crowding.{surelyFull}
+use Rattle.marching.proofs.Crowding.{crowded}
 use Rattle.marching.proofs.Lattice.{seeds-ascend}
 use Rattle.marching.proofs.Spreading.{Sowing, Known, sow-sowing, nothing-sowing, all-sown, taking-known}
 use Rattle.marching.proofs.Telling.{sow-told, settle-told, seeds-looked-up}
-use Rattle.hearing.specs.Hearing.{Lent}
+use Rattle.hearing.specs.Hearing.{Lent, Marked}
 use Rattle.fronts.specs.declared.Stop.{Stop}
-use Rattle.fronts.specs.declared.Step.{Step}
-use Rattle.fronts.specs.declared.Step.the-variants.{On, Not}
+use Rattle.fronts.specs.declared.Stop.the-variants.{NoRow}
+use Rattle.fronts.specs.Fronts.{marking, Held, roomsOf, Stopped, ToldOnce, ToldFirst}
 use Rattle.racing.specs.declared.Raced.the-variants as raced
-use Rattle.fronts.specs.Fronts.{Held, roomsOf, Stopped, Left, ToldOnce, ToldFirst}
-use Rattle.racing.specs.Racing.{Tabled, sowIf, Sown, Emptied}
+use Rattle.racing.specs.declared.Went.{Went}
+use Rattle.racing.specs.declared.Went.the-variants.{On, Not}
+use Rattle.racing.specs.Racing.{Tabled, sowIf, Ready, Goes, Sown, Emptied}
 use Rattle.fronts.proofs.Walking.{stopped-then, stopped-by}
 use Rattle.fronts.proofs.Stepping.{uncons}
 
@@ -49,10 +52,27 @@ pub record TakeAt (lean : Bool) (seed : ℕ → Bool) (f : Field) (m : Rooms) (w
   pub now : State
   pub sound : Sound m k now
   pub known : Known f seed now
-  pub held : Held lean now n ks ds w es cs
+  pub ready : Ready lean now n ks ds w es cs
   pub left : ℕ
   pub counts : left + k ≡ suc (m .rows)
   pub rest : whole ≡ takeUpTo f m left now
+
+-- where no cell waits, the lists are those of a lean march
+lean-ended : (lean : Bool) (s : State) (n : ℕ) (ks : List ℕ) (ds : List Float) (w : ℕ) (es : List Float) (cs : List ℕ)
+    → s .waiting ≡ []
+    → Held lean s n ks ds w es cs
+    → Held true s n ks ds w es cs
+unfolding marking
+lean-ended true s n ks ds w es cs e h = h
+lean-ended false s n ks ds w es cs e h =
+    record {
+      front = record {
+        marked = subst (λ (l : List ℕ). Marked (s .stored) l ks ds) (ap (λ (l : List Cell). cellsOf l) e) (h .front .marked);
+        heap = h .front .heap;
+        lattice = h .front .lattice;
+      };
+      count = h .count;
+    }
 
 -- who waits is told, once the first waiting cell is taken
 told-first : (seed : ℕ → Bool) (f : Field) (s : State) → Known f seed s → ToldFirst seed f s
@@ -74,7 +94,7 @@ module _ (lean : Bool) (seed : ℕ → Bool) (f : Field) (back : (k l : ℕ) →
             (sowAll-sound m (f .near) rs nothing (nothing-sound m) (ascending-once (keysOf rs) (h .ascends))
             (both-none (keysOf rs))) (h .sown);
         known = after-on (Known f seed) (sowAll (f .near) m rs nothing) s (all-sown f m back seed rs (h .ascends) seeds-are) (h .sown);
-        held = h .held;
+        ready = h .ready;
         left = suc (length ks);
         counts = omega arith;
         rest = refl;
@@ -98,51 +118,59 @@ module _ (lean : Bool) (seed : ℕ → Bool) (f : Field) (back : (k l : ℕ) →
       go zero c r = absurd (let t = take-few in omega arith)
       go (suc i) c r = (i, (omega arith, r))
 
-  module _ (l : 0 < w) (p : length ks ≡ m .rows) (q : length cs ≡ m .cells) (r : Step) (ks' : List ℕ)
-      (ds' es' : List Float) (cs' : List ℕ)
-      (did : (s : State) → Held lean s n ks ds w es cs → ToldFirst seed f s → Left lean (march.take f (roomsOf ks cs) s) r ks' ds' es' cs') where
-    done : (o : Step) → r ≡ o → Left lean (march.take f m (at .now)) o ks' ds' es' cs'
-    done o e =
-        subst (λ (x : Rooms). Left lean (march.take f x (at .now)) o ks' ds' es' cs') (same-rooms m ks cs p q)
-        (subst (λ (x : Step). Left lean (march.take f (roomsOf ks cs) (at .now)) x ks' ds' es' cs') e
-        (did (at .now) (at .held) (told-first seed f (at .now) (at .known))))
+  module _ (p : length ks ≡ m .rows) (q : length cs ≡ m .cells) where
+    -- it is sure to be refused for want of a row's place
+    pub take-crowded : ((j : ℕ) → length (f .near j) ≤ 14) → surelyFull (length ks) (length cs) n w k ≡ true → Stopped whole NoRow
+    unfolding Stopped
+    take-crowded few full =
+        let c = at .ready .held .count in
+        let d = at .ready .held .front .heap .counted in
+        let e = at .counts in
+        at .rest ∙ crowded f few m (at .left) k (at .now) (at .sound) (omega arith) (rw (← p, ← q, ← c, ← d) full)
 
-    pub take-stop : (why : Stop) → r ≡ Not why → Stopped lean whole why
-    unfolding Left
-    take-stop why e = stopped-by lean whole _ why (one-left .1 .1) (stopped-then lean (march.take f m (at .now)) _ why (done (Not why) e))
+    module _ (l : 0 < w) (r : Went) (ks' : List ℕ) (ds' es' : List Float) (cs' : List ℕ)
+        (did : (s : State) → Ready lean s n ks ds w es cs → ToldFirst seed f s → Goes (march.take f (roomsOf ks cs) s) r ks' ds' es' cs') where
+      done : (o : Went) → r ≡ o → Goes (march.take f m (at .now)) o ks' ds' es' cs'
+      done o e =
+          subst (λ (x : Rooms). Goes (march.take f x (at .now)) o ks' ds' es' cs') (same-rooms m ks cs p q)
+          (subst (λ (x : Went). Goes (march.take f (roomsOf ks cs) (at .now)) x ks' ds' es' cs') e
+          (did (at .now) (at .ready) (told-first seed f (at .now) (at .known))))
 
-    pub take-more : (n' w' : ℕ) → r ≡ On n' w' → TakeAt lean seed f m whole (k + 1) n' ks' ds' w' es' cs'
-    unfolding Left andThen
-    take-more n' w' e =
-        let x = done (On n' w') e in
-        let u = uncons (at .now .waiting) w (at .held .front .heap .counted) l in
-        let o = one-left in
-        let t : After (Sound m (suc k)) (march.take f m (at .now)) =
-        subst (λ (y : List Cell). After (Sound m (suc k)) (taking f m y (at .now))) (sym (u .1 .1))
-        (take-sound m f k (u .0) (u .1 .0) (at .now) (at .sound) (u .1 .1)) in
-        record {
-          now = x .0;
-          sound = subst (λ (i : ℕ). Sound m i (x .0)) (sym (add-one k)) (after-on (Sound m (suc k)) (march.take f m (at .now)) (x .0) t (x .1 .0));
-          known =
-              after-on (Known f seed) (march.take f m (at .now)) (x .0) (taking-known f m back seed (at .now .waiting) (at .now) refl (at .known)) (x .1 .0);
-          held = x .1 .1;
-          left = o .0;
-          counts = let c = o .1 .0 in omega arith;
-          rest = o .1 .1 ∙ ap (λ (g : Going). andThen g (takeUpTo f m (o .0))) (x .1 .0);
-        }
+      pub take-stop : (why : Stop) → r ≡ Not why → Stopped whole why
+      unfolding Goes
+      take-stop why e = stopped-by whole _ why (one-left .1 .1) (stopped-then (march.take f m (at .now)) _ why (done (Not why) e))
+
+      pub take-more : (n' w' : ℕ) (kind : Bool) → r ≡ On n' w' kind → TakeAt kind seed f m whole (k + 1) n' ks' ds' w' es' cs'
+      unfolding Goes andThen
+      take-more n' w' kind e =
+          let x = done (On n' w' kind) e in
+          let u = uncons (at .now .waiting) w (at .ready .held .front .heap .counted) l in
+          let o = one-left in
+          let t : After (Sound m (suc k)) (march.take f m (at .now)) =
+          subst (λ (y : List Cell). After (Sound m (suc k)) (taking f m y (at .now))) (sym (u .1 .1))
+          (take-sound m f k (u .0) (u .1 .0) (at .now) (at .sound) (u .1 .1)) in
+          record {
+            now = x .0;
+            sound = subst (λ (i : ℕ). Sound m i (x .0)) (sym (add-one k)) (after-on (Sound m (suc k)) (march.take f m (at .now)) (x .0) t (x .1 .0));
+            known =
+                after-on (Known f seed) (march.take f m (at .now)) (x .0) (taking-known f m back seed (at .now .waiting) (at .now) refl (at .known)) (x .1 .0);
+            ready = x .1 .1;
+            left = o .0;
+            counts = let c = o .1 .0 in omega arith;
+            rest = o .1 .1 ∙ ap (λ (g : Going). andThen g (takeUpTo f m (o .0))) (x .1 .0);
+          }
 
   -- no cell waits
-  pub take-finish : length ks ≡ m .rows → w ≤ 0 → Emptied lean whole (raced.Done n k) ks ds es cs
+  pub take-finish : length ks ≡ m .rows → w ≤ 0 → Emptied whole (raced.Done n k) ks ds es cs
   unfolding Emptied
   take-finish p l =
-      let z : w ≡ 0 = omega arith in (
+      let z : w ≡ 0 = omega arith in
+      let h = subst (λ (x : ℕ). Held lean (at .now) n ks ds x es cs) z (at .ready .held) in
+      let e = nil (at .now .waiting) (sym (h .front .heap .counted)) in (
         at .now,
         (
-          at .rest ∙ empty-stays m f (at .left) (at .now) (nil (at .now .waiting) (sym (at .held .front .heap .counted) ∙ z)),
-          (
-            at .sound .taken,
-            (subst (λ (x : ℕ). Held lean (at .now) n ks ds x es cs) z (at .held), let c = at .held .count in let f = at .sound .rowsFit in omega arith),
-          ),
+          at .rest ∙ empty-stays m f (at .left) (at .now) e,
+          (at .sound .taken, (lean-ended lean (at .now) n ks ds 0 es cs e h, let c = at .ready .held .count in let f = at .sound .rowsFit in omega arith)),
         ),
       )
     where
@@ -167,23 +195,15 @@ sow-one t near m r rs s =
     (isSeed t r)
     (λ e. refl) (λ e. refl)
 
--- a row that is a seed is sown, another is not
-module _ (lean : Bool) (t : Float) (near : ℕ → List ℕ) (m : Rooms) (x : Row) (s : State) where
-  pub sow-if-seed :
-      isSeed t x ≡ true
-      → (r : Step) (ks : List ℕ) (ds es : List Float) (cs : List ℕ)
-      → Left lean (sow near m (marchedRow (x .key) (x .distance)) s) r ks ds es cs
-      → Left lean (sowIf t near m x s) r ks ds es cs
-  unfolding sowIf
-  sow-if-seed e r ks ds es cs did = subst (λ (g : Going). Left lean g r ks ds es cs) (sym (rw e)) did
-
-  pub sow-if-not :
-      isSeed t x ≡ false
-      → (n : ℕ) (ks : List ℕ) (ds : List Float) (w : ℕ) (es : List Float) (cs : List ℕ)
-      → Held lean s n ks ds w es cs
-      → Left lean (sowIf t near m x s) (On n w) ks ds es cs
-  unfolding sowIf Left
-  sow-if-not e n ks ds w es cs h = (s, (rw e, h))
+-- a row that is no seed is not sown
+pub sow-if-not :
+    (lean : Bool) (t : Float) (near : ℕ → List ℕ) (m : Rooms) (x : Row) (s : State)
+    → isSeed t x ≡ false
+    → (n : ℕ) (ks : List ℕ) (ds : List Float) (w : ℕ) (es : List Float) (cs : List ℕ)
+    → Ready lean s n ks ds w es cs
+    → Goes (sowIf t near m x s) (On n w lean) ks ds es cs
+unfolding sowIf Goes
+sow-if-not lean t near m x s e n ks ds w es cs h = (s, (rw e, h))
 
 -- nothing of these keys is stored
 pub record Apart (m : Rooms) (ks : List ℕ) (s : State) : Type 0 where
@@ -235,7 +255,7 @@ seed-told f seed t r rs s h e d u st w =
 pub record SowAt (lean : Bool) (seed : ℕ → Bool) (f : Field) (t : Float) (m : Rooms) (rs : List Row) (i n : ℕ) (ks : List ℕ) (ds : List Float) (w : ℕ)
     (es : List Float) (cs : List ℕ) : Type 0 where
   pub now : State
-  pub held : Held lean now n ks ds w es cs
+  pub ready : Ready lean now n ks ds w es cs
   pub once : Once (tableKeys (drop i rs))
   pub apart : Apart m (tableKeys (drop i rs)) now
   pub sowing : Sowing f seed (seeds t (drop i rs)) now
@@ -245,12 +265,12 @@ pub sow-start :
     (lean : Bool) (seed : ℕ → Bool) (f : Field) (t : Float) (m : Rooms) (rs : List Row) (ks : List ℕ) (ds es : List Float) (cs : List ℕ)
     → ascending (tableKeys rs) ≡ true
     → ((k : ℕ) → member k (keysOf (seeds t rs)) ≡ seed k)
-    → Held lean nothing 0 ks ds 0 es cs
+    → Ready lean nothing 0 ks ds 0 es cs
     → SowAt lean seed f t m rs 0 0 ks ds 0 es cs
 sow-start lean seed f t m rs ks ds es cs a seeds-are h =
     record {
       now = nothing;
-      held = h;
+      ready = h;
       once = ascending-once (tableKeys rs) a;
       apart = record { sound = nothing-sound m; apart = both-none (tableKeys rs) };
       sowing = nothing-sowing f seed (seeds t rs) (seeds-ascend t rs a) seeds-are;
@@ -285,32 +305,32 @@ module _ (lean : Bool) (seed : ℕ → Bool) (f : Field) (back : (k l : ℕ) →
     goes : sowAll (f .near) m (seeds t rs) nothing ≡ andThen (sowIf t (f .near) m x (at .now)) (sowAll (f .near) m (seeds t (drop (suc i) rs)))
     goes = at .rest ∙ ap (λ (l : List Row). sowAll (f .near) m (seeds t l) (at .now)) here ∙ sow-one t (f .near) m x (drop (suc i) rs) (at .now)
 
-    module _ (p : length ks ≡ m .rows) (q : length cs ≡ m .cells) (r : Step) (ks' : List ℕ) (ds' es' : List Float)
+    module _ (p : length ks ≡ m .rows) (q : length cs ≡ m .cells) (r : Went) (ks' : List ℕ) (ds' es' : List Float)
         (cs' : List ℕ)
         (did : (s : State)
-        → Held lean s n ks ds w es cs
+        → Ready lean s n ks ds w es cs
         → member (x .key) (keysOf (s .stored)) ≡ false
         → (isSeed t x ≡ true → ToldOnce seed f (x .key) s)
-        → Left lean (sowIf t (f .near) (roomsOf ks cs) x s) r ks' ds' es' cs') where
-      sown : (o : Step) → r ≡ o → Left lean (sowIf t (f .near) m x (at .now)) o ks' ds' es' cs'
+        → Goes (sowIf t (f .near) (roomsOf ks cs) x s) r ks' ds' es' cs') where
+      sown : (o : Went) → r ≡ o → Goes (sowIf t (f .near) m x (at .now)) o ks' ds' es' cs'
       sown o e =
-          subst (λ (z : Rooms). Left lean (sowIf t (f .near) z x (at .now)) o ks' ds' es' cs') (same-rooms m ks cs p q)
-          (subst (λ (z : Step). Left lean (sowIf t (f .near) (roomsOf ks cs) x (at .now)) z ks' ds' es' cs') e
-          (did (at .now) (at .held) sow-new (seed-told f seed t x (drop (suc i) rs) (at .now) sowing-here)))
+          subst (λ (z : Rooms). Goes (sowIf t (f .near) z x (at .now)) o ks' ds' es' cs') (same-rooms m ks cs p q)
+          (subst (λ (z : Went). Goes (sowIf t (f .near) (roomsOf ks cs) x (at .now)) z ks' ds' es' cs') e
+          (did (at .now) (at .ready) sow-new (seed-told f seed t x (drop (suc i) rs) (at .now) sowing-here)))
 
-      pub sow-stop : (why : Stop) → r ≡ Not why → Left lean (sowAll (f .near) m (seeds t rs) nothing) (Not why) ks' ds' es' cs'
-      unfolding Left
-      sow-stop why e = stopped-by lean _ _ why goes (stopped-then lean (sowIf t (f .near) m x (at .now)) _ why (sown (Not why) e))
+      pub sow-stop : (why : Stop) → r ≡ Not why → Goes (sowAll (f .near) m (seeds t rs) nothing) (Not why) ks' ds' es' cs'
+      unfolding Goes
+      sow-stop why e = stopped-by _ _ why goes (stopped-then (sowIf t (f .near) m x (at .now)) _ why (sown (Not why) e))
 
-      pub sow-more : (n' w' : ℕ) → r ≡ On n' w' → SowAt lean seed f t m rs (i + 1) n' ks' ds' w' es' cs'
-      unfolding Left andThen
-      sow-more n' w' e =
-          let y = sown (On n' w') e in
+      pub sow-more : (n' w' : ℕ) (kind : Bool) → r ≡ On n' w' kind → SowAt kind seed f t m rs (i + 1) n' ks' ds' w' es' cs'
+      unfolding Goes andThen
+      sow-more n' w' kind e =
+          let y = sown (On n' w' kind) e in
           let z = split in
-          subst (λ (j : ℕ). SowAt lean seed f t m rs j n' ks' ds' w' es' cs') (sym (add-one i))
+          subst (λ (j : ℕ). SowAt kind seed f t m rs j n' ks' ds' w' es' cs') (sym (add-one i))
           (record {
             now = y .0;
-            held = y .1 .1;
+            ready = y .1 .1;
             once = z .1 .1 .0;
             apart =
                 after-on (Apart m (tableKeys (drop (suc i) rs))) (sowIf t (f .near) m x (at .now)) (y .0)
@@ -322,9 +342,9 @@ module _ (lean : Bool) (seed : ℕ → Bool) (f : Field) (back : (k l : ℕ) →
             rest = goes ∙ ap (λ (g : Going). andThen g (sowAll (f .near) m (seeds t (drop (suc i) rs)))) (y .1 .0);
           })
 
-  pub sow-finish : drop i rs ≡ [] → Left lean (sowAll (f .near) m (seeds t rs) nothing) (On n w) ks ds es cs
-  unfolding Left seeds sowAll
-  sow-finish e = (at .now, (at .rest ∙ ap (λ (l : List Row). sowAll (f .near) m (seeds t l) (at .now)) e, at .held))
+  pub sow-finish : drop i rs ≡ [] → Goes (sowAll (f .near) m (seeds t rs) nothing) (On n w lean) ks ds es cs
+  unfolding Goes seeds sowAll
+  sow-finish e = (at .now, (at .rest ∙ ap (λ (l : List Row). sowAll (f .near) m (seeds t l) (at .now)) e, at .ready))
 
 -- no row is left
 pub rows-past : (ks : List ℕ) (ds ws : List Float) (n i : ℕ) → n ≤ i → drop i (rowsOf ks ds ws n) ≡ []

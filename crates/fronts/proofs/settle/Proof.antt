@@ -32,7 +32,7 @@ spread-requires c κs =
     let at-start = at-store .before .before .before .before .before .before .before .before .before .before .before .before .before in
     let k = at-store .store .kept in
     let p = at-start .pre in
-    ((p .0 .0, (k .1 .1 .0 ∙ p .0 .1 .0 ∙ sym (k .1 .0), p .0 .1 .1)), p .1 .0)
+    ((p .0 .0, (k .1 .0 ∙ p .0 .1 .0 ∙ sym (k .0), p .0 .1 .1)), p .1 .0)
 
 enum-known-why-2 : tie.Need-enum-known-why-2
 enum-known-why-2 c = search needs
@@ -55,11 +55,11 @@ returns c =
     let a = at-start .args in
     let x = at-settled .settled in
     let r = at-store .store in
-    λ s h told.
+    λ s h told room.
     settle-no-row
     (a .course) (at-start .pre .1 .1) (a .lean) (seedIn (a .threshold) (rowsOf (a .fused-keys .now) (a .fused-distances .now) (a .fused-weights .now) (a .fused-count)))
-    (a .key) (a .count) (a .keys .now) (a .distances .now) (a .waiting) (a .estimates .now) (a .cells .now) s h told (x .result)
-    (x .ensures (s .stored) (markingAlso (a .lean) (a .key) (s .waiting)) (h .marked)) (r .result) (r .last .1 .0) (r .last .1 .1 .0) (r .ensures) _ (at-why .why .given .1)
+    (a .key) (a .count) (a .keys .now) (a .distances .now) (a .waiting) (a .estimates .now) (a .cells .now) s h told room (x .result)
+    (x .ensures (s .stored) (markingAlso (a .lean) (a .key) (s .waiting)) (h .marked)) (r .result) (r .last .0) (r .last .1 .0) (r .kept .0) (r .ensures) _ (at-why .why .given .1)
 
 same-length-3 : tie.Need-same-length-3
 same-length-3 c = search needs
@@ -85,11 +85,11 @@ returns-2 c =
     let x = at-settled .settled in
     let r = at-store .store in
     let d = at-spread .spread in
-    λ s h told.
+    λ s h told room.
     settle-no-cell
     (a .course) (at-start .pre .1 .1) (a .lean) (seedIn (a .threshold) (rowsOf (a .fused-keys .now) (a .fused-distances .now) (a .fused-weights .now) (a .fused-count)))
-    (a .key) (a .count) (a .keys .now) (a .distances .now) (a .waiting) (a .estimates .now) (a .cells .now) s h told (x .result)
-    (x .ensures (s .stored) (markingAlso (a .lean) (a .key) (s .waiting)) (h .marked)) (r .result) (r .last .1 .0) (r .last .1 .1 .0) (r .ensures) _ (at-rows .rows .given .1) (d .result)
+    (a .key) (a .count) (a .keys .now) (a .distances .now) (a .waiting) (a .estimates .now) (a .cells .now) s h told room (x .result)
+    (x .ensures (s .stored) (markingAlso (a .lean) (a .key) (s .waiting)) (h .marked)) (r .result) (r .last .0) (r .last .1 .0) (r .kept .0) (r .ensures) _ (at-rows .rows .given .1) (d .result)
     (d .last .1 .1 .1 .1 .1 .1 .1 .0) (d .last .1 .1 .1 .1 .1 .1 .1 .1 .0)
     (d .last .1 .1 .1 .1 .1 .1 .1 .1 .1 .0) (d .last .1 .1 .1 .1 .1 .1 .1 .1 .1 .1 .0) (d .ensures) _ (at-why2 .why2 .given .1)
 
@@ -117,11 +117,11 @@ returns-3 c =
     let x = at-settled .settled in
     let r = at-store .store in
     let d = at-spread .spread in
-    λ s h told.
+    λ s h told room.
     settle-done
     (a .course) (at-start .pre .1 .1) (a .lean) (seedIn (a .threshold) (rowsOf (a .fused-keys .now) (a .fused-distances .now) (a .fused-weights .now) (a .fused-count)))
-    (a .key) (a .count) (a .keys .now) (a .distances .now) (a .waiting) (a .estimates .now) (a .cells .now) s h told (x .result)
-    (x .ensures (s .stored) (markingAlso (a .lean) (a .key) (s .waiting)) (h .marked)) (r .result) (r .last .1 .0) (r .last .1 .1 .0) (r .ensures) _ (at-rows .rows .given .1) (d .result)
+    (a .key) (a .count) (a .keys .now) (a .distances .now) (a .waiting) (a .estimates .now) (a .cells .now) s h told room (x .result)
+    (x .ensures (s .stored) (markingAlso (a .lean) (a .key) (s .waiting)) (h .marked)) (r .result) (r .last .0) (r .last .1 .0) (r .kept .0) (r .ensures) _ (at-rows .rows .given .1) (d .result)
     (d .last .1 .1 .1 .1 .1 .1 .1 .0) (d .last .1 .1 .1 .1 .1 .1 .1 .1 .0)
     (d .last .1 .1 .1 .1 .1 .1 .1 .1 .1 .0) (d .last .1 .1 .1 .1 .1 .1 .1 .1 .1 .1 .0) (d .ensures) _ (at-held .held .given .1)
 

@@ -30,7 +30,7 @@ wait-around-requires c κs =
     let at-start = at-store .before .before .before .before .before .before .before .before .before .before in
     let k = at-store .store .kept in
     let p = at-start .pre in
-    ((p .0 .0, (k .1 .1 .0 ∙ p .0 .1 .0 ∙ sym (k .1 .0), p .0 .1 .1)), (p .1 .0, rw (c .size .ensures) (seed-number (at-start .args .distance) (p .1 .1))))
+    ((p .0 .0, (k .1 .0 ∙ p .0 .1 .0 ∙ sym (k .0), p .0 .1 .1)), (p .1 .0, rw (c .size .ensures) (seed-number (at-start .args .distance) (p .1 .1))))
 
 enum-known-why-2 : tie.Need-enum-known-why-2
 enum-known-why-2 c = search needs
@@ -51,11 +51,11 @@ returns c =
     let at-start = at-store .before .before .before .before .before .before .before .before .before .before in
     let a = at-start .args in
     let r = at-store .store in
-    λ s h o told.
+    λ s h o told room.
     sow-no-row
     (a .course) (a .lean) (seedIn (a .threshold) (rowsOf (a .fused-keys .now) (a .fused-distances .now) (a .fused-weights .now) (a .fused-count)))
-    (a .key) (a .count) (a .keys .now) (a .distances .now) (a .waiting) (a .estimates .now) (a .cells .now) s h o told (a .distance) (at-start .pre .1 .1)
-    (r .result) (r .last .1 .0) (r .last .1 .1 .0) (r .ensures) _ (at-why .why .given .1)
+    (a .key) (a .count) (a .keys .now) (a .distances .now) (a .waiting) (a .estimates .now) (a .cells .now) s h o told room (a .distance) (at-start .pre .1 .1)
+    (r .result) (r .last .0) (r .last .1 .0) (r .kept .0) (r .ensures) _ (at-why .why .given .1)
 
 same-length-3 : tie.Need-same-length-3
 same-length-3 c = search needs
@@ -80,11 +80,11 @@ returns-2 c =
     let a = at-start .args in
     let r = at-store .store in
     let d = at-wait-around .wait-around in
-    λ s h o told.
+    λ s h o told room.
     sow-no-cell
     (a .course) (a .lean) (seedIn (a .threshold) (rowsOf (a .fused-keys .now) (a .fused-distances .now) (a .fused-weights .now) (a .fused-count)))
-    (a .key) (a .count) (a .keys .now) (a .distances .now) (a .waiting) (a .estimates .now) (a .cells .now) s h o told (a .distance) (at-start .pre .1 .1)
-    (r .result) (r .last .1 .0) (r .last .1 .1 .0) (r .ensures) _ (at-rows .rows .given .1) (at-size .size .result) (at-size .size .ensures) (d .result)
+    (a .key) (a .count) (a .keys .now) (a .distances .now) (a .waiting) (a .estimates .now) (a .cells .now) s h o told room (a .distance) (at-start .pre .1 .1)
+    (r .result) (r .last .0) (r .last .1 .0) (r .kept .0) (r .ensures) _ (at-rows .rows .given .1) (at-size .size .result) (at-size .size .ensures) (d .result)
     (d .last .1 .1 .1 .1 .1 .1 .1 .0) (d .last .1 .1 .1 .1 .1 .1 .1 .1 .0)
     (d .last .1 .1 .1 .1 .1 .1 .1 .1 .1 .0) (d .last .1 .1 .1 .1 .1 .1 .1 .1 .1 .1 .0) (d .ensures) _ (at-why2 .why2 .given .1)
 
@@ -111,11 +111,11 @@ returns-3 c =
     let a = at-start .args in
     let r = at-store .store in
     let d = at-wait-around .wait-around in
-    λ s h o told.
+    λ s h o told room.
     sow-done
     (a .course) (a .lean) (seedIn (a .threshold) (rowsOf (a .fused-keys .now) (a .fused-distances .now) (a .fused-weights .now) (a .fused-count)))
-    (a .key) (a .count) (a .keys .now) (a .distances .now) (a .waiting) (a .estimates .now) (a .cells .now) s h o told (a .distance) (at-start .pre .1 .1)
-    (r .result) (r .last .1 .0) (r .last .1 .1 .0) (r .ensures) _ (at-rows .rows .given .1) (at-size .size .result) (at-size .size .ensures) (d .result)
+    (a .key) (a .count) (a .keys .now) (a .distances .now) (a .waiting) (a .estimates .now) (a .cells .now) s h o told room (a .distance) (at-start .pre .1 .1)
+    (r .result) (r .last .0) (r .last .1 .0) (r .kept .0) (r .ensures) _ (at-rows .rows .given .1) (at-size .size .result) (at-size .size .ensures) (d .result)
     (d .last .1 .1 .1 .1 .1 .1 .1 .0) (d .last .1 .1 .1 .1 .1 .1 .1 .1 .0)
     (d .last .1 .1 .1 .1 .1 .1 .1 .1 .1 .0) (d .last .1 .1 .1 .1 .1 .1 .1 .1 .1 .1 .0) (d .ensures) _ (at-held .held .given .1)
 

@@ -2,9 +2,8 @@
 -- Assumes nothing.
 use mathlib.Core.Path.{_≡_, sym, _∙_}
 use native.Mathlib.Omega.{arith}
-use borrow.Author.Tests.{not-false, not-true}
 use Rattle.hearing.proofs.Saying.{place-in}
-use Rattle.fronts.proofs.Marking.{store-full, store-at, store-put, store-none, entered-by, not-entered}
+use Rattle.fronts.proofs.Marking.{store-full, store-at, store-put, entered-by}
 use borrow.Author.Needs.{needs}
 use Rattle.fronts.proofs.store.Statement.{statement}
 use Rattle.fronts.proofs.store.Tie as tie
@@ -14,8 +13,7 @@ returns c =
     let at-start = c .before .before .before in
     let a = at-start .args in
     let p = at-start .pre in
-    λ s ws vs h same spare f n o. store-full (a .lean) (a .key) (p .1) (a .distance) f s ws vs (a .count) (a .keys .now) (a .distances .now) h same spare n o
-    (c .if1 .taken)
+    λ s ws vs h same room f n o. store-full (a .key) (p .1) (a .distance) f s ws vs (a .count) (a .keys .now) (a .distances .now) h same n o (c .if1 .taken)
 
 find-requires : tie.Need-find-requires
 find-requires c κs = search needs
@@ -37,8 +35,8 @@ slice-write-distances c =
     let at-start = at-find .before .before .before .before .before in
     omega (arith, place-in _ _ _ (sym (at-find .find .ensures) ∙ at-place .place .given .1), at-start .pre .0)
 
-add-t16 : tie.Need-add-t16
-add-t16 c = search needs
+add-t15 : tie.Need-add-t15
+add-t15 c = search needs
 
 enum-known-place-2 : tie.Need-enum-known-place-2
 enum-known-place-2 c = search needs
@@ -48,6 +46,9 @@ enter-requires c κs =
     let at-start = c .before .before .before .before .before .before .before .before .before .before in
     at-start .pre .0
 
+add-t22 : tie.Need-add-t22
+add-t22 c = search needs
+
 same-length : tie.Need-same-length
 same-length c = search needs
 
@@ -56,20 +57,15 @@ same-length-2 c = search needs
 
 returns-2 : tie.Need-returns-2
 returns-2 c =
-    let at-enter = c .before .before .before .before .before in
-    let at-place2 = at-enter .before .before .before .before in
-    let at-find = at-place2 .before .before in
+    let at-place = c .before in
+    let at-find = at-place .before .before in
     let at-if1 = at-find .before .before in
     let at-start = at-if1 .before .before .before in
     let a = at-start .args in
     let p = at-start .pre in
-    λ s ws vs h same spare f n o.
-    store-none (a .lean) (a .key) (p .1) (a .distance) f s ws vs (a .count) (a .keys .now) (a .distances .now) h same spare n o (at-if1 .if1 .left)
-    (not-entered _ _ _ _ _ _ _ _ (at-enter .enter .ensures) (not-true _ (c .if2 .taken)) (h .kept) (h .long)
-    (sym (at-find .find .ensures) ∙ at-place2 .place2 .given .1)) _ _
-
-add-t25 : tie.Need-add-t25
-add-t25 c = search needs
+    λ s ws vs h same room f n o.
+    store-at (a .key) (p .1) (a .distance) f s ws vs (a .count) (a .keys .now) (a .distances .now) h same n o (at-if1 .if1 .left) _
+    (sym (at-find .find .ensures) ∙ at-place .place .given .1)
 
 same-length-3 : tie.Need-same-length-3
 same-length-3 c = search needs
@@ -79,34 +75,17 @@ same-length-4 c = search needs
 
 returns-3 : tie.Need-returns-3
 returns-3 c =
-    let at-place = c .before in
-    let at-find = at-place .before .before in
-    let at-if1 = at-find .before .before in
-    let at-start = at-if1 .before .before .before in
-    let a = at-start .args in
-    let p = at-start .pre in
-    λ s ws vs h same spare f n o.
-    store-at (a .lean) (a .key) (p .1) (a .distance) f s ws vs (a .count) (a .keys .now) (a .distances .now) h same spare n o (at-if1 .if1 .left) _
-    (sym (at-find .find .ensures) ∙ at-place .place .given .1)
-
-same-length-5 : tie.Need-same-length-5
-same-length-5 c = search needs
-
-same-length-6 : tie.Need-same-length-6
-same-length-6 c = search needs
-
-returns-4 : tie.Need-returns-4
-returns-4 c =
-    let at-enter = c .before .before .before .before .before in
+    let at-enter = c .before .before .before .before in
     let at-place2 = at-enter .before .before .before .before in
     let at-find = at-place2 .before .before in
     let at-if1 = at-find .before .before in
     let at-start = at-if1 .before .before .before in
     let a = at-start .args in
     let p = at-start .pre in
-    λ s ws vs h same spare f n o.
-    store-put (a .lean) (a .key) (p .1) (a .distance) f s ws vs (a .count) (a .keys .now) (a .distances .now) h same spare n o (at-if1 .if1 .left) _ _
-    (entered-by _ _ _ _ _ _ _ _ (at-enter .enter .ensures) (not-false _ (c .if2 .left)) (h .kept) (h .long)
+    let l = at-if1 .if1 .left in
+    λ s ws vs h same room f n o.
+    store-put (a .key) (p .1) (a .distance) f s ws vs (a .count) (a .keys .now) (a .distances .now) h same n o l _ _
+    (entered-by (s .stored) ws _ _ _ _ _ _ _ (at-enter .enter .ensures) h (room (omega (arith, l, n)))
     (sym (at-find .find .ensures) ∙ at-place2 .place2 .given .1))
 
 pub store-spec : {M : Type 1} → statement M
@@ -118,16 +97,13 @@ store-spec =
     enum-known-place
     mul-distances
     slice-write-distances
-    add-t16
+    add-t15
     enum-known-place-2
     enter-requires
+    add-t22
     same-length
     same-length-2
     returns-2
-    add-t25
     same-length-3
     same-length-4
-    returns-3
-    same-length-5
-    same-length-6
-    returns-4)
+    returns-3)

@@ -55,7 +55,7 @@ returns c =
     let at-start = at-pop .before .before .before .before .before .before .before .before .before .before .before in
     let a = at-start .args in
     let p = at-pop .pop in
-    λ s h told.
+    λ s h told room.
     take-skips (a .lean) (seedIn (a .threshold) (rowsOf (a .fused-keys .now) (a .fused-distances .now) (a .fused-weights .now) (a .fused-count)))
     (latticeOf (a .course)) s (a .count) (a .keys .now) (a .distances .now) (a .waiting) (a .estimates .now) (a .cells .now) h (at-start .pre .1 .0)
     (p .last .0) (p .last .1 .0) (p .ensures) (p .kept .1 .0) (at-known .known .result) (at-known .known .ensures)
@@ -92,11 +92,11 @@ returns-2 c =
     let a = at-start .args in
     let p = at-pop .pop in
     let d = at-settle .settle in
-    λ s h told.
+    λ s h told room.
     take-settles (a .lean) (seedIn (a .threshold) (rowsOf (a .fused-keys .now) (a .fused-distances .now) (a .fused-weights .now) (a .fused-count)))
     (latticeOf (a .course)) s (a .count) (a .keys .now) (a .distances .now) (a .waiting) (a .estimates .now) (a .cells .now) h (at-start .pre .1 .0)
     (p .last .0) (p .last .1 .0) (p .ensures) (p .kept .1 .0) (at-known .known .result) (at-known .known .ensures)
-    (sym (at-is-finite .is-finite .ensures) ∙ at-if1 .if1 .left) told (d .result)
+    (sym (at-is-finite .is-finite .ensures) ∙ at-if1 .if1 .left) told room (d .result)
     (d .last .1 .1 .1 .1 .1 .1 .1 .0) (d .last .1 .1 .1 .1 .1 .1 .1 .1 .0)
     (d .last .1 .1 .1 .1 .1 .1 .1 .1 .1 .1 .0) (d .last .1 .1 .1 .1 .1 .1 .1 .1 .1 .1 .1 .0) (d .ensures)
 

@@ -1,8 +1,9 @@
 -- `fronts::wait` meets its contract, by what its mark says and the kind of march.
 -- Assumes nothing.
-use mathlib.Core.Path.{_≡_, sym, _∙_}
+use mathlib.Core.Path.{_≡_, refl, sym, _∙_}
 use mathlib.Core.Bool.{true, false}
 use mathlib.Core.List.{[], _∷_}
+use native.Mathlib.Omega.{arith}
 use lib.ListN.{length}
 use Rattle.table.specs.Table.{rowsOf}
 use Rattle.marching.specs.March.{wait}
@@ -30,7 +31,7 @@ returns : tie.Need-returns
 returns c =
     let at-find = c .before .before in
     let at-start = at-find .before .before .before .before .before .before .before .before .before in
-    λ s h told.
+    λ s h told room.
     wait-marked _ _ _ (real-key _ (at-start .pre .1 .0)) s _ _ _ _ _ h _ (sym (at-find .find .ensures) ∙ c .enum-told .given .1)
 
 wait-lean-requires : tie.Need-wait-lean-requires
@@ -93,7 +94,7 @@ returns-3 c =
     wait-as (a .lean) false (seedIn (a .threshold) (rowsOf (a .fused-keys .now) (a .fused-distances .now) (a .fused-weights .now) (a .fused-count)))
     (latticeOf (a .course)) (a .from) (a .key ∷ []) (wait (length (a .cells .now)) (a .estimate) (a .key))
     (a .keys .now) (a .distances .now) (a .waiting) (a .estimates .now) (a .cells .now) (d .result)
-    (d .last .0) (d .last .1 .0) (d .last .1 .1 .0) (d .last .1 .1 .1 .0) (at-if1 .if1 .left) (λ s h told. d .ensures s h)
+    (d .last .0) (d .last .1 .0) (d .last .1 .1 .0) (d .last .1 .1 .1 .0) (at-if1 .if1 .left) (λ s h told room. d .ensures s h (let l = room refl in omega arith))
 
 pub wait-spec : {M : Type 1} → statement M
 wait-spec =

@@ -146,7 +146,8 @@ loop-again c =
           (l .loop .estimates) (l .loop .cells) (l .loop .inv .8) (i .7)
           (omega (arith, at-loop-test .loop-test .taken, i .1)) (d .result)
           (d .last .1 .1 .1 .1 .1 .1 .1 .0) (d .last .1 .1 .1 .1 .1 .1 .1 .1 .0)
-          (d .last .1 .1 .1 .1 .1 .1 .1 .1 .1 .0) (d .last .1 .1 .1 .1 .1 .1 .1 .1 .1 .1 .0) (d .ensures) _ (at-more .more .given .1),
+          (d .last .1 .1 .1 .1 .1 .1 .1 .1 .1 .0) (d .last .1 .1 .1 .1 .1 .1 .1 .1 .1 .1 .0) (d .ensures) (k .1 .1 .1 .1 .1 .1 .1 .0) _
+          (at-more .more .given .1),
     )
 
 same-length-5 : tie.Need-same-length-5 Inv-loop μ-loop

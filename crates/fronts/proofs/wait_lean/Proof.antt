@@ -17,7 +17,7 @@ returns c =
     let at-other-spread = c .before in
     let at-start = at-other-spread .before .before .before .before .before .before .before .before in
     let s = at-start in
-    λ st h told.
+    λ st h told room.
     lean-already _ _ _ _ _ (s .pre .1 .1 .0) st _ _ _ _ _ h told _ (s .pre .1 .0) _ (at-other-spread .other-spread .ensures _ _ (h .marked)) (c .if1 .taken)
 
 returns-2 : tie.Need-returns-2
@@ -26,7 +26,7 @@ returns-2 c =
     let at-other-spread = at-if1 .before in
     let at-start = at-other-spread .before .before .before .before .before .before .before .before in
     let s = at-start in
-    λ st h told.
+    λ st h told room.
     lean-full _ _ _ _ _ (s .pre .1 .1 .0) st _ _ _ _ _ h told _ (s .pre .1 .0) _ (at-other-spread .other-spread .ensures _ _ (h .marked)) (at-if1 .if1 .left)
     (c .if2 .taken)
 
@@ -53,7 +53,7 @@ returns-3 c =
     let at-other-spread = at-if1 .before in
     let at-start = at-other-spread .before .before .before .before .before .before .before .before in
     let s = at-start in
-    λ st h told.
+    λ st h told room.
     lean-placed _ _ _ _ _ (s .pre .1 .1 .0) st _ _ _ _ _ h told _ (s .pre .1 .0) _ (at-other-spread .other-spread .ensures _ _ (h .marked)) (at-if1 .if1 .left)
     (at-if2 .if2 .left) (s .pre .1 .1 .1) _ _ (at-push .push .ensures)
 

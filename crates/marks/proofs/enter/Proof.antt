@@ -2,29 +2,32 @@
 -- Assumes nothing.
 use Prim.Native.Nat.{_+_, _-_}
 use mathlib.Core.Path.{sym, _∙_}
+use native.Mathlib.Omega.{arith}
 use lib.ListN.{length, length-set}
 use borrow.Author.Needs.{needs}
-use Rattle.marks.specs.Marks.{along, Tried}
-use Rattle.marks.proofs.Entering.{no-list, Around, around-begun, around-done, around-none, around-on, around-gives, around-less}
+use Rattle.marks.specs.Marks.{label, along, MayEnter}
+use Rattle.marks.proofs.Circling.{Around, around-begun, around-set, around-on, around-less, filled-none}
+use Rattle.marks.proofs.Entering.{no-list, Carrying, carried, goes-on, gives-up, entered}
 use Rattle.marks.proofs.enter.Statement.{statement}
 use Rattle.marks.proofs.enter.Tie as tie
 
 abbrev Inv-loop : tie.InvT-loop
-Inv-loop keys₀ values₀ place key value k₀ v₀ i₀ keys values k v i = Around key place value keys₀ values₀ k v i keys values
+Inv-loop keys₀ values₀ place key value k₀ v₀ i₀ keys values k v i =
+    Around place keys₀ i keys values × (MayEnter key place keys₀ values₀ → Carrying (label key) value place keys₀ values₀ k v i keys values)
 
 abbrev μ-loop : tie.MeasureT-loop
 μ-loop keys₀ values₀ place key value k₀ v₀ i₀ keys values k v i = place + length keys₀ - along place (length keys₀) i
 
 returns : tie.Need-returns Inv-loop μ-loop
-unfolding Tried
-returns c = no-list _ _ _ _ (c .if1 .taken)
+returns c = λ m. absurd (let z = no-list _ _ _ _ (c .if1 .taken) m in let y = m .room in omega arith)
 
 label-requires : tie.Need-label-requires Inv-loop μ-loop
 label-requires c κs = search needs
 
 loop-holds : tie.Need-loop-holds Inv-loop μ-loop
 loop-holds c =
-    around-begun _ _ _ _ _ _ (c .label .ensures) (c .before .if1 .left) (c .before .before .before .before .pre)
+    let l = c .before .if1 .left in
+    (around-begun _ _ _ l (c .before .before .before .before .pre), λ m. carried _ _ _ _ _ _ (c .label .ensures) l m)
 
 mul-if2 : tie.Need-mul-if2 Inv-loop μ-loop
 mul-if2 c = search needs
@@ -54,11 +57,11 @@ same-length-2 : tie.Need-same-length-2 Inv-loop μ-loop
 same-length-2 c = search needs
 
 returns-2 : tie.Need-returns-2 Inv-loop μ-loop
-unfolding Tried
 returns-2 c =
     let h = c .before .before .before .before .before .before .loop .inv in
     let n = c .before .before .before .before .if2 .taken in
-    around-none _ _ _ _ _ _ _ _ _ _ h n _ (c .before .following .ensures) (c .if3 .taken)
+    let e = c .before .following .ensures in
+    λ m. absurd (let z = filled-none _ _ _ _ _ (h .0) _ e n (h .1 m .filled) (c .if3 .taken) in let y = m .room in omega arith)
 
 mul-keys : tie.Need-mul-keys Inv-loop μ-loop
 mul-keys c = search needs
@@ -75,30 +78,26 @@ slice-write-values c = search needs
 loop-less : tie.Need-loop-less Inv-loop μ-loop
 loop-less c =
     let h = c .before .before .before .before .before .before .before .loop .inv in
-    let n = c .before .before .before .before .before .if2 .taken in
-    let e = c .before .before .following .ensures in
-    around-less _ _ _ _ _ _ _ _ _ _ h n _ e (c .before .if3 .left)
+    around-less _ _ _ _ _ (h .0) _ (c .before .before .following .ensures) (c .before .if3 .left)
 
 loop-again : tie.Need-loop-again Inv-loop μ-loop
 loop-again c =
     let h = c .before .before .before .before .before .before .before .loop .inv in
     let n = c .before .before .before .before .before .if2 .taken in
     let e = c .before .before .following .ensures in
-    around-gives _ _ _ _ _ _ _ _ _ _ h n _ e (c .if4 .taken)
+    (around-set _ _ _ _ _ (around-on _ _ _ _ _ (h .0) _ e) _ _ _, λ m. gives-up _ _ _ _ _ _ _ _ _ _ (h .0) (h .1 m) _ e n (c .if4 .taken))
 
 loop-less-2 : tie.Need-loop-less-2 Inv-loop μ-loop
 loop-less-2 c =
     let h = c .before .before .before .before .before .before .before .loop .inv in
-    let n = c .before .before .before .before .before .if2 .taken in
-    let e = c .before .before .following .ensures in
-    around-less _ _ _ _ _ _ _ _ _ _ h n _ e (c .before .if3 .left)
+    around-less _ _ _ _ _ (h .0) _ (c .before .before .following .ensures) (c .before .if3 .left)
 
 loop-again-2 : tie.Need-loop-again-2 Inv-loop μ-loop
 loop-again-2 c =
     let h = c .before .before .before .before .before .before .before .loop .inv in
     let n = c .before .before .before .before .before .if2 .taken in
     let e = c .before .before .following .ensures in
-    around-on _ _ _ _ _ _ _ _ _ _ h n _ e (c .if4 .left)
+    (around-on _ _ _ _ _ (h .0) _ e, λ m. goes-on _ _ _ _ _ _ _ _ _ _ (h .0) (h .1 m) _ e n (c .if4 .left))
 
 mul-keys-2 : tie.Need-mul-keys-2 Inv-loop μ-loop
 mul-keys-2 c = search needs
@@ -117,13 +116,13 @@ same-length-3 c = search needs
 
 same-length-4 : tie.Need-same-length-4 Inv-loop μ-loop
 same-length-4 c =
-    let h = c .before .before .loop .inv in
+    let h = c .before .before .loop .inv .0 in
     simp length-set (h .values ∙ h .places ∙ sym (c .before .before .before .before .before .before .before .pre))
 
 returns-3 : tie.Need-returns-3 Inv-loop μ-loop
-unfolding Tried
 returns-3 c =
-    around-done _ _ _ _ _ _ _ _ _ _ (c .before .before .loop .inv) (c .if2 .left)
+    let h = c .before .before .loop .inv in
+    λ m. entered _ _ _ _ _ _ _ _ _ _ (h .0) (h .1 m) (c .if2 .left)
 
 pub enter-spec : {M : Type 1} → statement M
 enter-spec =

@@ -2,6 +2,7 @@
 -- Assumes nothing.
 use Prim.Native.Nat.{_≤_, _-_}
 use mathlib.Core.Path.{_≡_, refl, sym, _∙_}
+use mathlib.Core.Bool.{false}
 use native.Mathlib.Omega.{arith}
 use lib.ListN.{length, getD}
 use lib.Ieee.{nan}
@@ -12,14 +13,14 @@ use Rattle.marching.specs.Spreading.{seedIn}
 use Rattle.marching.proofs.Facts.{back}
 use Rattle.fronts.specs.Fronts.{roomsOf}
 use Rattle.racing.proofs.Marching.{SowAt, rows-ascend, rows-past, seeds-are, sow-start, sow-stop, sow-more, sow-finish}
-use Rattle.racing.proofs.Finishing.{blank-long, blank-held}
+use Rattle.racing.proofs.Finishing.{blank-long, blank-ready}
 use borrow.Author.Needs.{needs}
 use Rattle.racing.proofs.sow_all.Statement.{statement}
 use Rattle.racing.proofs.sow_all.Tie as tie
 
 abbrev Inv-loop : tie.InvT-loop
-Inv-loop lean fused-keys fused-distances fused-weights fused-count threshold course keys₀ distances₀ estimates₀ cells₀ rows₀ held₀ i₀
-    keys distances estimates cells rows held i =
+Inv-loop fused-keys fused-distances fused-weights fused-count threshold course keys₀ distances₀ estimates₀ cells₀ rows₀ held₀ lean₀ i₀
+    keys distances estimates cells rows held lean i =
     (i ≤ fused-count)
     × (length keys ≡ length keys₀)
     × (length distances ≡ length distances₀)
@@ -29,8 +30,8 @@ Inv-loop lean fused-keys fused-distances fused-weights fused-count threshold cou
     (rowsOf fused-keys fused-distances fused-weights fused-count) i rows keys distances held estimates cells
 
 abbrev μ-loop : tie.MeasureT-loop
-μ-loop lean fused-keys fused-distances fused-weights fused-count threshold course keys₀ distances₀ estimates₀ cells₀ rows₀ held₀ i₀
-    keys distances estimates cells rows held i =
+μ-loop fused-keys fused-distances fused-weights fused-count threshold course keys₀ distances₀ estimates₀ cells₀ rows₀ held₀ lean₀ i₀
+    keys distances estimates cells rows held lean i =
     fused-count - i
 
 loop-holds : tie.Need-loop-holds Inv-loop μ-loop
@@ -43,10 +44,10 @@ loop-holds c =
       refl,
       refl,
       refl,
-      sow-start (a .lean) _ (latticeOf (a .course)) (a .threshold) (roomsOf (a .keys .now) (a .cells .now))
+      sow-start false _ (latticeOf (a .course)) (a .threshold) (roomsOf (a .keys .now) (a .cells .now))
           (rowsOf (a .fused-keys .now) (a .fused-distances .now) (a .fused-weights .now) (a .fused-count)) (a .keys .now)
           (a .distances .now) (a .estimates .now) (a .cells .now) (rows-ascend _ _ _ _ (p .0 .lent)) (seeds-are (a .threshold) _ _ _ _ (p .0 .lent))
-          (blank-held (a .lean) _ _ _ _ (p .1)),
+          (blank-ready false _ _ _ _ (p .1)),
     )
 
 mul-sow-if : tie.Need-mul-sow-if Inv-loop μ-loop
@@ -94,7 +95,7 @@ sow-if-requires c κs =
     let i = at-loop .loop .inv in
     let l = at-loop-test .loop-test .taken in (
       (p .0 .lent, (i .2 ∙ blank-long _ _ _ (p .1 .distances) ∙ sym (i .1), i .3 ∙ blank-long _ _ _ (p .1 .estimates) ∙ sym (i .4))),
-      (p .0 .lattice _ l, p .0 .finite _ l),
+      (p .0 .lattice _ l, (p .0 .finite _ l, i .5 .ready .held .front .heap .fits)),
     )
 
 enum-known-why : tie.Need-enum-known-why Inv-loop μ-loop
@@ -126,7 +127,7 @@ returns c =
     let here =
     row-at (a .fused-keys .now) (a .fused-distances .now) (a .fused-weights .now) (a .fused-count) (l .i) (p .distances) (p .weights)
     (at-loop-test .loop-test .taken) (p .fits) in
-    sow-stop (a .lean) (seedIn (a .threshold) (rowsOf (a .fused-keys .now) (a .fused-distances .now) (a .fused-weights .now) (a .fused-count)))
+    sow-stop (l .lean) (seedIn (a .threshold) (rowsOf (a .fused-keys .now) (a .fused-distances .now) (a .fused-weights .now) (a .fused-count)))
     (latticeOf (a .course)) back (a .threshold) (roomsOf (a .keys .now) (a .cells .now))
     (rowsOf (a .fused-keys .now) (a .fused-distances .now) (a .fused-weights .now) (a .fused-count)) (l .i) (l .rows) (l .keys) (l .distances) (l .held)
     (l .estimates) (l .cells) (l .inv .5)
@@ -173,7 +174,7 @@ loop-again c =
       _∙_ {b = length (l .distances)} (k .1 .1 .1 .1 .1 .1 .1 .1 .0) (i .2),
       _∙_ {b = length (l .estimates)} (k .1 .1 .1 .1 .1 .1 .1 .1 .1 .1 .0) (i .3),
       _∙_ {b = length (l .cells)} (k .1 .1 .1 .1 .1 .1 .1 .1 .1 .1 .1 .0) (i .4),
-      sow-more (a .lean) (seedIn (a .threshold) (rowsOf (a .fused-keys .now) (a .fused-distances .now) (a .fused-weights .now) (a .fused-count)))
+      sow-more (l .lean) (seedIn (a .threshold) (rowsOf (a .fused-keys .now) (a .fused-distances .now) (a .fused-weights .now) (a .fused-count)))
           (latticeOf (a .course)) back (a .threshold) (roomsOf (a .keys .now) (a .cells .now))
           (rowsOf (a .fused-keys .now) (a .fused-distances .now) (a .fused-weights .now) (a .fused-count)) (l .i) (l .rows) (l .keys) (l .distances) (l .held)
           (l .estimates) (l .cells) (l .inv .5)
@@ -181,7 +182,7 @@ loop-again c =
           here (i .1) (i .4) (d .result) (d .last .1 .1 .1 .1 .1 .1 .1 .0)
           (d .last .1 .1 .1 .1 .1 .1 .1 .1 .0) (d .last .1 .1 .1 .1 .1 .1 .1 .1 .1 .1 .0)
           (d .last .1 .1 .1 .1 .1 .1 .1 .1 .1 .1 .1 .0)
-          (d .ensures) _ _ (at-n .n .given .1),
+          (d .ensures) _ _ _ (at-n .n .given .1),
     )
 
 same-length-5 : tie.Need-same-length-5 Inv-loop μ-loop
@@ -202,7 +203,7 @@ returns-2 c =
     let at-start = at-loop .before .before .before .before .before .before .before .before in
     let a = at-start .args in
     let l = at-loop .loop in
-    sow-finish (a .lean) (seedIn (a .threshold) (rowsOf (a .fused-keys .now) (a .fused-distances .now) (a .fused-weights .now) (a .fused-count)))
+    sow-finish (l .lean) (seedIn (a .threshold) (rowsOf (a .fused-keys .now) (a .fused-distances .now) (a .fused-weights .now) (a .fused-count)))
     (latticeOf (a .course)) back (a .threshold) (roomsOf (a .keys .now) (a .cells .now))
     (rowsOf (a .fused-keys .now) (a .fused-distances .now) (a .fused-weights .now) (a .fused-count)) (l .i) (l .rows) (l .keys) (l .distances) (l .held)
     (l .estimates) (l .cells) (l .inv .5) (rows-past (a .fused-keys .now) (a .fused-distances .now) (a .fused-weights .now) (a .fused-count) (l .i)
