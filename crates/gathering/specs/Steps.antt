@@ -1,8 +1,15 @@
 -- A step of settling, for private contracts.
 use Prim.Native.Nat.{ℕ, _+_, _-_}
+use mathlib.Core.Bool.{cond}
 use mathlib.Core.List.{List, _++_}
-use lib.ListN.{take, drop, set}
+use lib.Dec.{eqb}
+use lib.ListN.{getD, take, drop, set}
+use Rattle.search.specs.Keys.{halved}
 use Rattle.gathering.specs.Gathering.{above}
+
+-- the place of the first of n own keys among the keys, by halves; 0 where there is none
+abbrev pub firstPlace : List ℕ → List ℕ → ℕ → ℕ
+firstPlace ks own n = cond (eqb n 0) 0 (halved (getD own 0 0) ks)
 
 -- what stands from `from` up to `end`, moved up so that it begins at `place` and ends at `to`
 abbrev pub slid : {A : Type 0} → List A → ℕ → ℕ → ℕ → ℕ → List A

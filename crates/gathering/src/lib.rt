@@ -4,13 +4,14 @@
 // `seat_` for its type of element, and cites the same laws; one row alone is put into it by `set` or `inserted`
 // (table/proofs/Laying: laid-set, laid-open).
 use floats::between;
+use search::place_of;
 ghost use Prim.Native.Nat.{_+_, _≤_, _<_};
 ghost use mathlib.Core.Path.{_≡_};
 ghost use mathlib.Core.Bool.{true};
 ghost use lib.ListN.{length, take};
 ghost use Rattle.search.specs.Keys.{ascending, placeOf};
 ghost use Rattle.gathering.specs.Gathering.{below, above, seatOf, seatsOf, valueAt, loaded, heldBack, Within, InOrder, Settles, settledIn};
-ghost use Rattle.gathering.specs.Steps.{slid, seatPlace, seatedAt};
+ghost use Rattle.gathering.specs.Steps.{firstPlace, slid, seatPlace, seatedAt};
 
 // How many rows are below a seat.
 fn rows_below(seat: u32) -> usize
@@ -77,13 +78,24 @@ fn seat_at(keys: &[u64], count: usize, place: usize, key: u64) -> u32
     before + 1
 }
 
+// Where the first own key stands or would stand among the first `count` keys, by halves: there the walk over them begins.
+fn first_place(keys: &[u64], count: usize, own_keys: &[u64], own: usize) -> usize
+    requires { ⌜ own ≤ length (now «own_keys») ⌝ }
+    ensures { λ r. ⌜ r ≡ firstPlace (take count (now (keys .entry))) (now («own_keys» .entry)) own ⌝ }
+{
+    if own == 0 {
+        return 0;
+    }
+    place_of(keys, count, own_keys[0])
+}
+
 // The seat of each own key among the first `count` keys.
 pub fn locate(keys: &[u64], count: usize, own_keys: &[u64], seats: &mut [u32], own: usize)
     requires { ⌜ (count ≤ length (now keys)) × (length (now keys) ≤ 65536) × (ascending (take count (now keys)) ≡ true) ⌝ }
     requires { ⌜ (own ≤ length (now «own_keys»)) × (own ≤ length (now seats)) ⌝ }
     ensures { λ _. ⌜ take own (now (seats .exit)) ≡ seatsOf (take count (now (keys .entry))) (take own (now («own_keys» .entry))) ⌝ }
 {
-    let mut place = 0;
+    let mut place = first_place(keys, count, own_keys, own);
     let mut i = 0;
     while i < own {
         let key = own_keys[i];

@@ -17,6 +17,9 @@ Inv-loop keys count own-keys seats₀ own place₀ i₀ seats place i =
 abbrev μ-loop : tie.MeasureT-loop
 μ-loop keys count own-keys seats₀ own place₀ i₀ seats place i = own - i
 
+first-place-requires : tie.Need-first-place-requires Inv-loop μ-loop
+first-place-requires c κs = search needs
+
 loop-holds : tie.Need-loop-holds Inv-loop μ-loop
 loop-holds c = (search needs, refl, refl)
 
@@ -46,7 +49,7 @@ loop-less c = search needs
 
 loop-again : tie.Need-loop-again Inv-loop μ-loop
 loop-again c =
-    let s = c .before .before .before .before .before .before .before .before in
+    let s = c .before .before .before .before .before .before .before .before .before in
     let l = c .before .before .before .before .loop in
     let more : l .i < s .args .own = c .before .before .before .loop-test .taken in (
       omega (arith, more),
@@ -61,7 +64,7 @@ same-length c = search needs
 returns : tie.Need-returns Inv-loop μ-loop
 returns c =
     let l = c .before .loop in
-    let e : l .i ≡ c .before .before .before .before .before .args .own = omega (arith, c .loop-test .left, l .inv .0) in
+    let e : l .i ≡ c .before .before .before .before .before .before .args .own = omega (arith, c .loop-test .left, l .inv .0) in
     rw e at (l .inv .1)
 
 pub locate-spec : {M : Type 1} → statement M
@@ -70,6 +73,7 @@ locate-spec =
     (tie.spec
     Inv-loop
     μ-loop
+    first-place-requires
     loop-holds
     mul-key
     shared-slice-read-key
