@@ -59,6 +59,7 @@ fn marches() -> Vec<March> {
         refused("refused for room at 1,048,576 places", NO_LIMIT, LONGEST, LONGEST, NO_PLACE),
         refused("the ordinary one, refused for room at 200,000 places", 41.8 * SIZE, 200_000, LONGEST, NO_PLACE),
         refused("twice as far as 1,048,576 places have room", 150.0 * SIZE, LONGEST, LONGEST, NO_PLACE),
+        refused("refused for room at 1,048,576 places, with as good as no waiting place to spare", NO_LIMIT, LONGEST, 56_200, NO_PLACE),
         refused("refused for waiting room at 8 places", NO_LIMIT, LONGEST, 8, NO_WAITING_PLACE),
         refused("refused for waiting room at 50,000 places", NO_LIMIT, LONGEST, 50_000, NO_WAITING_PLACE),
         done("one cell under 1,024 heads", heads(1_024), 10.0, LONGEST),

@@ -83,31 +83,24 @@ module _ (most : Float) where
   take-held (suc m) (w ∷ ws) [] = refl
   take-held (suc m) (w ∷ ws) (s ∷ ss) = ap {B = List ℕ} (λ t. cond (standing most w) s 0 ∷ t) (take-held m ws ss)
 
-  stands : (ws : List Float) (ss : List ℕ) (i : ℕ)
+  -- one row more
+  held : (ws : List Float) (ss : List ℕ) (i : ℕ)
       → i < length ws
-      → standing most (getD ws i nan) ≡ true
-      → heldBack most (take i ws) ss ≡ heldBack most (take (suc i) ws) ss
+      → set (heldBack most (take i ws) ss) i (cond (standing most (getD ws i nan)) (getD (heldBack most (take i ws) ss) i 0) 0)
+      ≡ heldBack most (take (suc i) ws) ss
   unfolding heldBack
-  stands [] ss i h e = absurd (not-suc-le-zero h)
-  stands (w ∷ ws) [] zero h e = refl
-  stands (w ∷ ws) (s ∷ ss) zero h e = rw e refl
-  stands (w ∷ ws) [] (suc i) h e = refl
-  stands (w ∷ ws) (s ∷ ss) (suc i) h e = rw (stands ws ss i (le-of-suc-le-suc h) e) refl
+  held [] ss i h = absurd (not-suc-le-zero h)
+  held (w ∷ ws) [] zero h = refl
+  held (w ∷ ws) (s ∷ ss) zero h = refl
+  held (w ∷ ws) [] (suc i) h = refl
+  held (w ∷ ws) (s ∷ ss) (suc i) h = ap {B = List ℕ} (λ t. cond (standing most w) s 0 ∷ t) (held ws ss i (le-of-suc-le-suc h))
 
-  waits : (ws : List Float) (ss : List ℕ) (i : ℕ)
+  pub one-held : (ws : List Float) (ss seats : List ℕ) (i : ℕ)
       → i < length ws
-      → standing most (getD ws i nan) ≡ false
-      → set (heldBack most (take i ws) ss) i 0 ≡ heldBack most (take (suc i) ws) ss
-  unfolding heldBack
-  waits [] ss i h e = absurd (not-suc-le-zero h)
-  waits (w ∷ ws) [] zero h e = refl
-  waits (w ∷ ws) (s ∷ ss) zero h e = rw e refl
-  waits (w ∷ ws) [] (suc i) h e = refl
-  waits (w ∷ ws) (s ∷ ss) (suc i) h e = rw (waits ws ss i (le-of-suc-le-suc h) e) refl
-
-  module _ (ws : List Float) (ss held : List ℕ) (i : ℕ) (h : i < length ws) (now : held ≡ heldBack most (take i ws) ss) where
-    pub one-stands : standing most (getD ws i nan) ≡ true → held ≡ heldBack most (take (i + 1) ws) ss
-    one-stands e = rw (add-one i) (now ∙ stands ws ss i h e)
-
-    pub one-waits : standing most (getD ws i nan) ≡ false → set held i 0 ≡ heldBack most (take (i + 1) ws) ss
-    one-waits e = rw (add-one i, now) (waits ws ss i h e)
+      → seats ≡ heldBack most (take i ws) ss
+      → (b : Bool)
+      → b ≡ standing most (getD ws i nan)
+      → (seat : ℕ)
+      → seat ≡ cond b (getD seats i 0) 0
+      → set seats i seat ≡ heldBack most (take (i + 1) ws) ss
+  one-held ws ss seats i h now b is seat e = rw (e, is, now, add-one i) (held ws ss i h)

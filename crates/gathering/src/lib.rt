@@ -7,7 +7,7 @@ use floats::between;
 use search::place_of;
 ghost use Prim.Native.Nat.{_+_, _≤_, _<_};
 ghost use mathlib.Core.Path.{_≡_};
-ghost use mathlib.Core.Bool.{true};
+ghost use mathlib.Core.Bool.{true, cond};
 ghost use lib.ListN.{length, take};
 ghost use Rattle.search.specs.Keys.{ascending, placeOf};
 ghost use Rattle.gathering.specs.Gathering.{below, above, seatOf, seatsOf, valueAt, loaded, heldBack, Within, InOrder, Settles, settledIn};
@@ -130,16 +130,22 @@ pub fn load_f32(column: &[f32], seats: &[u32], own_column: &mut [f32], own: usiz
     }
 }
 
-// The own rows whose weight is not in range wait.
+// A seat, or 0 where its row does not stand.
+fn seat_if(stands: bool, seat: u32) -> u32
+    ensures { λ r. ⌜ r ≡ cond stands seat 0 ⌝ }
+{
+    if stands { seat } else { 0 }
+}
+
+// The own rows whose weight is not in range wait. Each seat is written, so that no branch is guessed wrongly.
 pub fn hold_back(most: f32, own_weights: &[f32], seats: &mut [u32], own: usize)
     requires { ⌜ (own ≤ length (now «own_weights»)) × (own ≤ length (now seats)) ⌝ }
     ensures { λ _. ⌜ now (seats .exit) ≡ heldBack most (take own (now («own_weights» .entry))) (now (seats .entry)) ⌝ }
 {
     let mut i = 0;
     while i < own {
-        if !between(0.0, most, own_weights[i]) {
-            seats[i] = 0;
-        }
+        let stands = between(0.0, most, own_weights[i]);
+        seats[i] = seat_if(stands, seats[i]);
         i += 1;
     }
 }

@@ -161,14 +161,6 @@ module _ (n : ℕ) (ks : List ℕ) (e : ks ≡ replicate n 0) where
   pub look-none : (k : ℕ) (ds : List Float) → look k ks ds ≡ none
   look-none k ds = value-none (label k) ks ds (λ i f. label-real k (sym f ∙ ap (λ (l : List ℕ). getD l i 0) e ∙ blank n i))
 
-  pub occupied-none : occupied ks ≡ 0
-  unfolding occupied
-  occupied-none = rw e (go n)
-    where
-      go : (m : ℕ) → occupied (replicate m 0) ≡ 0
-      go zero = refl
-      go (suc m) = go m
-
 -- ---- another value
 
 module _ (k : ℕ) (ks : List ℕ) (ds : List Float) (i : ℕ) (e : spotOf k ks ≡ At i) (same : length ds ≡ length ks) (v : Float) where

@@ -1,13 +1,11 @@
 -- `gathering::hold_back` meets its contract: the first i own rows that do not stand wait.
 -- Assumes nothing.
 use Prim.Native.Nat.{_+_, _-_, _<_, _≤_}
-use mathlib.Core.Path.{_≡_, refl, ap, _∙_}
-use mathlib.Core.Logic.{⊎-elim}
+use mathlib.Core.Path.{_≡_, refl, _∙_}
 use native.Mathlib.Omega.{arith}
-use lib.ListN.{length, take}
-use Rattle.lists.proofs.Bools.{yes, no}
+use lib.ListN.{length, take, length-set}
 use Rattle.gathering.specs.Gathering.{heldBack}
-use Rattle.gathering.proofs.Filling.{held-length, one-stands, one-waits}
+use Rattle.gathering.proofs.Filling.{one-held}
 use borrow.Author.Needs.{needs}
 use Rattle.gathering.proofs.hold_back.Statement.{statement}
 use Rattle.gathering.proofs.hold_back.Tie as tie
@@ -32,6 +30,15 @@ shared-slice-read-between c = search needs
 between-requires : tie.Need-between-requires Inv-loop μ-loop
 between-requires c κs = search needs
 
+mul-seat-if : tie.Need-mul-seat-if Inv-loop μ-loop
+mul-seat-if c = search needs
+
+slice-read-seat-if : tie.Need-slice-read-seat-if Inv-loop μ-loop
+slice-read-seat-if c = search needs
+
+seat-if-requires : tie.Need-seat-if-requires Inv-loop μ-loop
+seat-if-requires c κs = search needs
+
 mul-seats : tie.Need-mul-seats Inv-loop μ-loop
 mul-seats c = search needs
 
@@ -46,22 +53,16 @@ loop-less c = search needs
 
 loop-again : tie.Need-loop-again Inv-loop μ-loop
 loop-again c =
-    let l = c .before .before .before .before .loop in
-    let s = c .before .before .before .before .before .before .before in
-    let more : l .i < s .args .own = c .before .before .before .loop-test .taken in
-    let t = c .before .between .ensures in
-    let e : c .if1 .seats ≡ heldBack (s .args .most) (take (l .i + 1) (s .args .own-weights .now)) (s .args .seats .now) =
-    ⊎-elim
-    (λ a.
-    a .1
-    ∙ one-waits (s .args .most) (s .args .own-weights .now) (s .args .seats .now) (l .seats) (l .i) (omega (arith, more, s .pre)) (l .inv .1)
-    (no t (a .0 .taken)))
-    (λ a.
-    a .1
-    ∙ one-stands (s .args .most) (s .args .own-weights .now) (s .args .seats .now) (l .seats) (l .i) (omega (arith, more, s .pre)) (l .inv .1)
-    (yes t (a .0 .left)))
-    (c .if1 .came) in
-    (omega (arith, more), e, ap length e ∙ held-length (s .args .most) (take (l .i + 1) (s .args .own-weights .now)) (s .args .seats .now))
+    let at-between = c .before .before in
+    let at-loop-test = at-between .before .before in
+    let l = at-loop-test .before .loop in
+    let s = at-loop-test .before .before .before .before in
+    let more : l .i < s .args .own = at-loop-test .loop-test .taken in (
+      omega (arith, more),
+      one-held (s .args .most) (s .args .own-weights .now) (s .args .seats .now) (l .seats) (l .i) (omega (arith, more, s .pre)) (l .inv .1)
+          (at-between .between .result) (at-between .between .ensures) (c .seat-if .result) (c .seat-if .ensures),
+      length-set (l .seats) (l .i) (c .seat-if .result) ∙ l .inv .2,
+    )
 
 same-length : tie.Need-same-length Inv-loop μ-loop
 same-length c = search needs
@@ -82,6 +83,9 @@ hold-back-spec =
     mul-between
     shared-slice-read-between
     between-requires
+    mul-seat-if
+    slice-read-seat-if
+    seat-if-requires
     mul-seats
     slice-write-seats
     add-i
