@@ -32,7 +32,7 @@ use Rattle.fronts.specs.declared.Placed.{Placed}
 use Rattle.fronts.specs.declared.Placed.the-variants.{Now, Not}
 use Rattle.fronts.specs.declared.Step.{Step}
 use Rattle.fronts.specs.declared.Step.the-variants as step
-use Rattle.fronts.specs.Fronts.{Fair, marking, markingAlso, Front, Held, Taken, Roomy, roomsOf, LeftRows, LeftCells, Left, ToldOnce, ToldFirst, DoesWait}
+use Rattle.fronts.specs.Fronts.{Fair, marking, markingAlso, Front, Held, Taken, MarksFit, roomsOf, LeftRows, LeftCells, Left, ToldOnce, ToldFirst, DoesWait}
 use Rattle.fronts.proofs.Marking.{marked-skip, stored-some}
 use Rattle.fronts.proofs.Walking.{stopped-then, stopped-by}
 
@@ -55,10 +55,10 @@ told-stored seed f k s told room d t e =
 pub stored-room :
     (lean : Bool) (m n : ℕ) (r : MarchedRow) (s : State) (ks ks' : List ℕ)
     → length ks' ≡ length ks
-    → Roomy lean (suc n) s ks
+    → MarksFit lean (suc n) s ks
     → (t : State)
     → store m r s ≡ on t
-    → Roomy lean n t ks'
+    → MarksFit lean n t ks'
 stored-room lean m n r s ks ks' wide room t e q =
     let i = after-on (λ t. t ≡ state (insert rowBefore r (s .stored)) (s .waiting) (s .takings)) (store m r s) t (store-is m r s) e in
     let a = ap (λ (x : State). length (x .stored)) i in
@@ -76,7 +76,7 @@ module _ (lean : Bool) (seed : ℕ → Bool) (f : Field) (k : ℕ) (g : Going) (
   unfolding LeftRows Left
   no-row why e es' cs' = stopped-then g go why (subst (λ (o : Placed). LeftRows g s (marking lean (s .waiting)) o ks ds) e did)
 
-  module _ (told : (t : State) → g ≡ on t → Told seed f k (f .near k) t) (room : (t : State) → g ≡ on t → Roomy lean (length (f .near k)) t ks) (n : ℕ)
+  module _ (told : (t : State) → g ≡ on t → Told seed f k (f .near k) t) (room : (t : State) → g ≡ on t → MarksFit lean (length (f .near k)) t ks) (n : ℕ)
       (e : p ≡ Now n) (q : Placed) (ks' : List ℕ) (ds' es' : List Float) (cs' : List ℕ)
       (then-did : DoesWait lean seed f k (f .near k) go ks ds w es cs q ks' ds' es' cs') where
     stored : LeftRows g s (marking lean (s .waiting)) (Now n) ks ds
@@ -161,14 +161,14 @@ taken-same true k cs j d = refl
 taken-same false k cs j d = rw (ne-eqb k j d)
 
 -- marks of stored and waiting cells leave a place, in a lean march where rows do
-pub marks-spare : (lean : Bool) (n : ℕ) (s : State) (ks : List ℕ) → Roomy lean (suc n) s ks → length (s .stored) < length ks
+pub marks-spare : (lean : Bool) (n : ℕ) (s : State) (ks : List ℕ) → MarksFit lean (suc n) s ks → length (s .stored) < length ks
     → length (s .stored) + length (marking lean (s .waiting)) < length ks
 unfolding marking
 marks-spare true n s ks room l = omega arith
 marks-spare false n s ks room l = let a = room refl in let b = length-map (s .waiting) (λ (c : Cell). c .key) in omega arith
 
 -- and that of a cell that was taken
-pub taken-spare : (lean : Bool) (k n : ℕ) (s : State) (ks : List ℕ) → Roomy lean (suc (suc n)) s ks → length (s .stored) < length ks
+pub taken-spare : (lean : Bool) (k n : ℕ) (s : State) (ks : List ℕ) → MarksFit lean (suc (suc n)) s ks → length (s .stored) < length ks
     → length (s .stored) + length (markingAlso lean k (s .waiting)) < length ks
 unfolding markingAlso
 taken-spare true k n s ks room l = omega arith
@@ -248,12 +248,12 @@ module _ (lean : Bool) (seed : ℕ → Bool) (f : Field) (s : State) (n : ℕ) (
   pub take-settles :
       isFinite d ≡ false
       → ToldFirst seed f s
-      → ((k : ℕ) → Roomy lean (suc (length (f .near k))) s ks)
+      → ((k : ℕ) → MarksFit lean (suc (length (f .near k))) s ks)
       → (r : Step) (ks' : List ℕ) (ds' es'' : List Float) (cs'' : List ℕ)
       → ((t : State)
       → Taken lean (getD cs 0 0) t n ks ds (w - 1) es' cs'
       → ToldOnce seed f (getD cs 0 0) t
-      → Roomy lean (suc (suc (length (f .near (getD cs 0 0))))) t ks
+      → MarksFit lean (suc (suc (length (f .near (getD cs 0 0))))) t ks
       → Left lean (settle f (roomsOf ks cs') (getD cs 0 0) t) r ks' ds' es'' cs'')
       → Left lean (take f (roomsOf ks cs) s) r ks' ds' es'' cs''
   unfolding visit
@@ -294,14 +294,14 @@ Stores k d n ks ds p ks' ds' =
 -- a seed is sown
 module _ (c : Course) (lean : Bool) (seed : ℕ → Bool) (k n : ℕ) (ks : List ℕ) (ds : List Float) (w : ℕ) (es : List Float) (cs : List ℕ) (s : State)
     (h : Held lean s n ks ds w es cs) (o : member k (keysOf (s .stored)) ≡ false) (told : ToldOnce seed (latticeOf c) k s)
-    (room : Roomy lean (suc (length (neighbours k))) s ks) (d : Float) (finite : isFinite d ≡ true) (p : Placed) (ks₁ : List ℕ) (ds₁ : List Float)
+    (room : MarksFit lean (suc (length (neighbours k))) s ks) (d : Float) (finite : isFinite d ≡ true) (p : Placed) (ks₁ : List ℕ) (ds₁ : List Float)
     (wide : length ks₁ ≡ length ks) (stores : Stores k d n ks ds p ks₁ ds₁) where
   sown-row : LeftRows (store (length ks) (marchedRow k d) s) s (marking lean (s .waiting)) p ks₁ ds₁
   sown-row =
       stores s (marking lean (s .waiting)) (marking lean (s .waiting)) (h .front .marked) (λ j _. refl)
       (marks-spare lean (length (neighbours k)) s ks room) finite (h .count) o
 
-  after-room : (t : State) → store (length ks) (marchedRow k d) s ≡ on t → Roomy lean (length (neighbours k)) t ks₁
+  after-room : (t : State) → store (length ks) (marchedRow k d) s ≡ on t → MarksFit lean (length (neighbours k)) t ks₁
   after-room = stored-room lean (length ks) (length (neighbours k)) (marchedRow k d) s ks ks₁ wide room
 
   pub sow-no-row : (why : Stop) → p ≡ Not why → Left lean (sow neighbours (roomsOf ks cs) (marchedRow k d) s) (step.Not why) ks₁ ds₁ es cs
@@ -329,14 +329,14 @@ module _ (c : Course) (lean : Bool) (seed : ℕ → Bool) (k n : ℕ) (ks : List
 -- a taken cell is settled
 module _ (c : Course) (fair : Fair c) (lean : Bool) (seed : ℕ → Bool) (k n : ℕ) (ks : List ℕ) (ds : List Float) (w : ℕ) (es : List Float) (cs : List ℕ)
     (s : State) (h : Taken lean k s n ks ds w es cs) (told : ToldOnce seed (latticeOf c) k s)
-    (room : Roomy lean (suc (suc (length (neighbours k)))) s ks) (d : Float) (is : d ≡ settled (latticeOf c) (s .stored) k)
+    (room : MarksFit lean (suc (suc (length (neighbours k)))) s ks) (d : Float) (is : d ≡ settled (latticeOf c) (s .stored) k)
     (p : Placed) (ks₁ : List ℕ) (ds₁ : List Float) (wide : length ks₁ ≡ length ks) (stores : Stores k d n ks ds p ks₁ ds₁) where
   settled-row : LeftRows (store (length ks) (marchedRow k d) s) s (marking lean (s .waiting)) p ks₁ ds₁
   settled-row =
       stores s (markingAlso lean k (s .waiting)) (marking lean (s .waiting)) (h .marked) (taken-same lean k (s .waiting))
       (taken-spare lean k (length (neighbours k)) s ks room) (finite-by c d (s .stored) k fair is) (h .count) (h .new)
 
-  settled-room : (t : State) → store (length ks) (marchedRow k d) s ≡ on t → Roomy lean (length (neighbours k)) t ks₁
+  settled-room : (t : State) → store (length ks) (marchedRow k d) s ≡ on t → MarksFit lean (length (neighbours k)) t ks₁
   settled-room =
       stored-room lean (length ks) (length (neighbours k)) (marchedRow k d) s ks ks₁ wide (λ q. let a = room q in omega arith)
 

@@ -23,7 +23,7 @@ use Rattle.fronts.specs.declared.Stop.{Stop}
 use Rattle.fronts.specs.declared.Stop.the-variants.{NoRow, NoCell}
 use Rattle.fronts.specs.declared.Placed.{Placed}
 use Rattle.fronts.specs.declared.Placed.the-variants.{Now, Not}
-use Rattle.fronts.specs.Fronts.{Front, Roomy, Stopped, LeftCells, DoesWait}
+use Rattle.fronts.specs.Fronts.{Front, MarksFit, Stopped, LeftCells, DoesWait}
 
 -- ---- a step that stopped
 
@@ -49,12 +49,12 @@ once-drop (suc i) (n ∷ ns) o = once-drop i ns (o .1)
 abbrev pub Rest : Bool → (ℕ → Bool) → Field → ℕ → Float → List ℕ → List ℕ → List Float → ℕ → List Float → List ℕ → ℕ → List ℕ → List Float → ℕ → List Float
     → List ℕ → Type 0
 Rest lean seed f k e ns ks₀ ds₀ w₀ es₀ cs₀ i ks ds w es cs =
-    (s : State) → Front lean s ks₀ ds₀ w₀ es₀ cs₀ → Told seed f k ns s → Roomy lean (length ns) s ks₀ →
+    (s : State) → Front lean s ks₀ ds₀ w₀ es₀ cs₀ → Told seed f k ns s → MarksFit lean (length ns) s ks₀ →
     (t : State)
     × ((t .stored ≡ s .stored)
     × (Front lean t ks ds w es cs
     × (Told seed f k (drop i ns) t
-    × (Roomy lean (length (drop i ns)) t ks × (waitAll (length cs₀) e ns s ≡ waitAll (length cs₀) e (drop i ns) t)))))
+    × (MarksFit lean (length (drop i ns)) t ks × (waitAll (length cs₀) e ns s ≡ waitAll (length cs₀) e (drop i ns) t)))))
 
 module _ (lean : Bool) (seed : ℕ → Bool) (f : Field) (k : ℕ) (e : Float) (ns list : List ℕ) (listed : list ≡ padded 0 14 ns) (once : Once ns)
     (ks₀ : List ℕ) (ds₀ : List Float) (w₀ : ℕ) (es₀ : List Float) (cs₀ : List ℕ) where
@@ -82,7 +82,7 @@ module _ (lean : Bool) (seed : ℕ → Bool) (f : Field) (k : ℕ) (e : Float) (
           wider true b q = refl
           wider false b q = absurd (true≢false (sym q))
 
-      done : (o : Placed) → p ≡ o → (t : State) → Front lean t ks ds w es cs → Told seed f k (drop i ns) t → Roomy lean (length (drop i ns)) t ks
+      done : (o : Placed) → p ≡ o → (t : State) → Front lean t ks ds w es cs → Told seed f k (drop i ns) t → MarksFit lean (length (drop i ns)) t ks
           → LeftCells lean (wait (length cs) e (getD list i 0) t) t o ks' ds' es' cs'
       done o a t h told room =
           subst (λ (o : Placed). LeftCells lean (wait (length cs) e (getD list i 0) t) t o ks' ds' es' cs') a
@@ -99,7 +99,7 @@ module _ (lean : Bool) (seed : ℕ → Bool) (f : Field) (k : ℕ) (e : Float) (
           let added = after-on (Waiting 1 (x .0)) step (y .0) (wait-adds (length cs) e (getD list i 0) (x .0)) (y .1 .0) in
           let next : Told seed f k (drop (suc i) ns) (y .0) =
           told-on seed f k (getD list i 0) (drop (suc i) ns) (x .0) (y .0) (rw here at (once-drop i ns once)) waited (rw here at (x .1 .1 .1 .0)) in
-          let left : Roomy lean (length (drop (suc i) ns)) (y .0) ks' =
+          let left : MarksFit lean (length (drop (suc i) ns)) (y .0) ks' =
           λ q. let b = x .1 .1 .1 .1 .0 q in let c = ap length here in let d = added .rows in let g = added .most in omega arith in (
             y .0,
             (
@@ -122,7 +122,7 @@ module _ (lean : Bool) (seed : ℕ → Bool) (f : Field) (k : ℕ) (e : Float) (
 
       -- one stops
       pub rest-stop : (why : Stop) → p ≡ Not why
-          → (s : State) → Front lean s ks₀ ds₀ w₀ es₀ cs₀ → Told seed f k ns s → Roomy lean (length ns) s ks₀
+          → (s : State) → Front lean s ks₀ ds₀ w₀ es₀ cs₀ → Told seed f k ns s → MarksFit lean (length ns) s ks₀
           → LeftCells lean (waitAll (length cs₀) e ns s) s (Not why) ks' ds' es' cs'
       unfolding LeftCells
       rest-stop why a s h told room =
@@ -132,7 +132,7 @@ module _ (lean : Bool) (seed : ℕ → Bool) (f : Field) (k : ℕ) (e : Float) (
 
     -- all of them wait
     pub rest-none : length ns ≤ i
-        → (s : State) → Front lean s ks₀ ds₀ w₀ es₀ cs₀ → Told seed f k ns s → Roomy lean (length ns) s ks₀
+        → (s : State) → Front lean s ks₀ ds₀ w₀ es₀ cs₀ → Told seed f k ns s → MarksFit lean (length ns) s ks₀
         → LeftCells lean (waitAll (length cs₀) e ns s) s (Now w) ks ds es cs
     unfolding LeftCells waitAll
     rest-none l s h told room =

@@ -57,8 +57,8 @@ pub record Held (lean : Bool) (s : State) (n : ℕ) (ks : List ℕ) (ds : List F
   pub count : n ≡ length (s .stored)
 
 -- n marks more have a place beside those of rows and waiting cells; a lean march asks for none
-abbrev pub Roomy : Bool → ℕ → State → List ℕ → Type 0
-Roomy lean n s ks = lean ≡ false → length (s .stored) + length (s .waiting) + n ≤ length ks
+abbrev pub MarksFit : Bool → ℕ → State → List ℕ → Type 0
+MarksFit lean n s ks = lean ≡ false → length (s .stored) + length (s .waiting) + n ≤ length ks
 
 -- ---- what a step leaves
 
@@ -100,7 +100,7 @@ ToldFirst seed f s =
 abbrev pub DoesWait : Bool → (ℕ → Bool) → Field → ℕ → List ℕ → (State → Going) → List ℕ → List Float → ℕ → List Float → List ℕ → Placed → List ℕ
     → List Float → List Float → List ℕ → Type 0
 DoesWait lean seed f k ns go ks ds w es cs r ks' ds' es' cs' =
-    (s : State) → Front lean s ks ds w es cs → Told seed f k ns s → Roomy lean (length ns) s ks → LeftCells lean (go s) s r ks' ds' es' cs'
+    (s : State) → Front lean s ks ds w es cs → Told seed f k ns s → MarksFit lean (length ns) s ks → LeftCells lean (go s) s r ks' ds' es' cs'
 
 -- k, which is not stored yet, is stored
 abbrev pub DoesSow : Bool → (ℕ → Bool) → Field → ℕ → (State → Going) → ℕ → List ℕ → List Float → ℕ → List Float → List ℕ → Step → List ℕ → List Float
@@ -110,7 +110,7 @@ DoesSow lean seed f k go n ks ds w es cs r ks' ds' es' cs' =
     → Held lean s n ks ds w es cs
     → member k (keysOf (s .stored)) ≡ false
     → ToldOnce seed f k s
-    → Roomy lean (suc (length (f .near k))) s ks
+    → MarksFit lean (suc (length (f .near k))) s ks
     → Left lean (go s) r ks' ds' es' cs'
 
 -- the first waiting cell is taken
@@ -120,7 +120,7 @@ DoesTake lean seed f go n ks ds w es cs r ks' ds' es' cs' =
     (s : State)
     → Held lean s n ks ds w es cs
     → ToldFirst seed f s
-    → ((k : ℕ) → Roomy lean (suc (length (f .near k))) s ks)
+    → ((k : ℕ) → MarksFit lean (suc (length (f .near k))) s ks)
     → Left lean (go s) r ks' ds' es' cs'
 
 -- the marks of a lean march; of another also that of k, which waits no more
@@ -142,5 +142,5 @@ DoesSettle lean seed f k go n ks ds w es cs r ks' ds' es' cs' =
     (s : State)
     → Taken lean k s n ks ds w es cs
     → ToldOnce seed f k s
-    → Roomy lean (suc (suc (length (f .near k)))) s ks
+    → MarksFit lean (suc (suc (length (f .near k)))) s ks
     → Left lean (go s) r ks' ds' es' cs'

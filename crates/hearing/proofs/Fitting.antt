@@ -4,7 +4,7 @@ use mathlib.Core.Bool.{Bool, true, false, cond, not}
 use mathlib.Core.List.{List, [], _∷_, _++_, List·Memᴰ·not-nil, List·Memᴰ·cases-cons, Memᴰ·append-left, Memᴰ·append-right}
 use mathlib.Core.Logic.{⊎-elim}
 use mathlib.Core.Option.{Option, none, some}
-use Prim.Native.Nat.{ℕ, zero, suc, _+_, _≤_}
+use Prim.Native.Nat.{ℕ, zero, suc, _+_, _<_, _≤_, zero-le, suc-le-suc}
 use native.Mathlib.Nat.{suc-ne-zero}
 use native.Mathlib.Omega.{arith}
 use borrow.Author.Tests.{eqb-true, eqb-false, ne-eqb}
@@ -51,10 +51,12 @@ labels-counted (x ∷ xs) =
     (λ _. labels-counted xs) (λ _. ap suc (labels-counted xs))
 
 -- what stands in a list stands at a place
-in-at : (ks : List ℕ) {x : ℕ} → x ∈ ks → (i : ℕ) × (getD ks i 0 ≡ x)
+pub in-at : (ks : List ℕ) {x : ℕ} → x ∈ ks → (i : ℕ) × ((i < length ks) × (getD ks i 0 ≡ x))
 in-at [] m = absurd (List·Memᴰ·not-nil m)
 in-at (y ∷ ys) {x} m =
-    ⊎-elim (λ (e : x ≡ y). (zero, sym e)) (λ t. let r = in-at ys t in (suc (r .0), r .1)) (List·Memᴰ·cases-cons m)
+    ⊎-elim (λ (e : x ≡ y). (zero, (suc-le-suc zero-le, sym e)))
+    (λ t. let r = in-at ys t in (suc (r .0), (suc-le-suc (r .1 .0), r .1 .1)))
+    (List·Memᴰ·cases-cons m)
 
 labels-distinct : (ks : List ℕ) → ((i j : ℕ) → (getD ks i 0 ≡ 0 → ⊥) → getD ks i 0 ≡ getD ks j 0 → i ≡ j) → Distinct (labels ks)
 unfolding kept Ordered
@@ -67,7 +69,7 @@ labels-distinct (x ∷ xs) once =
     apart : (x ≡ 0 → ⊥) → (y : ℕ) → y ∈ labels xs → x ≡ y → ⊥
     apart n y m e =
         let at = in-at xs (kept-in (λ (z : ℕ). not (eqb z 0)) xs m .0) in
-        suc-ne-zero (at .0) (sym (once zero (suc (at .0)) n (e ∙ sym (at .1))))
+        suc-ne-zero (at .0) (sym (once zero (suc (at .0)) n (e ∙ sym (at .1 .1))))
 
 -- ---- marks
 
@@ -99,8 +101,8 @@ module _ (rs : List MarchedRow) (ws : List ℕ) (ks : List ℕ) (ds : List Float
       (λ x m.
       let a = kept-in (λ (z : ℕ). not (eqb z 0)) ks m in
       let at = in-at ks (a .0) in
-      let n : getD ks (at .0) 0 ≡ 0 → ⊥ = λ z. real x (a .1) (sym (at .1) ∙ z) in
-      (keyFor (getD ks (at .0) 0), owned (at .0) n, key-for (getD ks (at .0) 0) n ∙ at .1))
+      let n : getD ks (at .0) 0 ≡ 0 → ⊥ = λ z. real x (a .1) (sym (at .1 .1) ∙ z) in
+      (keyFor (getD ks (at .0) 0), owned (at .0) n, key-for (getD ks (at .0) 0) n ∙ at .1 .1))
       (λ x x' y p q. sym p ∙ q) in
       let l = labels-counted ks in
       let a = length-append (keysOf rs) ws in

@@ -54,16 +54,16 @@ module _ (room : ℕ) (e : Float) where
       (waitAll-adds ks t))
 
 -- t is s with a row more, which had a place
-record Stored (room : ℕ) (s t : State) : Type 0 where
+record OneMore (room : ℕ) (s t : State) : Type 0 where
   rows : length (t .stored) ≡ suc (length (s .stored))
   place : length (s .stored) < room
   cells : t .waiting ≡ s .waiting
   takings : t .takings ≡ s .takings
 
-store-adds : (room : ℕ) (r : MarchedRow) (s : State) → After (Stored room s) (store room r s)
+store-adds : (room : ℕ) (r : MarchedRow) (s : State) → After (OneMore room s) (store room r s)
 unfolding store After
 store-adds room r s =
-    after-cond (Stored room s) (ltb (length (s .stored)) room) _ _
+    after-cond (OneMore room s) (ltb (length (s .stored)) room) _ _
     (λ q. record { rows = insert-length _ r (s .stored); place = ltb-true _ _ q; cells = refl; takings = refl }) (λ _. tt)
 
 -- rows and waiting cells are together at most n more
@@ -73,7 +73,7 @@ Fuller n s t = length (t .stored) + length (t .waiting) ≤ length (s .stored) +
 pub sow-adds : (near : ℕ → List ℕ) (m : Rooms) (r : MarchedRow) (s : State) → After (Fuller (suc (length (near (r .key)))) s) (sow near m r s)
 unfolding sow
 sow-adds near m r s =
-    after-then (Stored (m .rows) s) (Fuller (suc (length (near (r .key)))) s) (store (m .rows) r s) _ (store-adds (m .rows) r s)
+    after-then (OneMore (m .rows) s) (Fuller (suc (length (near (r .key)))) s) (store (m .rows) r s) _ (store-adds (m .rows) r s)
     (λ t u. after-weaken (Waiting (length (near (r .key))) t) (Fuller (suc (length (near (r .key)))) s) _
     (λ v w.
     let a = w .rows in
@@ -84,14 +84,14 @@ sow-adds near m r s =
     (waitAll-adds (m .cells) _ (near (r .key)) t))
 
 -- takings and waiting cells are no fewer
-abbrev pub Ahead : State → State → Type 0
-Ahead s t = s .takings + length (s .waiting) ≤ t .takings + length (t .waiting)
+abbrev pub NoFewer : State → State → Type 0
+NoFewer s t = s .takings + length (s .waiting) ≤ t .takings + length (t .waiting)
 
 -- a taking adds at most 15, where a cell has at most 14 neighbours; takings and waiting cells are never fewer after it; and waiting cells with 14 for each
 -- place that is left for a row are never more
 pub record Took (m : Rooms) (s t : State) : Type 0 where
   pub fuller : Fuller 15 s t
-  pub ahead : Ahead s t
+  pub ahead : NoFewer s t
   pub eased : length (t .waiting) + 14 * (m .rows - length (t .stored)) ≤ length (s .waiting) + 14 * (m .rows - length (s .stored))
 
 module _ (f : Field) (few : (k : ℕ) → length (f .near k) ≤ 14) (m : Rooms) where
@@ -119,7 +119,7 @@ module _ (f : Field) (few : (k : ℕ) → length (f .near k) ≤ 14) (m : Rooms)
       (λ _.
       let after = state (s .stored) cs (suc (s .takings)) in
       let r = marchedRow (c .key) (settled f (s .stored) (c .key)) in
-      after-then (Stored (m .rows) after) (Took m s) (store (m .rows) r after) (spread f (m .cells) r) (store-adds (m .rows) r after)
+      after-then (OneMore (m .rows) after) (Took m s) (store (m .rows) r after) (spread f (m .cells) r) (store-adds (m .rows) r after)
       (λ t u. after-weaken (Waiting 14 t) (Took m s) (spread f (m .cells) r t)
       (λ v w.
       let a = u .rows in
@@ -170,7 +170,7 @@ module _ (f : Field) (few : (k : ℕ) → length (f .near k) ≤ 14) (m : Rooms)
       (λ _.
       let after = state (s .stored) cs (suc (s .takings)) in
       let r = marchedRow (c .key) (settled f (s .stored) (c .key)) in
-      spared-then (Stored (m .rows) after) (store (m .rows) r after) (spread f (m .cells) r) (store-adds (m .rows) r after)
+      spared-then (OneMore (m .rows) after) (store (m .rows) r after) (spread f (m .cells) r) (store-adds (m .rows) r after)
       (spared-cond (ltb (length (s .stored)) (m .rows)) _ (refused NoPlace) (λ _. tt) (λ _. refl))
       (λ t u. spared-cond (le (onward f (r .distance)) (f .most)) _ (on t)
       (λ _. waitAll-spared (m .cells) (onward f (r .distance)) (f .near (c .key)) t
@@ -184,7 +184,7 @@ module _ (f : Field) (few : (k : ℕ) → length (f .near k) ≤ 14) (m : Rooms)
   takeUpTo-spared :
       (i : ℕ) (s : State)
       → length (s .waiting) + 14 * (m .rows - length (s .stored)) ≤ m .cells
-      → Spared (takeUpTo f m i s) × After (Ahead s) (takeUpTo f m i s)
+      → Spared (takeUpTo f m i s) × After (NoFewer s) (takeUpTo f m i s)
   unfolding takeUpTo taking andThen Spared After
   takeUpTo-spared zero s l = (tt, omega arith)
   takeUpTo-spared (suc i) s l = go (s .waiting) refl (λ t n. takeUpTo-spared i t n)
@@ -194,14 +194,14 @@ module _ (f : Field) (few : (k : ℕ) → length (f .near k) ≤ 14) (m : Rooms)
           → s .waiting ≡ cs
           → ((t : State)
           → length (t .waiting) + 14 * (m .rows - length (t .stored)) ≤ m .cells
-          → Spared (takeUpTo f m i t) × After (Ahead t) (takeUpTo f m i t))
-          → Spared (andThen (taking f m cs s) (takeUpTo f m i)) × After (Ahead s) (andThen (taking f m cs s) (takeUpTo f m i))
+          → Spared (takeUpTo f m i t) × After (NoFewer t) (takeUpTo f m i t))
+          → Spared (andThen (taking f m cs s) (takeUpTo f m i)) × After (NoFewer s) (andThen (taking f m cs s) (takeUpTo f m i))
       go [] e next = next s l
       go (c ∷ cs) e next = (
         spared-then (Took m s) (taking f m (c ∷ cs) s) (takeUpTo f m i) (taking-adds f few m c cs s e) (taking-spared c cs s e l)
             (λ t u. next t (let a = u .eased in omega arith) .0),
-        after-then (Took m s) (Ahead s) (taking f m (c ∷ cs) s) (takeUpTo f m i) (taking-adds f few m c cs s e)
-            (λ t u. after-weaken (Ahead t) (Ahead s) (takeUpTo f m i t) (λ v w. let a = u .ahead in omega arith)
+        after-then (Took m s) (NoFewer s) (taking f m (c ∷ cs) s) (takeUpTo f m i) (taking-adds f few m c cs s e)
+            (λ t u. after-weaken (NoFewer t) (NoFewer s) (takeUpTo f m i t) (λ v w. let a = u .ahead in omega arith)
             (next t (let a = u .eased in omega arith) .1)),
       )
 
@@ -221,7 +221,7 @@ module _ (f : Field) (few : (k : ℕ) → length (f .near k) ≤ 14) (m : Rooms)
       many : Bool
       many = ltb (m .rows) (n + length (s .waiting))
 
-      go : (g : Going) → Spared g × After (Ahead s) g → After (Ended m) g → g ≡ refused NoPlace
+      go : (g : Going) → Spared g × After (NoFewer s) g → After (Ended m) g → g ≡ refused NoPlace
       go (on t) p q =
           absurd
           (let a = p .1 in

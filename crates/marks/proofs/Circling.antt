@@ -57,19 +57,19 @@ pub record Around (p : ℕ) (ks₀ : List ℕ) (i : ℕ) (ks : List ℕ) (ds : L
   pub values : length ds ≡ length ks
 
 -- no place before i on it is empty, and as many are taken as were
-pub record Filled (p : ℕ) (ks₀ : List ℕ) (i : ℕ) (ks : List ℕ) : Type 0 where
+pub record NoneEmpty (p : ℕ) (ks₀ : List ℕ) (i : ℕ) (ks : List ℕ) : Type 0 where
   pub taken : (q : ℕ) → q < length ks → along p (length ks) q < along p (length ks) i → getD ks q 0 ≡ 0 → ⊥
   pub count : occupied ks ≡ occupied ks₀
 
 pub around-begun : (p : ℕ) (ks : List ℕ) (ds : List Float) → p < length ks → length ds ≡ length ks → Around p ks p ks ds
 around-begun p ks ds l m = record { start = l; inside = l; places = refl; values = m }
 
-pub filled-begun : (p : ℕ) (ks : List ℕ) → p < length ks → Filled p ks p ks
+pub filled-begun : (p : ℕ) (ks : List ℕ) → p < length ks → NoneEmpty p ks p ks
 filled-begun p ks l = record { taken = λ q m a. absurd (along-first p (length ks) (omega arith) q a); count = refl }
 
 -- another label takes a place
 pub filled-set : (p : ℕ) (ks₀ : List ℕ) (i : ℕ) (ks : List ℕ) (j x : ℕ) → (getD ks j 0 ≡ 0 → ⊥) → (x ≡ 0 → ⊥)
-    → Filled p ks₀ i ks → Filled p ks₀ i (set ks j x)
+    → NoneEmpty p ks₀ i ks → NoneEmpty p ks₀ i (set ks j x)
 filled-set p ks₀ i ks j x n m f =
     record {
       taken = rw (length-set ks j x) (λ q a b. split ks j x (within ks j n) (λ (r y : ℕ). y ≡ 0 → ⊥) q m (λ z. f .taken q a b));
@@ -105,9 +105,9 @@ module _ (p : ℕ) (ks₀ : List ℕ) (i : ℕ) (ks : List ℕ) (ds : List Float
         let w : along p (length ks₀) i < along p (length ks₀) j = rw q (y (λ g. f (q ∙ g))) in
         omega arith
 
-    module _ (n : getD ks i 0 ≡ 0 → ⊥) (f : Filled p ks₀ i ks) where
+    module _ (n : getD ks i 0 ≡ 0 → ⊥) (f : NoneEmpty p ks₀ i ks) where
       -- this place is taken too
-      pub filled-on : Filled p ks₀ j ks
+      pub filled-on : NoneEmpty p ks₀ j ks
       filled-on = record {
         taken = rw e (along-onward p (length ks) (rw (h .places) below) (λ (q : ℕ). getD ks q 0 ≡ 0 → ⊥) i (h .inside) n (f .taken));
         count = f .count;

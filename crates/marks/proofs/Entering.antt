@@ -15,7 +15,7 @@ use Rattle.marks.specs.Marks.{label, home, along, Outranked, Kept, look,
 use Rattle.marks.proofs.Pathing.{home-within, along-onward}
 use Rattle.marks.proofs.Seeking.{halt-right}
 use Rattle.marks.proofs.Keeping.{label-real, standing-ended, kept-once, kept-found, kept-absent, valueOf, value-at, value-same}
-use Rattle.marks.proofs.Circling.{occupied-full, occupied-more, here, split, Around, Filled, filled-begun, filled-set, filled-on}
+use Rattle.marks.proofs.Circling.{occupied-full, occupied-more, here, split, Around, NoneEmpty, filled-begun, filled-set, filled-on}
 
 -- ---- a larger label at a place
 
@@ -67,7 +67,7 @@ pub record Carrying (w : ℕ) (v : Float) (p : ℕ) (ks₀ : List ℕ) (ds₀ : 
   pub new : (q : ℕ) → getD ks q 0 ≡ x → ⊥
   pub passed : Outranked x ks i
   pub same : (j : ℕ) → (j ≡ 0 → ⊥) → inHand x d j ks ds ≡ inHand w v j ks₀ ds₀
-  pub filled : Filled p ks₀ i ks
+  pub filled : NoneEmpty p ks₀ i ks
 
 pub carried : (k : ℕ) (v : Float) (p : ℕ) (ks : List ℕ) (ds : List Float) (x : ℕ)
     → x ≡ label k

@@ -122,12 +122,12 @@ value-none k ks ds n = go (standing k ks) refl
     go (Absent i) f = refl
 
 -- the label k stands somewhere, with the value d
-abbrev pub Stands : ℕ → Float → List ℕ → List Float → Type 0
-Stands k d ks ds = (q : ℕ) × ((getD ks q 0 ≡ k) × (getD ds q nan ≡ d))
+abbrev pub StandsWith : ℕ → Float → List ℕ → List Float → Type 0
+StandsWith k d ks ds = (q : ℕ) × ((getD ks q 0 ≡ k) × (getD ds q nan ≡ d))
 
 module _ (k : ℕ) (n : k ≡ 0 → ⊥) (ks : List ℕ) (ds : List Float) (ks' : List ℕ) (ds' : List Float) (h : Kept ks) (h' : Kept ks') where
   -- one that stands in both lists with the same values, or in none
-  pub value-moved : ((d : Float) → Stands k d ks ds → Stands k d ks' ds') → ((d : Float) → Stands k d ks' ds' → Stands k d ks ds)
+  pub value-moved : ((d : Float) → StandsWith k d ks ds → StandsWith k d ks' ds') → ((d : Float) → StandsWith k d ks' ds' → StandsWith k d ks ds)
       → valueOf k ks' ds' ≡ valueOf k ks ds
   value-moved f g = go (standing k ks) refl
     where

@@ -8,10 +8,10 @@ use lib.ListN.{length, getD, set, length-set}
 use lib.Seq.{getD-set-same, getD-set-other, set-set, set-getD}
 use lib.Ieee.{Float, nan}
 use Rattle.marks.specs.declared.Spot.the-variants.{At}
-use Rattle.marks.specs.Marks.{label, home, along, Kept, spotOf, occupied, following, earlier, MayLeave, Gone}
-use Rattle.marks.proofs.Pathing.{one-or-two, along-which, along-first, along-onward, along-between, earlier-true, earlier-false}
-use Rattle.marks.proofs.Keeping.{label-real, within, standing-at, kept-once, Stands, value-none, value-moved}
-use Rattle.marks.proofs.Circling.{occupied-more, here, split, Around, Filled, filled-begun, filled-set, filled-on}
+use Rattle.marks.specs.Marks.{label, home, along, Kept, spotOf, occupied, following, comesFirst, MayLeave, Gone}
+use Rattle.marks.proofs.Pathing.{one-or-two, along-which, along-first, along-onward, along-between, comes-first-true, comes-first-false}
+use Rattle.marks.proofs.Keeping.{label-real, within, standing-at, kept-once, StandsWith, value-none, value-moved}
+use Rattle.marks.proofs.Circling.{occupied-more, here, split, Around, NoneEmpty, filled-begun, filled-set, filled-on}
 
 -- ---- but for one place
 
@@ -20,14 +20,14 @@ abbrev Elsewhere : ℕ → ℕ → Float → List ℕ → List Float → Type 0
 Elsewhere h x d ks ds = (q : ℕ) × ((q ≡ h → ⊥) × ((getD ks q 0 ≡ x) × (getD ds q nan ≡ d)))
 
 -- the place a comes before the place b on the path of y among n places
-abbrev Before : ℕ → ℕ → ℕ → ℕ → Type 0
-Before y n a b = along (home y n) n a < along (home y n) n b
+abbrev OnWay : ℕ → ℕ → ℕ → ℕ → Type 0
+OnWay y n a b = along (home y n) n a < along (home y n) n b
 
 -- but for the place h, each label has only larger ones before it on its path
 abbrev KeptBut : ℕ → List ℕ → Type 0
 KeptBut h ks =
     (b : ℕ) → (b ≡ h → ⊥) → (getD ks b 0 ≡ 0 → ⊥)
-    → (a : ℕ) → (a ≡ h → ⊥) → a < length ks → Before (getD ks b 0) (length ks) a b → getD ks b 0 < getD ks a 0
+    → (a : ℕ) → (a ≡ h → ⊥) → a < length ks → OnWay (getD ks b 0) (length ks) a b → getD ks b 0 < getD ks a 0
 
 module _ (h y : ℕ) (e : Float) (ks : List ℕ) (ds : List Float) (x : ℕ) (d : Float) where
   -- what stands elsewhere stays, whatever is put at h
@@ -36,7 +36,7 @@ module _ (h y : ℕ) (e : Float) (ks : List ℕ) (ds : List Float) (x : ℕ) (d 
 
   -- what stands then is that, or it stood elsewhere
   stood : {P : Type 0} → h < length ks → length ds ≡ length ks → (y ≡ x → e ≡ d → P) → (Elsewhere h x d ks ds → P)
-      → Stands x d (set ks h y) (set ds h e) → P
+      → StandsWith x d (set ks h y) (set ds h e) → P
   stood l long f g s =
       one-or-two (s .0) h
       (λ z. f (sym (rw z (here ks h y l)) ∙ s .1 .0) (sym (rw z (getD-set-same ds h e nan (rw long l))) ∙ s .1 .1))
@@ -48,11 +48,11 @@ module _ (h y : ℕ) (e : Float) (ks : List ℕ) (ds : List Float) (x : ℕ) (d 
 pub record Leaving (l p : ℕ) (ks₀ : List ℕ) (ds₀ : List Float) (h i : ℕ) (ks : List ℕ) (ds : List Float) : Type 0 where
   pub real : getD ks h 0 ≡ 0 → ⊥
   pub kept : KeptBut h ks
-  pub passed : (q : ℕ) → q < length ks → along h (length ks) q < along h (length ks) i → Before (getD ks q 0) (length ks) h q → ⊥
-  pub stayed : (x : ℕ) (d : Float) → (x ≡ l → ⊥) → Stands x d ks₀ ds₀ → Elsewhere h x d ks ds
-  pub came : (x : ℕ) (d : Float) → Elsewhere h x d ks ds → Stands x d ks₀ ds₀
+  pub passed : (q : ℕ) → q < length ks → along h (length ks) q < along h (length ks) i → OnWay (getD ks q 0) (length ks) h q → ⊥
+  pub stayed : (x : ℕ) (d : Float) → (x ≡ l → ⊥) → StandsWith x d ks₀ ds₀ → Elsewhere h x d ks ds
+  pub came : (x : ℕ) (d : Float) → Elsewhere h x d ks ds → StandsWith x d ks₀ ds₀
   pub gone : (d : Float) → Elsewhere h l d ks ds → ⊥
-  pub filled : Filled p ks₀ i ks
+  pub filled : NoneEmpty p ks₀ i ks
 
 -- the place of the label is the first to be filled
 pub opened : (k p : ℕ) (ks : List ℕ) (ds : List Float) → p < length ks → spotOf k ks ≡ At p → MayLeave ks ds → Leaving (label k) p ks ds p p ks ds
@@ -80,7 +80,7 @@ module _ (k p : ℕ) (ks₀ : List ℕ) (ds₀ : List Float) (h i : ℕ) (ks : L
 
   module _ (apart : i ≡ h → ⊥) where
     -- a label that is not passed, and whose path comes by h, has i before it too
-    beyond : (b : ℕ) → (b ≡ h → ⊥) → (b ≡ i → ⊥) → (getD ks b 0 ≡ 0 → ⊥) → Before (getD ks b 0) (length ks) h b → getD ks b 0 < getD ks i 0
+    beyond : (b : ℕ) → (b ≡ h → ⊥) → (b ≡ i → ⊥) → (getD ks b 0 ≡ 0 → ⊥) → OnWay (getD ks b 0) (length ks) h b → getD ks b 0 < getD ks i 0
     beyond b f g n o =
         s .kept b f n i apart (a .inside)
         (along-between (home (getD ks b 0) (length ks)) (length ks) h i b inside (a .inside) (within ks b n) o
@@ -88,22 +88,22 @@ module _ (k p : ℕ) (ks₀ : List ℕ) (ds₀ : List Float) (h i : ℕ) (ks : L
 
     -- each label but those at h and i has only larger ones before it, once the one at i stands at h too
     follows : (x : ℕ) → getD ks i 0 ≡ x → (b : ℕ) → (b ≡ h → ⊥) → (b ≡ i → ⊥) → (getD ks b 0 ≡ 0 → ⊥)
-        → (q : ℕ) → q < length ks → Before (getD ks b 0) (length ks) q b → getD ks b 0 < getD (set ks h x) q 0
+        → (q : ℕ) → q < length ks → OnWay (getD ks b 0) (length ks) q b → getD ks b 0 < getD (set ks h x) q 0
     follows x c b f g n q m =
-        split ks h x inside (λ (r y : ℕ). Before (getD ks b 0) (length ks) r b → getD ks b 0 < y) q (λ o. rw c at (beyond b f g n o))
+        split ks h x inside (λ (r y : ℕ). OnWay (getD ks b 0) (length ks) r b → getD ks b 0 < y) q (λ o. rw c at (beyond b f g n o))
         (λ z o. s .kept b f n q z m o)
 
   module _ (j : ℕ) (e : j ≡ following i (length ks)) (n : getD ks i 0 ≡ 0 → ⊥) (g : ℕ) (c : g ≡ home (getD ks i 0) (length ks)) where
     -- a label whose path does not come by h keeps its place
-    pub keeps : earlier g h i ≡ false → Leaving (label k) p ks₀ ds₀ h j ks ds
+    pub keeps : comesFirst g h i ≡ false → Leaving (label k) p ks₀ ds₀ h j ks ds
     keeps t =
         record {
           real = s .real;
           kept = s .kept;
           passed =
               rw e
-              (along-onward h (length ks) (let m = inside in omega arith) (λ (q : ℕ). Before (getD ks q 0) (length ks) h q → ⊥) i (a .inside)
-              (λ o. let w = rw c at (earlier-false g (length ks) h i inside (a .inside) t) in omega arith) (s .passed));
+              (along-onward h (length ks) (let m = inside in omega arith) (λ (q : ℕ). OnWay (getD ks q 0) (length ks) h q → ⊥) i (a .inside)
+              (λ o. let w = rw c at (comes-first-false g (length ks) h i inside (a .inside) t) in omega arith) (s .passed));
           stayed = s .stayed;
           came = s .came;
           gone = s .gone;
@@ -111,14 +111,14 @@ module _ (k p : ℕ) (ks₀ : List ℕ) (ds₀ : List Float) (h i : ℕ) (ks : L
         }
 
     -- one whose path does moves there, and its own place is to be filled
-    pub moves : earlier g h i ≡ true → Leaving (label k) p ks₀ ds₀ i j (set ks h (getD ks i 0)) (set ds h (getD ds i nan))
+    pub moves : comesFirst g h i ≡ true → Leaving (label k) p ks₀ ds₀ i j (set ks h (getD ks i 0)) (set ds h (getD ds i nan))
     moves t =
         record {
           real = rw (getD-set-other ks h i (getD ks i 0) 0 apart) n;
           kept = λ b f.
               rw (length-set ks h (getD ks i 0))
               (split ks h (getD ks i 0) inside (λ (r y : ℕ).
-              (y ≡ 0 → ⊥) → (q : ℕ) → (q ≡ i → ⊥) → q < length ks → Before y (length ks) q r → y < getD (set ks h (getD ks i 0)) q 0) b
+              (y ≡ 0 → ⊥) → (q : ℕ) → (q ≡ i → ⊥) → q < length ks → OnWay y (length ks) q r → y < getD (set ks h (getD ks i 0)) q 0) b
               (λ m q _ r o.
               let z : q ≡ h → ⊥ = λ z. let w = rw z at o in omega arith in
               rw (getD-set-other ks h q (getD ks i 0) 0 z) (s .kept i apart n q z r (let w = before in omega arith)))
@@ -126,7 +126,7 @@ module _ (k p : ℕ) (ks₀ : List ℕ) (ds₀ : List Float) (h i : ℕ) (ks : L
           passed =
               rw (e, length-set ks h (getD ks i 0))
               (along-onward i (length ks) (let m = a .inside in omega arith)
-              (λ (q : ℕ). Before (getD (set ks h (getD ks i 0)) q 0) (length ks) i q → ⊥) i (a .inside) (λ o. omega arith)
+              (λ (q : ℕ). OnWay (getD (set ks h (getD ks i 0)) q 0) (length ks) i q → ⊥) i (a .inside) (λ o. omega arith)
               (λ q m o. absurd (along-first i (length ks) (let w = a .inside in omega arith) q o)));
           stayed = λ x d m b. forward x d (s .stayed x d m b);
           came = λ x d b. s .came x d (back x d b);
@@ -134,8 +134,8 @@ module _ (k p : ℕ) (ks₀ : List ℕ) (ds₀ : List Float) (h i : ℕ) (ks : L
           filled = filled-set p ks₀ j ks h (getD ks i 0) (s .real) n (filled-on p ks₀ i ks ds a j e n (s .filled));
         }
       where
-        before : Before (getD ks i 0) (length ks) h i
-        before = rw c at (earlier-true g (length ks) h i inside (a .inside) t)
+        before : OnWay (getD ks i 0) (length ks) h i
+        before = rw c at (comes-first-true g (length ks) h i inside (a .inside) t)
 
         apart : i ≡ h → ⊥
         apart z = let w = rw z at before in omega arith
@@ -172,9 +172,9 @@ module _ (k p : ℕ) (ks₀ : List ℕ) (ds₀ : List Float) (h i : ℕ) (ks : L
       kept : Kept (set ks h 0)
       kept b =
           rw (length-set ks h 0)
-          (split ks h 0 inside (λ (r y : ℕ). (y ≡ 0 → ⊥) → (q : ℕ) → q < length ks → Before y (length ks) q r → y < getD (set ks h 0) q 0) b
+          (split ks h 0 inside (λ (r y : ℕ). (y ≡ 0 → ⊥) → (q : ℕ) → q < length ks → OnWay y (length ks) q r → y < getD (set ks h 0) q 0) b
           (λ n. absurd (n refl))
           (λ z n. follows (λ w. s .real (rw w at e)) 0 e b z (λ w. n (rw w e)) n))
 
-      back : (j : ℕ) (d : Float) → Stands (label j) d (set ks h 0) (set ds h v) → Elsewhere h (label j) d ks ds
+      back : (j : ℕ) (d : Float) → StandsWith (label j) d (set ks h 0) (set ds h v) → Elsewhere h (label j) d ks ds
       back j d = stood h 0 v ks ds (label j) d inside (a .values) (λ z _. absurd (label-real j (sym z))) (λ w. w)

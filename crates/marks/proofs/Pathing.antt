@@ -8,7 +8,7 @@ use native.Mathlib.Omega.{arith}
 use borrow.Author.Tests.{eqb-true, eqb-false, ltb-true, ltb-false, lt-ltb, le-ltb, le-leb, lt-leb}
 use lib.Dec.{eqb, leb, ltb}
 use Rattle.lists.proofs.Bools.{cases, both-ways}
-use Rattle.marks.specs.Marks.{packed, mixed, home, along, following, earlier}
+use Rattle.marks.specs.Marks.{packed, mixed, home, along, following, comesFirst}
 
 -- ---- its home
 
@@ -142,9 +142,9 @@ module _ (h n : ℕ) where
       go (inr x) (inr y) = omega arith
 
   -- the code's test
-  earlier-along : (a b : ℕ) → a < n → b < n → earlier h a b ≡ ltb (along h n a) (along h n b)
-  unfolding earlier
-  earlier-along a b l m = go (along-either h n a) (along-either h n b)
+  comes-first-along : (a b : ℕ) → a < n → b < n → comesFirst h a b ≡ ltb (along h n a) (along h n b)
+  unfolding comesFirst
+  comes-first-along a b l m = go (along-either h n a) (along-either h n b)
     where
       later : ltb a b ≡ ltb (a + n) (b + n)
       later =
@@ -158,11 +158,11 @@ module _ (h n : ℕ) where
       go (inr x) (inr y) = rw (x .1, y .1, le-leb h a (x .0), le-ltb b h (y .0)) refl
 
   module _ (a b : ℕ) (l : a < n) (m : b < n) where
-    pub earlier-true : earlier h a b ≡ true → along h n a < along h n b
-    earlier-true e = ltb-true (along h n a) (along h n b) (sym (earlier-along a b l m) ∙ e)
+    pub comes-first-true : comesFirst h a b ≡ true → along h n a < along h n b
+    comes-first-true e = ltb-true (along h n a) (along h n b) (sym (comes-first-along a b l m) ∙ e)
 
-    pub earlier-false : earlier h a b ≡ false → along h n b ≤ along h n a
-    earlier-false e = ltb-false (along h n a) (along h n b) (sym (earlier-along a b l m) ∙ e)
+    pub comes-first-false : comesFirst h a b ≡ false → along h n b ≤ along h n a
+    comes-first-false e = ltb-false (along h n a) (along h n b) (sym (comes-first-along a b l m) ∙ e)
 
 pub following-within : (i n : ℕ) → i < n → following i n < n
 following-within i n l = go (following-either i n)

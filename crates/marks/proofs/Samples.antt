@@ -5,7 +5,7 @@ use mathlib.Core.Bool.{true, false}
 use mathlib.Core.List.{List, [], _∷_}
 use Prim.Native.Nat.{ℕ, _+_, _^_}
 use Rattle.marks.specs.declared.Spot.the-variants.{At, Absent}
-use Rattle.marks.specs.Marks.{label, home, earlier, seek, orAgain, halt, spotAt, spotOf}
+use Rattle.marks.specs.Marks.{label, home, comesFirst, seek, orAgain, halt, spotAt, spotOf}
 
 -- 63 and 31 have their home at place 7, the larger first, so 31 stands at place 0; key 0 stands as 1; 2 places are empty
 abbrev table : List ℕ
@@ -26,6 +26,6 @@ unfolding home
 scattered = (refl, refl, refl)
 
 -- a path that begins at place 7 goes on at place 0; no place comes before itself
-pub order : (earlier 7 7 0 ≡ true) × (earlier 7 0 1 ≡ true) × (earlier 7 0 7 ≡ false) × (earlier 7 1 0 ≡ false) × (earlier 7 7 7 ≡ false)
-unfolding earlier
+pub order : (comesFirst 7 7 0 ≡ true) × (comesFirst 7 0 1 ≡ true) × (comesFirst 7 0 7 ≡ false) × (comesFirst 7 1 0 ≡ false) × (comesFirst 7 7 7 ≡ false)
+unfolding comesFirst
 order = (refl, refl, refl, refl, refl)

@@ -35,8 +35,8 @@ unfoldable pub along : ℕ → ℕ → ℕ → ℕ
 along h n q = cond (ltb q h) (q + n) q
 
 -- whether the place a comes before the place b on a path that begins at h, among any number of places that has both
-unfoldable pub earlier : ℕ → ℕ → ℕ → Bool
-earlier h a b = cond (leb h a) (ltb b h || ltb a b) (ltb b h && ltb a b)
+unfoldable pub comesFirst : ℕ → ℕ → ℕ → Bool
+comesFirst h a b = cond (leb h a) (ltb b h || ltb a b) (ltb b h && ltb a b)
 
 -- all labels are larger than k before the place p on the path of k
 abbrev pub Outranked : ℕ → List ℕ → ℕ → Type 0

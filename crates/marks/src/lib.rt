@@ -1,9 +1,9 @@
 // Marks: a lent list of keys as a table with open addressing, its values in a list beside it. Key 0 stands there as 1, which is no key of the lattice;
-// a place that holds 0 is empty. Before a key stand only larger ones on its path, so a search ends at the first that is not larger.
+// a place that holds 0 is empty. OnWay a key stand only larger ones on its path, so a search ends at the first that is not larger.
 ghost use mathlib.Core.Path.{_≡_};
 ghost use Prim.Native.Nat.{_≤_, _<_, _-_};
 ghost use lib.ListN.{length};
-ghost use Rattle.marks.specs.Marks.{label, home, seek, halt, spotOf, following, earlier, Enters, Leaves};
+ghost use Rattle.marks.specs.Marks.{label, home, seek, halt, spotOf, following, comesFirst, Enters, Leaves};
 
 // The first 32 bits of a number.
 const NARROW: u64 = 0x1_0000_0000;
@@ -117,7 +117,7 @@ pub fn enter(keys: &mut [u64], values: &mut [f32], place: usize, key: u64, value
 
 // Whether one place comes before another on a path that begins at a third.
 fn comes_first(start: usize, a: usize, b: usize) -> bool
-    ensures { λ r. ⌜ r ≡ earlier start a b ⌝ }
+    ensures { λ r. ⌜ r ≡ comesFirst start a b ⌝ }
 {
     if start <= a {
         (b < start) | (a < b)

@@ -5,7 +5,6 @@ use mathlib.Core.List.{List, [], _∷_, map, List·Memᴰ·cases-cons, List·Mem
 use mathlib.Core.Logic.{_⊎_, ⊎-elim}
 use mathlib.Core.Option.{Option, none, some}
 use Prim.Native.Nat.{ℕ, zero, suc, _-_, _<_, _≤_}
-use native.Mathlib.Nat.{suc-ne-zero}
 use native.Mathlib.Omega.{arith}
 use borrow.Author.Tests.{eq-eqb, ne-eqb}
 use lib.Dec.{eqb}
@@ -41,10 +40,10 @@ use Rattle.racing.specs.declared.Raced.the-variants as raced
 use Rattle.racing.specs.declared.Went.{Went}
 use Rattle.racing.specs.declared.Went.the-variants.{On, Not}
 use Rattle.fronts.specs.Fronts.{marking, Held, roomsOf}
-use Rattle.racing.specs.Racing.{unlabelled, Ready, Goes, Blank, Sown, Emptied, Laid, Finished}
+use Rattle.racing.specs.Racing.{unlabelled, MayStep, Goes, Blank, Sown, Emptied, Laid, Finished}
 use Rattle.fronts.proofs.Marking.{stored-here}
 use Rattle.fronts.proofs.Walking.{stopped-then}
-use Rattle.racing.proofs.Marching.{same-rooms}
+use Rattle.racing.proofs.Marching.{no-cells, same-rooms}
 use Rattle.racing.proofs.Labelling.{relabel, labelled, labels-ascend, distances-same, distance-labelled, labelled-from, keys-back}
 
 -- ---- blank lists
@@ -77,7 +76,7 @@ cleared ks₀ cs₀ ds₀ es₀ ks cs ds es p q a b c d =
       cells = d ∙ ap (λ (i : ℕ). replicate i 0) w;
     }
 
-pub blank-ready : (lean : Bool) (ks : List ℕ) (ds es : List Float) (cs : List ℕ) → Blank ks ds es cs → Ready lean nothing 0 ks ds 0 es cs
+pub blank-ready : (lean : Bool) (ks : List ℕ) (ds es : List Float) (cs : List ℕ) → Blank ks ds es cs → MayStep lean nothing 0 ks ds 0 es cs
 unfolding padded orWaits distanceOf member ascending marking
 blank-ready lean ks ds es cs h =
     record {
@@ -118,14 +117,10 @@ all-in [] a r m = absurd (List·Memᴰ·not-nil m)
 all-in (s ∷ rs) a r m =
     ⊎-elim (λ (e : r ≡ s). ap (λ (x : MarchedRow). onLattice (x .key)) e ∙ a .0) (λ n. all-in rs (a .1) r n) (List·Memᴰ·cases-cons m)
 
-nil : (cs : List Cell) → 0 ≡ length cs → cs ≡ []
-nil [] e = refl
-nil (c ∷ cs) e = absurd (suc-ne-zero _ (sym e))
-
 module _ (s : State) (n : ℕ) (ks : List ℕ) (ds es : List Float) (cs : List ℕ) (h : Held true s n ks ds 0 es cs)
     (own : All (λ (r : MarchedRow). onLattice (r .key) ≡ true) (s .stored)) where
   pub empty : s .waiting ≡ []
-  empty = nil (s .waiting) (h .front .heap .counted)
+  empty = no-cells (s .waiting) (h .front .heap .counted)
 
   bare : Marked (s .stored) [] ks ds
   unfolding marking

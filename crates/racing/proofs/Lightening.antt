@@ -17,12 +17,12 @@ use Rattle.marching.proofs.Sound.{After, after-on, after-weaken}
 use Rattle.marching.proofs.Crowding.{Fuller, sow-adds, Took, taking-adds}
 use Rattle.fronts.specs.declared.Step.{Step}
 use Rattle.fronts.specs.declared.Step.the-variants.{On, Not}
-use Rattle.fronts.specs.Fronts.{roomsOf, Held, Roomy, Left}
+use Rattle.fronts.specs.Fronts.{roomsOf, Held, MarksFit, Left}
 use Rattle.fronts.proofs.Stepping.{uncons}
 use Rattle.thinning.specs.Thinning.{kindOf, Lightens}
 use Rattle.thinning.proofs.Forgetting.{roomy}
 use Rattle.racing.specs.declared.Went.{Went}
-use Rattle.racing.specs.Racing.{sowIf, Ready, wentOf, Goes}
+use Rattle.racing.specs.Racing.{sowIf, MayStep, wentOf, Goes}
 use Rattle.racing.proofs.Marching.{same-rooms}
 
 -- ---- what a step adds
@@ -42,11 +42,11 @@ take-most c m s w e l =
 -- ---- a step of the kind that it is
 
 module _ (lean : Bool) (n w : ℕ) (ks : List ℕ) (ds es : List Float) (cs : List ℕ) (kind : Bool) (is : kind ≡ kindOf lean (length ks) n w) (ks₁ : List ℕ)
-    (ds₁ : List Float) (lists : Lightens lean n w cs ks ds kind ks₁ ds₁) (wide : length ks₁ ≡ length ks) (s : State) (h : Ready lean s n ks ds w es cs) where
+    (ds₁ : List Float) (lists : Lightens lean n w cs ks ds kind ks₁ ds₁) (wide : length ks₁ ≡ length ks) (s : State) (h : MayStep lean s n ks ds w es cs) where
   held : Held kind s n ks₁ ds₁ w es cs
   held = lists s es (h .held) (h .spare)
 
-  room : (k : ℕ) → Roomy kind (suc (length (neighbours k))) s ks₁
+  room : (k : ℕ) → MarksFit kind (suc (length (neighbours k))) s ks₁
   room k q =
       let a = roomy lean (length ks) n w kind is q in
       let b = at-most-14 k in
@@ -85,7 +85,7 @@ module _ (lean : Bool) (n w : ℕ) (ks : List ℕ) (ds es : List Float) (cs : Li
       → (o : Step) (ks' : List ℕ) (ds' es' : List Float) (cs' : List ℕ)
       → length ks' ≡ length ks₁
       → (Held kind s n ks₁ ds₁ w es cs
-      → Roomy kind (suc (length (neighbours (x .key)))) s ks₁
+      → MarksFit kind (suc (length (neighbours (x .key)))) s ks₁
       → Left kind (sow neighbours (roomsOf ks₁ cs) (marchedRow (x .key) (x .distance)) s) o ks' ds' es' cs')
       → (r : Went)
       → r ≡ wentOf o kind
@@ -105,7 +105,7 @@ module _ (lean : Bool) (n w : ℕ) (ks : List ℕ) (ds es : List Float) (cs : Li
       → (o : Step) (ks' : List ℕ) (ds' es' : List Float) (cs' : List ℕ)
       → length ks' ≡ length ks₁
       → (Held kind s n ks₁ ds₁ w es cs
-      → ((k : ℕ) → Roomy kind (suc (length (neighbours k))) s ks₁)
+      → ((k : ℕ) → MarksFit kind (suc (length (neighbours k))) s ks₁)
       → Left kind (march.take (latticeOf c) (roomsOf ks₁ cs) s) o ks' ds' es' cs')
       → (r : Went)
       → r ≡ wentOf o kind

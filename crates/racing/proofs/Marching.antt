@@ -36,7 +36,7 @@ use Rattle.fronts.specs.Fronts.{marking, Held, roomsOf, Stopped, ToldOnce, Told
 use Rattle.racing.specs.declared.Raced.the-variants as raced
 use Rattle.racing.specs.declared.Went.{Went}
 use Rattle.racing.specs.declared.Went.the-variants.{On, Not}
-use Rattle.racing.specs.Racing.{Tabled, sowIf, Ready, Goes, Sown, Emptied}
+use Rattle.racing.specs.Racing.{Tabled, sowIf, MayStep, Goes, Sown, Emptied}
 use Rattle.fronts.proofs.Walking.{stopped-then, stopped-by}
 use Rattle.fronts.proofs.Stepping.{uncons}
 
@@ -52,10 +52,14 @@ pub record TakeAt (lean : Bool) (seed : ℕ → Bool) (f : Field) (m : Rooms) (w
   pub now : State
   pub sound : Sound m k now
   pub known : Known f seed now
-  pub ready : Ready lean now n ks ds w es cs
+  pub ready : MayStep lean now n ks ds w es cs
   pub left : ℕ
   pub counts : left + k ≡ suc (m .rows)
   pub rest : whole ≡ takeUpTo f m left now
+
+pub no-cells : (cs : List Cell) → 0 ≡ length cs → cs ≡ []
+no-cells [] e = refl
+no-cells (c ∷ cs) e = absurd (suc-ne-zero _ (sym e))
 
 -- where no cell waits, the lists are those of a lean march
 lean-ended : (lean : Bool) (s : State) (n : ℕ) (ks : List ℕ) (ds : List Float) (w : ℕ) (es : List Float) (cs : List ℕ)
@@ -129,7 +133,7 @@ module _ (lean : Bool) (seed : ℕ → Bool) (f : Field) (back : (k l : ℕ) →
         at .rest ∙ crowded f few m (at .left) k (at .now) (at .sound) (omega arith) (rw (← p, ← q, ← c, ← d) full)
 
     module _ (l : 0 < w) (r : Went) (ks' : List ℕ) (ds' es' : List Float) (cs' : List ℕ)
-        (did : (s : State) → Ready lean s n ks ds w es cs → ToldFirst seed f s → Goes (march.take f (roomsOf ks cs) s) r ks' ds' es' cs') where
+        (did : (s : State) → MayStep lean s n ks ds w es cs → ToldFirst seed f s → Goes (march.take f (roomsOf ks cs) s) r ks' ds' es' cs') where
       done : (o : Went) → r ≡ o → Goes (march.take f m (at .now)) o ks' ds' es' cs'
       done o e =
           subst (λ (x : Rooms). Goes (march.take f x (at .now)) o ks' ds' es' cs') (same-rooms m ks cs p q)
@@ -166,17 +170,13 @@ module _ (lean : Bool) (seed : ℕ → Bool) (f : Field) (back : (k l : ℕ) →
   take-finish p l =
       let z : w ≡ 0 = omega arith in
       let h = subst (λ (x : ℕ). Held lean (at .now) n ks ds x es cs) z (at .ready .held) in
-      let e = nil (at .now .waiting) (sym (h .front .heap .counted)) in (
+      let e = no-cells (at .now .waiting) (h .front .heap .counted) in (
         at .now,
         (
           at .rest ∙ empty-stays m f (at .left) (at .now) e,
           (at .sound .taken, (lean-ended lean (at .now) n ks ds 0 es cs e h, let c = at .ready .held .count in let f = at .sound .rowsFit in omega arith)),
         ),
       )
-    where
-      nil : (cs : List Cell) → length cs ≡ 0 → cs ≡ []
-      nil [] e = refl
-      nil (c ∷ cs) e = absurd (suc-ne-zero _ e)
 
 -- ---- seeds
 
@@ -200,7 +200,7 @@ pub sow-if-not :
     (lean : Bool) (t : Float) (near : ℕ → List ℕ) (m : Rooms) (x : Row) (s : State)
     → isSeed t x ≡ false
     → (n : ℕ) (ks : List ℕ) (ds : List Float) (w : ℕ) (es : List Float) (cs : List ℕ)
-    → Ready lean s n ks ds w es cs
+    → MayStep lean s n ks ds w es cs
     → Goes (sowIf t near m x s) (On n w lean) ks ds es cs
 unfolding sowIf Goes
 sow-if-not lean t near m x s e n ks ds w es cs h = (s, (rw e, h))
@@ -255,7 +255,7 @@ seed-told f seed t r rs s h e d u st w =
 pub record SowAt (lean : Bool) (seed : ℕ → Bool) (f : Field) (t : Float) (m : Rooms) (rs : List Row) (i n : ℕ) (ks : List ℕ) (ds : List Float) (w : ℕ)
     (es : List Float) (cs : List ℕ) : Type 0 where
   pub now : State
-  pub ready : Ready lean now n ks ds w es cs
+  pub ready : MayStep lean now n ks ds w es cs
   pub once : Once (tableKeys (drop i rs))
   pub apart : Apart m (tableKeys (drop i rs)) now
   pub sowing : Sowing f seed (seeds t (drop i rs)) now
@@ -265,7 +265,7 @@ pub sow-start :
     (lean : Bool) (seed : ℕ → Bool) (f : Field) (t : Float) (m : Rooms) (rs : List Row) (ks : List ℕ) (ds es : List Float) (cs : List ℕ)
     → ascending (tableKeys rs) ≡ true
     → ((k : ℕ) → member k (keysOf (seeds t rs)) ≡ seed k)
-    → Ready lean nothing 0 ks ds 0 es cs
+    → MayStep lean nothing 0 ks ds 0 es cs
     → SowAt lean seed f t m rs 0 0 ks ds 0 es cs
 sow-start lean seed f t m rs ks ds es cs a seeds-are h =
     record {
@@ -308,7 +308,7 @@ module _ (lean : Bool) (seed : ℕ → Bool) (f : Field) (back : (k l : ℕ) →
     module _ (p : length ks ≡ m .rows) (q : length cs ≡ m .cells) (r : Went) (ks' : List ℕ) (ds' es' : List Float)
         (cs' : List ℕ)
         (did : (s : State)
-        → Ready lean s n ks ds w es cs
+        → MayStep lean s n ks ds w es cs
         → member (x .key) (keysOf (s .stored)) ≡ false
         → (isSeed t x ≡ true → ToldOnce seed f (x .key) s)
         → Goes (sowIf t (f .near) (roomsOf ks cs) x s) r ks' ds' es' cs') where

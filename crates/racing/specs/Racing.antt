@@ -33,7 +33,7 @@ unfoldable pub sowIf : Float → (ℕ → List ℕ) → Rooms → Row → State 
 sowIf threshold near m r s = cond (isSeed threshold r) (sow near m (marchedRow (r .key) (r .distance)) s) (on s)
 
 -- four lists hold a state from which a step may be taken: in a march with marks of waiting cells a place is empty, once a cell waits
-pub record Ready (lean : Bool) (s : State) (n : ℕ) (ks : List ℕ) (ds : List Float) (w : ℕ) (es : List Float) (cs : List ℕ) : Type 0 where
+pub record MayStep (lean : Bool) (s : State) (n : ℕ) (ks : List ℕ) (ds : List Float) (w : ℕ) (es : List Float) (cs : List ℕ) : Type 0 where
   pub held : Held lean s n ks ds w es cs
   pub spare : Spare lean n w ks
 
@@ -44,7 +44,7 @@ wentOf (step.Not why) lean = went.Not why
 
 -- what a step leaves, from which the next may be taken; or why it stopped
 unfoldable pub Goes : Going → Went → List ℕ → List Float → List Float → List ℕ → Type 0
-Goes g (went.On n w lean) ks ds es cs = (t : State) × ((g ≡ on t) × Ready lean t n ks ds w es cs)
+Goes g (went.On n w lean) ks ds es cs = (t : State) × ((g ≡ on t) × MayStep lean t n ks ds w es cs)
 Goes g (went.Not why) ks ds es cs = Stopped g why
 
 -- the four lists are zero
@@ -59,7 +59,7 @@ pub record Sown (rs : List MarchedRow) (near : ℕ → List ℕ) (lean : Bool) (
     (cs : List ℕ) : Type 0 where
   pub ascends : ascending (keysOf rs) ≡ true
   pub sown : sowAll near (roomsOf ks cs) rs nothing ≡ on s
-  pub ready : Ready lean s n ks ds w es cs
+  pub ready : MayStep lean s n ks ds w es cs
 
 -- no cell waits any more, and the rows have a place
 unfoldable pub Emptied : Going → Raced → List ℕ → List Float → List Float → List ℕ → Type 0

@@ -26,7 +26,7 @@ ghost use Rattle.marching.specs.Lattice.{latticeOf, marchFrom};
 ghost use Rattle.marching.specs.Spreading.{seedIn};
 ghost use Rattle.hearing.specs.Hearing.{Lent};
 ghost use Rattle.fronts.specs.Fronts.{Fair, Paired, roomsOf, ToldOnce, ToldFirst};
-ghost use Rattle.racing.specs.Racing.{Tabled, sowIf, Ready, wentOf, Goes, Blank, Sown, Emptied, unlabelled, Finished};
+ghost use Rattle.racing.specs.Racing.{Tabled, sowIf, MayStep, wentOf, Goes, Blank, Sown, Emptied, unlabelled, Finished};
 
 // A march's answer: how many rows and how many takings.
 pub enum Raced {
@@ -73,7 +73,7 @@ fn sow_if(
         × Paired (now keys) (now distances) (now estimates) (now cells) ⌝ }
     requires { ⌜ (onLattice key ≡ true) × ((isFinite distance ≡ true) × (waiting ≤ length (now cells))) ⌝ }
     ensures { λ r. ⌜ ((s : State)
-        → Ready lean s count (now (keys .entry)) (now (distances .entry)) waiting (now (estimates .entry)) (now (cells .entry))
+        → MayStep lean s count (now (keys .entry)) (now (distances .entry)) waiting (now (estimates .entry)) (now (cells .entry))
         → member key (keysOf (s .stored)) ≡ false
         → (isSeed threshold (row key distance weight) ≡ true → ToldOnce (seedIn threshold
         (rowsOf (now («fused_keys» .entry)) (now («fused_distances» .entry)) (now («fused_weights» .entry)) «fused_count»)) (latticeOf course) key s)
@@ -178,7 +178,7 @@ fn take_next(
         × Paired (now keys) (now distances) (now estimates) (now cells) ⌝ }
     requires { ⌜ (0 < waiting) × ((waiting ≤ length (now cells)) × (Fair course × (onLattice (getD (now cells) 0 0) ≡ true))) ⌝ }
     ensures { λ r. ⌜ ((s : State)
-        → Ready lean s count (now (keys .entry)) (now (distances .entry)) waiting (now (estimates .entry)) (now (cells .entry))
+        → MayStep lean s count (now (keys .entry)) (now (distances .entry)) waiting (now (estimates .entry)) (now (cells .entry))
         → ToldFirst (seedIn threshold
         (rowsOf (now («fused_keys» .entry)) (now («fused_distances» .entry)) (now («fused_weights» .entry)) «fused_count»)) (latticeOf course) s
         → Goes (take (latticeOf course) (roomsOf (now (keys .entry)) (now (cells .entry))) s) r

@@ -2,7 +2,6 @@
 use mathlib.Core.Path.{_≡_, refl, sym, ap, subst, _∙_}
 use mathlib.Core.Bool.{Bool, true, false, cond, not, _&&_, _||_, or-true, true≢false}
 use mathlib.Core.List.{List, [], _∷_, map}
-use mathlib.Core.Logic.{⊎-elim}
 use mathlib.Core.Option.{Option, none, some}
 use Prim.Native.Nat.{ℕ, zero, suc, _+_, _/_, _-_, _<_, _≤_, zero-le, suc-le-suc}
 use native.Mathlib.Numerals.{add-one}
@@ -17,7 +16,7 @@ use Rattle.heap.specs.Heap.{cellAt, Heaped}
 use Rattle.heap.proofs.Tallies.{tally-some, some-tally, count-some, some-count}
 use Rattle.ids.specs.Key.{onLattice}
 use Rattle.lists.specs.Lists.{_∈_, kept}
-use Rattle.lists.proofs.Bools.{cases, or-cases}
+use Rattle.lists.proofs.Bools.{cases}
 use Rattle.lists.proofs.ListLaws.{in-map, map-in, at-in}
 use Rattle.marks.specs.declared.Spot.the-variants.{At, Absent}
 use Rattle.marks.specs.Marks.{label, spotOf, look, Kept, Gone, Leaves}
@@ -26,21 +25,21 @@ use Rattle.search.specs.Keys.{member}
 use Rattle.marching.specs.March.{MarchedRow, Cell, State, cellsOf, distanceOf}
 use Rattle.marching.proofs.Spreading.{member-in, in-member}
 use Rattle.hearing.specs.Hearing.{orWaits, markOf, said, Marked}
-use Rattle.hearing.proofs.Fitting.{marks-fit}
+use Rattle.hearing.proofs.Fitting.{in-at, marks-fit}
 use Rattle.hearing.proofs.Saying.{known-at, unmarked, said-some, said-none}
 use Rattle.hearing.proofs.Walking.{real-key}
 use Rattle.fronts.specs.Fronts.{marking, Front, Held}
-use Rattle.thinning.specs.Thinning.{without, Thins, hasRoom, kindOf, Spare, Lightens}
+use Rattle.thinning.specs.Thinning.{allBut, Thins, hasRoom, kindOf, Spare, Lightens}
 
 -- ---- the cells but for one
 
-without-member : (k : ℕ) (ws : List ℕ) (j : ℕ) → member j (without k ws) ≡ not (eqb k j) && member j ws
+but-member : (k : ℕ) (ws : List ℕ) (j : ℕ) → member j (allBut k ws) ≡ not (eqb k j) && member j ws
 unfolding kept member
-without-member k [] j = cases (λ (b : Bool). false ≡ not b && false) (eqb k j) (λ _. refl) (λ _. refl)
-without-member k (w ∷ ws) j =
-    cases (λ (b : Bool). eqb w k ≡ b → member j (cond (not b) (w ∷ without k ws) (without k ws)) ≡ not (eqb k j) && (eqb w j || member j ws)) (eqb w k)
-    (λ _ e. without-member k ws j ∙ same (eqb k j) (eqb w j) (member j ws) (λ q. eq-or e q))
-    (λ _ e. rw (without-member k ws j) (other (eqb k j) (eqb w j) (member j ws) (λ p q. apart e p q))) refl
+but-member k [] j = cases (λ (b : Bool). false ≡ not b && false) (eqb k j) (λ _. refl) (λ _. refl)
+but-member k (w ∷ ws) j =
+    cases (λ (b : Bool). eqb w k ≡ b → member j (cond (not b) (w ∷ allBut k ws) (allBut k ws)) ≡ not (eqb k j) && (eqb w j || member j ws)) (eqb w k)
+    (λ _ e. but-member k ws j ∙ same (eqb k j) (eqb w j) (member j ws) (λ q. eq-or e q))
+    (λ _ e. rw (but-member k ws j) (other (eqb k j) (eqb w j) (member j ws) (λ p q. apart e p q))) refl
   where
     eq-or : eqb w k ≡ true → eqb k j ≡ false → eqb w j ≡ false
     eq-or e q = ne-eqb w j (λ z. eqb-false k j q (sym (eqb-true w k e) ∙ z))
@@ -57,61 +56,61 @@ without-member k (w ∷ ws) j =
     other true false c h = refl
     other false b c h = refl
 
-without-few : (k : ℕ) (ws : List ℕ) → length (without k ws) ≤ length ws
+but-few : (k : ℕ) (ws : List ℕ) → length (allBut k ws) ≤ length ws
 unfolding kept
-without-few k [] = zero-le
-without-few k (w ∷ ws) =
-    cases (λ (b : Bool). length (cond (not b) (w ∷ without k ws) (without k ws)) ≤ suc (length ws)) (eqb w k)
-    (λ _. let l = without-few k ws in omega arith) (λ _. suc-le-suc (without-few k ws))
+but-few k [] = zero-le
+but-few k (w ∷ ws) =
+    cases (λ (b : Bool). length (cond (not b) (w ∷ allBut k ws) (allBut k ws)) ≤ suc (length ws)) (eqb w k)
+    (λ _. let l = but-few k ws in omega arith) (λ _. suc-le-suc (but-few k ws))
 
 -- ---- one mark
 
 module _ (k : ℕ) (real : k ≡ 1 → ⊥) (rs : List MarchedRow) (ws ks : List ℕ) (ds : List Float) (h : Marked rs ws ks ds) where
-  without-marked :
+  but-marked :
       (ks' : List ℕ) (ds' : List Float)
       → Kept ks'
       → length ds' ≡ length ks'
       → look k ks' ds' ≡ orWaits (distanceOf k rs) false
       → ((j : ℕ) → (label j ≡ label k → ⊥) → look j ks' ds' ≡ look j ks ds)
-      → Marked rs (without k ws) ks' ds'
-  without-marked ks' ds' kept' long here others =
+      → Marked rs (allBut k ws) ks' ds'
+  but-marked ks' ds' kept' long here others =
       record {
         marks =
             λ j n.
             cases (λ (b : Bool). eqb k j ≡ b → look j ks' ds' ≡ orWaits (distanceOf j rs) (not b && member j ws)) (eqb k j)
             (λ _ e. let z = eqb-true k j e in rw (← z) here)
             (λ _ e. others j (λ q. eqb-false k j e (sym (label-own j k n real q))) ∙ h .marks j n) refl
-            ∙ rw (without-member k ws j);
+            ∙ rw (but-member k ws j);
         kept = kept';
         long = long;
         finite = h .finite;
         ascends = h .ascends;
       }
 
-  pub forget-absent : (p : ℕ) → spotOf k ks ≡ Absent p → Marked rs (without k ws) ks ds
+  pub forget-absent : (p : ℕ) → spotOf k ks ≡ Absent p → Marked rs (allBut k ws) ks ds
   unfolding orWaits
   forget-absent p e =
       let none-there = value-absent (label k) ks ds p e in
-      without-marked ks ds (h .kept) (h .long) (none-there ∙ rw (unmarked rs ws ks ds h k real none-there .0)) (λ j n. refl)
+      but-marked ks ds (h .kept) (h .long) (none-there ∙ rw (unmarked rs ws ks ds h k real none-there .0)) (λ j n. refl)
 
   module _ (p : ℕ) (at : spotOf k ks ≡ At p) where
-    pub forget-stored : isFinite (getD ds p nan) ≡ true → Marked rs (without k ws) ks ds
+    pub forget-stored : isFinite (getD ds p nan) ≡ true → Marked rs (allBut k ws) ks ds
     unfolding orWaits
     forget-stored f =
         let d = said-some (getD ds p nan) (distanceOf k rs) (known-at rs ws ks ds h k real p at) f in
-        without-marked ks ds (h .kept) (h .long) (value-at (label k) ks ds p at ∙ rw d) (λ j n. refl)
+        but-marked ks ds (h .kept) (h .long) (value-at (label k) ks ds p at ∙ rw d) (λ j n. refl)
 
     pub forget-waiting :
         isFinite (getD ds p nan) ≡ false
         → length rs + length ws < length ks
         → (ks' : List ℕ) (ds' : List Float)
         → Leaves p ks ds ks' ds'
-        → Marked rs (without k ws) ks' ds'
+        → Marked rs (allBut k ws) ks' ds'
     unfolding orWaits
     forget-waiting f few ks' ds' left =
         let d = said-none (getD ds p nan) (distanceOf k rs) (known-at rs ws ks ds h k real p at) f in
         let g = left k at (record { kept = h .kept; long = h .long; room = let m = marks-fit rs ws ks ds h in omega arith }) in
-        without-marked ks' ds' (g .kept) (g .values ∙ sym (g .places)) (g .value ∙ rw d) (g .others)
+        but-marked ks' ds' (g .kept) (g .values ∙ sym (g .places)) (g .value ∙ rw d) (g .others)
 
 -- ---- the loop
 
@@ -138,7 +137,7 @@ module _ (w : ℕ) (cs ks₀ : List ℕ) (ds₀ : List Float) where
         → Marked rs ws ks ds
         → length rs + length ws < length ks
         → (getD cs i 0 ≡ 1 → ⊥)
-        → Marked rs (without (getD cs i 0) ws) ks' ds')
+        → Marked rs (allBut (getD cs i 0) ws) ks' ds')
         → Thinning w cs ks₀ ds₀ (i + 1) ks' ds'
     unfolding member
     thin-more l long ks' ds' did rs ws h own real few =
@@ -148,16 +147,16 @@ module _ (w : ℕ) (cs ks₀ : List ℕ) (ds₀ : List Float) where
         drop-cons (take w cs) i 0 n ∙ ap (λ (y : ℕ). y ∷ drop (suc i) (take w cs)) (getD-take w cs i 0 l) in
         let in-list : member (getD cs i 0) (take w cs) ≡ true =
         in-member (getD cs i 0) (take w cs) (subst (λ (y : ℕ). y ∈ take w cs) (getD-take w cs i 0 l) (at-in (take w cs) 0 i n)) in
-        let fewer = without-few (getD cs i 0) (x .0) in
+        let fewer = but-few (getD cs i 0) (x .0) in
         let shorter = x .1 .1 .1 in
         let enough = few (omega arith) in (
-          without (getD cs i 0) (x .0),
+          allBut (getD cs i 0) (x .0),
           (
             did rs (x .0) (x .1 .0) (omega arith) (real (getD cs i 0) in-list),
             (
               λ j m.
                   rw (add-one i)
-                  (left (eqb (getD cs i 0) j) (member j (x .0)) (member j (drop (suc i) (take w cs))) (sym (without-member (getD cs i 0) (x .0) j) ∙ m)
+                  (left (eqb (getD cs i 0) j) (member j (x .0)) (member j (drop (suc i) (take w cs))) (sym (but-member (getD cs i 0) (x .0) j) ∙ m)
                   (λ q. sym (ap (member j) here) ∙ x .1 .1 .0 j q)),
               omega arith,
             ),
@@ -182,14 +181,6 @@ module _ (w : ℕ) (cs ks₀ : List ℕ) (ds₀ : List Float) where
 
 -- ---- the cells of a heap
 
--- a member stands at a place
-place : (j : ℕ) (l : List ℕ) → member j l ≡ true → (i : ℕ) × ((i < length l) × (getD l i 0 ≡ j))
-unfolding member
-place j [] e = absurd (true≢false (sym e))
-place j (x ∷ xs) e =
-    ⊎-elim (λ q. (zero, (suc-le-suc zero-le, eqb-true x j q))) (λ q. let r = place j xs q in (suc (r .0), (suc-le-suc (r .1 .0), r .1 .1)))
-    (or-cases (eqb x j) (member j xs) e)
-
 module _ (ws : List Cell) (w : ℕ) (es : List Float) (cs : List ℕ) (h : Heaped ws w es cs) where
   abbrev is : ℕ → Cell → Bool
   is j c = eqb (c .key) j
@@ -206,7 +197,7 @@ module _ (ws : List Cell) (w : ℕ) (es : List Float) (cs : List ℕ) (h : Heape
   -- and each of those waits
   pub there-waiting : (j : ℕ) → member j (take w cs) ≡ true → member j (cellsOf ws) ≡ true
   there-waiting j m =
-      let i = place j (take w cs) m in
+      let i = in-at (take w cs) (member-in j (take w cs) m) in
       let l : i .0 < w = let a = i .1 .0 in let b = length-take-le w cs (h .fits) in omega arith in
       let e : getD cs (i .0) 0 ≡ j = sym (getD-take w cs (i .0) 0 l) ∙ i .1 .1 in
       let c = some-count (is j) ws (rw (← h .holds (is j)) (tally-some (is j) (cellAt es cs) (i .0) w l (eq-eqb (getD cs (i .0) 0) j e))) in

@@ -13,8 +13,8 @@ use Rattle.hearing.specs.Hearing.{Marked}
 use Rattle.fronts.specs.Fronts.{Held}
 
 -- the cells but for k
-abbrev pub without : ℕ → List ℕ → List ℕ
-without k ws = kept (λ (j : ℕ). not (eqb j k)) ws
+abbrev pub allBut : ℕ → List ℕ → List ℕ
+allBut k ws = kept (λ (j : ℕ). not (eqb j k)) ws
 
 -- where the marks of waiting cells are those of the first w of a list, and a place is empty, stored cells alone have a mark afterwards
 abbrev pub Thins : ℕ → List ℕ → List ℕ → List Float → List ℕ → List Float → Type 0

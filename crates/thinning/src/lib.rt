@@ -8,7 +8,7 @@ ghost use Prim.Native.Nat.{ℕ, _+_, _<_, _≤_};
 ghost use lib.ListN.{length};
 ghost use Rattle.marching.specs.March.{MarchedRow};
 ghost use Rattle.hearing.specs.Hearing.{Marked};
-ghost use Rattle.thinning.specs.Thinning.{without, Thins, hasRoom, kindOf, Lightens};
+ghost use Rattle.thinning.specs.Thinning.{allBut, Thins, hasRoom, kindOf, Lightens};
 
 // The mark of a cell goes, unless it is stored.
 fn forget(keys: &mut [u64], distances: &mut [f32], key: u64)
@@ -17,7 +17,7 @@ fn forget(keys: &mut [u64], distances: &mut [f32], key: u64)
         → Marked rs ws (now (keys .entry)) (now (distances .entry))
         → length rs + length ws < length (now (keys .entry))
         → (key ≡ 1 → ⊥)
-        → Marked rs (without key ws) (now (keys .exit)) (now (distances .exit))) ⌝ }
+        → Marked rs (allBut key ws) (now (keys .exit)) (now (distances .exit))) ⌝ }
 {
     let Spot::At(place) = find(keys, key) else {
         return;
