@@ -88,7 +88,8 @@ tested-table s ks ds ws n threshold fit e =
     record {
       lent = record { fits = l .0; distances = l .1; weights = l .2; ascends = h .order };
       lattice = λ i k. and-first (onLattice (getD ks i 0)) _ (at h l i k);
-      finite = λ i k. within-finite million (getD ds i nan) finite-million (and-first (within million (getD ds i nan)) _ (and-second (onLattice (getD ks i 0)) _ (at h l i k)));
+      finite = λ i k. within-finite million (getD ds i nan) finite-million
+          (and-first (within million (getD ds i nan)) _ (and-second (onLattice (getD ks i 0)) _ (at h l i k)));
     }
   where
     finite-million : isFinite million ≡ true
@@ -112,7 +113,8 @@ unfolding ofBits
 tested-course s t threshold fit e =
     let f = settings-known s (tests s t threshold fit e .settings) .farthest in
     let k = farthest-known (s .«max_distance» .0) f in
-    record { least = k .0; finite = between-finite zero32 million (s .«max_distance» .0) refl refl (and-first (between zero32 million (s .«max_distance» .0)) _ f) }
+    let b = and-first (between zero32 million (s .«max_distance» .0)) _ f in
+    record { least = k .0; finite = between-finite zero32 million (s .«max_distance» .0) refl refl b }
 
 -- the lists of a set are equally long
 sets-equal : (a b c d : ℕ) → setOk a b && setOk c d ≡ true → (b ≡ a) × (c ≡ d)

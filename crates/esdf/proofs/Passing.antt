@@ -50,7 +50,8 @@ module _ (p : Places) (n k : ℕ) where
       → marchedCheck (marchedTable (computed s t threshold p .keys) (computed s t threshold p .distances) n) ≡ checked.Passed
   unfolding left marching marchCheck
   computed-passes s t threshold e =
-      answered-passes (marchCheck s t threshold (placesOk p)) (marchFrom (s .«voxel_size» .0) (s .«max_distance» .0) (rooms (p .keys) (p .cells)) threshold (rows t))
+      answered-passes (marchCheck s t threshold (placesOk p))
+      (marchFrom (s .«voxel_size» .0) (s .«max_distance» .0) (rooms (p .keys) (p .cells)) threshold (rows t))
       (λ v st g.
       let a = with-passed (placesOk p) s t (went-on (checkWith (placesOk p) s t) (need (isFinite threshold) BadReading checked.Passed) v .0) in
       let pair = and-first (setOk (p .keys) (p .distances)) _ (a .0) in

@@ -260,7 +260,8 @@ module _ (lean : Bool) (seed : ℕ → Bool) (f : Field) (s : State) (n : ℕ) (
   take-settles a told room r ks' ds' es'' cs'' did =
       let o : member (getD cs 0 0) (keysOf (s .stored)) ≡ false = no-stored (getD cs 0 0) (s .stored) (here ∙ rw a) in
       let once : ToldOnce seed f (getD cs 0 0) after =
-      subst (λ (k : ℕ). ToldOnce seed f k after) (sym key-is) (told (parts .0) (parts .1 .0) (parts .1 .1) (sym (ap (λ (k : ℕ). isStored k (s .stored)) key-is) ∙ o)) in
+      subst (λ (k : ℕ). ToldOnce seed f k after) (sym key-is)
+      (told (parts .0) (parts .1 .0) (parts .1 .1) (sym (ap (λ (k : ℕ). isStored k (s .stored)) key-is) ∙ o)) in
       subst (λ (g : Going). Left lean g r ks' ds' es'' cs'') (sym (taken ∙ rw o))
       (subst (λ (m : ℕ). Left lean (settle f (rooms (length ks) m) (getD cs 0 0) after) r ks' ds' es'' cs'') long
       (did after
@@ -316,14 +317,16 @@ module _ (c : Course) (lean : Bool) (seed : ℕ → Bool) (k n : ℕ) (ks : List
     unfolding sow
     sow-no-cell why a =
         no-cell lean seed (latticeOf c) k (store (length ks) (marchedRow k d) s) (waitAll (length cs) (sizeOf d) (neighbours k)) s w es cs
-        (h .front .heap) (h .front .lattice) p ks₁ ds₁ sown-row (λ t g. told-stored seed (latticeOf c) k s told (length ks) d t g) after-room m e q ks' ds' es' cs'
+        (h .front .heap) (h .front .lattice) p ks₁ ds₁ sown-row (λ t g. told-stored seed (latticeOf c) k s told (length ks) d t g) after-room m e q
+        ks' ds' es' cs'
         (with-size lean seed (latticeOf c) k (length cs) x (sizeOf d) (neighbours k) ks₁ ds₁ w es cs q ks' ds' es' cs' is waits) why a
 
     pub sow-done : (w' : ℕ) → q ≡ Now w' → Left lean (sow neighbours (roomsOf ks cs) (marchedRow k d) s) (step.On m w') ks' ds' es' cs'
     unfolding sow
     sow-done w' a =
         both-done lean seed (latticeOf c) k (store (length ks) (marchedRow k d) s) (waitAll (length cs) (sizeOf d) (neighbours k)) s w es cs
-        (h .front .heap) (h .front .lattice) p ks₁ ds₁ sown-row (λ t g. told-stored seed (latticeOf c) k s told (length ks) d t g) after-room m e q ks' ds' es' cs'
+        (h .front .heap) (h .front .lattice) p ks₁ ds₁ sown-row (λ t g. told-stored seed (latticeOf c) k s told (length ks) d t g) after-room m e q
+        ks' ds' es' cs'
         (with-size lean seed (latticeOf c) k (length cs) x (sizeOf d) (neighbours k) ks₁ ds₁ w es cs q ks' ds' es' cs' is waits) w' a
 
 -- a taken cell is settled
@@ -352,10 +355,12 @@ module _ (c : Course) (fair : Fair c) (lean : Bool) (seed : ℕ → Bool) (k n :
     settle-no-cell why a =
         settle-by lean (latticeOf c) (roomsOf ks cs) k s d is (step.Not why) ks' ds' es' cs'
         (no-cell lean seed (latticeOf c) k (store (length ks) (marchedRow k d) s) (spread (latticeOf c) (length cs) (marchedRow k d)) s w es cs
-        (h .heap) (h .lattice) p ks₁ ds₁ settled-row (λ t g. told-stored seed (latticeOf c) k s told (length ks) d t g) settled-room m e q ks' ds' es' cs' waits why a)
+        (h .heap) (h .lattice) p ks₁ ds₁ settled-row (λ t g. told-stored seed (latticeOf c) k s told (length ks) d t g) settled-room m e q ks' ds' es'
+        cs' waits why a)
 
     pub settle-done : (w' : ℕ) → q ≡ Now w' → Left lean (settle (latticeOf c) (roomsOf ks cs) k s) (step.On m w') ks' ds' es' cs'
     settle-done w' a =
         settle-by lean (latticeOf c) (roomsOf ks cs) k s d is (step.On m w') ks' ds' es' cs'
         (both-done lean seed (latticeOf c) k (store (length ks) (marchedRow k d) s) (spread (latticeOf c) (length cs) (marchedRow k d)) s w es cs
-        (h .heap) (h .lattice) p ks₁ ds₁ settled-row (λ t g. told-stored seed (latticeOf c) k s told (length ks) d t g) settled-room m e q ks' ds' es' cs' waits w' a)
+        (h .heap) (h .lattice) p ks₁ ds₁ settled-row (λ t g. told-stored seed (latticeOf c) k s told (length ks) d t g) settled-room m e q ks' ds' es'
+        cs' waits w' a)

@@ -64,7 +64,8 @@ returns c =
     march-left (a .settings) (a .keys .now) (a .distances .now) (a .weights .now) (a .count) (a .threshold)
     (a .marched-keys .now) (a .waiting-keys .now) (a .marched-distances .now) (a .waiting-estimates .now) (l .0) (l .1 .1 .1 .0)
     (and-eq (at-set-ok .set-ok .ensures) (at-set-ok2 .set-ok2 .ensures)) (at-check .check .ensures) (k .0) (k .1 .1 .1 .0) _ _ _ _
-    (m .1 .1 .1 .1 .1 .1 .1 .0 ∙ k .0) (m .1 .1 .1 .1 .1 .1 .1 .1 .0 ∙ k .1 .0) (m .1 .1 .1 .1 .1 .1 .1 .1 .1 .0 ∙ k .1 .1 .0) (m .1 .1 .1 .1 .1 .1 .1 .1 .1 .1 .0 ∙ k .1 .1 .1 .0) _
+    (m .1 .1 .1 .1 .1 .1 .1 .0 ∙ k .0) (m .1 .1 .1 .1 .1 .1 .1 .1 .0 ∙ k .1 .0) (m .1 .1 .1 .1 .1 .1 .1 .1 .1 .0 ∙ k .1 .1 .0)
+    (m .1 .1 .1 .1 .1 .1 .1 .1 .1 .1 .0 ∙ k .1 .1 .1 .0) _
     (at-march-if .march-if .ensures) _ _ _ _ (t .0) (t .1 .0) (t .1 .1 .0) (t .1 .1 .1)
 
 pub compute-from-tsdf-spec : {M : Type 1} → statement M

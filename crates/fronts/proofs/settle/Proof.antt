@@ -57,9 +57,11 @@ returns c =
     let r = at-store .store in
     λ s h told room.
     settle-no-row
-    (a .course) (at-start .pre .1 .1) (a .lean) (seedIn (a .threshold) (rowsOf (a .fused-keys .now) (a .fused-distances .now) (a .fused-weights .now) (a .fused-count)))
+    (a .course) (at-start .pre .1 .1) (a .lean)
+    (seedIn (a .threshold) (rowsOf (a .fused-keys .now) (a .fused-distances .now) (a .fused-weights .now) (a .fused-count)))
     (a .key) (a .count) (a .keys .now) (a .distances .now) (a .waiting) (a .estimates .now) (a .cells .now) s h told room (x .result)
-    (x .ensures (s .stored) (markingAlso (a .lean) (a .key) (s .waiting)) (h .marked)) (r .result) (r .last .0) (r .last .1 .0) (r .kept .0) (r .ensures) _ (at-why .why .given .1)
+    (x .ensures (s .stored) (markingAlso (a .lean) (a .key) (s .waiting)) (h .marked)) (r .result) (r .last .0) (r .last .1 .0) (r .kept .0)
+    (r .ensures) _ (at-why .why .given .1)
 
 same-length-3 : tie.Need-same-length-3
 same-length-3 c = search needs
@@ -87,9 +89,11 @@ returns-2 c =
     let d = at-spread .spread in
     λ s h told room.
     settle-no-cell
-    (a .course) (at-start .pre .1 .1) (a .lean) (seedIn (a .threshold) (rowsOf (a .fused-keys .now) (a .fused-distances .now) (a .fused-weights .now) (a .fused-count)))
+    (a .course) (at-start .pre .1 .1) (a .lean)
+    (seedIn (a .threshold) (rowsOf (a .fused-keys .now) (a .fused-distances .now) (a .fused-weights .now) (a .fused-count)))
     (a .key) (a .count) (a .keys .now) (a .distances .now) (a .waiting) (a .estimates .now) (a .cells .now) s h told room (x .result)
-    (x .ensures (s .stored) (markingAlso (a .lean) (a .key) (s .waiting)) (h .marked)) (r .result) (r .last .0) (r .last .1 .0) (r .kept .0) (r .ensures) _ (at-rows .rows .given .1) (d .result)
+    (x .ensures (s .stored) (markingAlso (a .lean) (a .key) (s .waiting)) (h .marked)) (r .result) (r .last .0) (r .last .1 .0) (r .kept .0)
+    (r .ensures) _ (at-rows .rows .given .1) (d .result)
     (d .last .1 .1 .1 .1 .1 .1 .1 .0) (d .last .1 .1 .1 .1 .1 .1 .1 .1 .0)
     (d .last .1 .1 .1 .1 .1 .1 .1 .1 .1 .0) (d .last .1 .1 .1 .1 .1 .1 .1 .1 .1 .1 .0) (d .ensures) _ (at-why2 .why2 .given .1)
 
@@ -119,9 +123,11 @@ returns-3 c =
     let d = at-spread .spread in
     λ s h told room.
     settle-done
-    (a .course) (at-start .pre .1 .1) (a .lean) (seedIn (a .threshold) (rowsOf (a .fused-keys .now) (a .fused-distances .now) (a .fused-weights .now) (a .fused-count)))
+    (a .course) (at-start .pre .1 .1) (a .lean)
+    (seedIn (a .threshold) (rowsOf (a .fused-keys .now) (a .fused-distances .now) (a .fused-weights .now) (a .fused-count)))
     (a .key) (a .count) (a .keys .now) (a .distances .now) (a .waiting) (a .estimates .now) (a .cells .now) s h told room (x .result)
-    (x .ensures (s .stored) (markingAlso (a .lean) (a .key) (s .waiting)) (h .marked)) (r .result) (r .last .0) (r .last .1 .0) (r .kept .0) (r .ensures) _ (at-rows .rows .given .1) (d .result)
+    (x .ensures (s .stored) (markingAlso (a .lean) (a .key) (s .waiting)) (h .marked)) (r .result) (r .last .0) (r .last .1 .0) (r .kept .0)
+    (r .ensures) _ (at-rows .rows .given .1) (d .result)
     (d .last .1 .1 .1 .1 .1 .1 .1 .0) (d .last .1 .1 .1 .1 .1 .1 .1 .1 .0)
     (d .last .1 .1 .1 .1 .1 .1 .1 .1 .1 .0) (d .last .1 .1 .1 .1 .1 .1 .1 .1 .1 .1 .0) (d .ensures) _ (at-held .held .given .1)
 

@@ -94,7 +94,8 @@ returns-3 c =
     wait-as (a .lean) false (seedIn (a .threshold) (rowsOf (a .fused-keys .now) (a .fused-distances .now) (a .fused-weights .now) (a .fused-count)))
     (latticeOf (a .course)) (a .from) (a .key ∷ []) (wait (length (a .cells .now)) (a .estimate) (a .key))
     (a .keys .now) (a .distances .now) (a .waiting) (a .estimates .now) (a .cells .now) (d .result)
-    (d .last .0) (d .last .1 .0) (d .last .1 .1 .0) (d .last .1 .1 .1 .0) (at-if1 .if1 .left) (λ s h told room. d .ensures s h (let l = room refl in omega arith))
+    (d .last .0) (d .last .1 .0) (d .last .1 .1 .0) (d .last .1 .1 .1 .0) (at-if1 .if1 .left)
+    (λ s h told room. d .ensures s h (let l = room refl in omega arith))
 
 pub wait-spec : {M : Type 1} → statement M
 wait-spec =

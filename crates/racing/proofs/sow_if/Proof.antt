@@ -64,7 +64,8 @@ returns-2 c =
     let seeds = sym (at-is-seed .is-seed .ensures) ∙ not-false _ (at-if1 .if1 .left) in
     sown-goes (a .lean) (a .count) (a .waiting) (a .keys .now) (a .distances .now) (a .estimates .now) (a .cells .now) (l .result) (l .ensures .0)
     (l .last .1 .0) (l .last .1 .1 .0) (l .ensures .1) (l .kept .1 .0) s h (a .threshold) (row (a .key) (a .distance) (a .weight)) seeds (d .result)
-    (d .last .1 .1 .1 .1 .1 .1 .1 .0) (d .last .1 .1 .1 .1 .1 .1 .1 .1 .0) (d .last .1 .1 .1 .1 .1 .1 .1 .1 .1 .1 .0) (d .last .1 .1 .1 .1 .1 .1 .1 .1 .1 .1 .1 .0)
+    (d .last .1 .1 .1 .1 .1 .1 .1 .0) (d .last .1 .1 .1 .1 .1 .1 .1 .1 .0) (d .last .1 .1 .1 .1 .1 .1 .1 .1 .1 .1 .0)
+    (d .last .1 .1 .1 .1 .1 .1 .1 .1 .1 .1 .1 .0)
     (d .kept .1 .1 .1 .1 .1 .1 .1 .0) (λ x room. d .ensures s x new (told seeds) room) (c .leads-to .result) (c .leads-to .ensures)
 
 pub sow-if-spec : {M : Type 1} → statement M

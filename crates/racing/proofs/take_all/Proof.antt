@@ -149,7 +149,8 @@ enum-known-n c = search needs
 
 add-takings : tie.Need-add-takings Inv-loop μ-loop
 add-takings c =
-    let at-loop = c .before .before .before .before .before .before .before .before .before .before .before .before .before .before .before .before .before .before .before in
+    let at-loop = c .before .before .before .before .before .before .before .before .before .before .before .before .before .before .before .before
+    .before .before .before in
     let at-start = at-loop .before .before .before .before .before .before .before .before in
     let a = at-start .args in
     let p = at-start .pre in
@@ -164,7 +165,8 @@ add-takings c =
 
 loop-less : tie.Need-loop-less Inv-loop μ-loop
 loop-less c =
-    let at-loop = c .before .before .before .before .before .before .before .before .before .before .before .before .before .before .before .before .before .before .before in
+    let at-loop = c .before .before .before .before .before .before .before .before .before .before .before .before .before .before .before .before
+    .before .before .before in
     let at-start = at-loop .before .before .before .before .before .before .before .before in
     let a = at-start .args in
     let p = at-start .pre in

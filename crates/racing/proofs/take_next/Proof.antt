@@ -52,7 +52,8 @@ returns c =
     λ s h told.
     taken-goes (a .lean) (a .count) (a .waiting) (a .keys .now) (a .distances .now) (a .estimates .now) (a .cells .now) (l .result) (l .ensures .0)
     (l .last .1 .0) (l .last .1 .1 .0) (l .ensures .1) (l .kept .1 .0) s h (a .course) (at-start .pre .1 .0) (d .result)
-    (d .last .1 .1 .1 .1 .1 .1 .1 .0) (d .last .1 .1 .1 .1 .1 .1 .1 .1 .0) (d .last .1 .1 .1 .1 .1 .1 .1 .1 .1 .1 .0) (d .last .1 .1 .1 .1 .1 .1 .1 .1 .1 .1 .1 .0)
+    (d .last .1 .1 .1 .1 .1 .1 .1 .0) (d .last .1 .1 .1 .1 .1 .1 .1 .1 .0) (d .last .1 .1 .1 .1 .1 .1 .1 .1 .1 .1 .0)
+    (d .last .1 .1 .1 .1 .1 .1 .1 .1 .1 .1 .1 .0)
     (d .kept .1 .1 .1 .1 .1 .1 .1 .0) (λ x room. d .ensures s x told room) (c .leads-to .result) (c .leads-to .ensures)
 
 pub take-next-spec : {M : Type 1} → statement M
