@@ -30,30 +30,13 @@ fn first_above(seat: u32) -> usize
     seat as usize / 2
 }
 
-// `start`, or 0 where the key before it is not below `key`.
-fn start_of(keys: &[u64], count: usize, start: usize, key: u64) -> usize
-    requires { ⌜ (count ≤ length (now keys)) × (ascending (take count (now keys)) ≡ true) ⌝ }
-    ensures { λ r. ⌜ r ≤ placeOf key (take count (now (keys .entry))) ⌝ }
-{
-    if start == 0 {
-        return 0;
-    }
-    if count < start {
-        return 0;
-    }
-    let before = start - 1;
-    if keys[before] < key {
-        return start;
-    }
-    0
-}
-
 // The place that `key` has or would take among the first `count` keys, looked for from `start` on.
 fn place_from(keys: &[u64], count: usize, start: usize, key: u64) -> usize
     requires { ⌜ (count ≤ length (now keys)) × (ascending (take count (now keys)) ≡ true) ⌝ }
+    requires { ⌜ start ≤ placeOf key (take count (now keys)) ⌝ }
     ensures { λ r. ⌜ r ≡ placeOf key (take count (now (keys .entry))) ⌝ }
 {
-    let mut place = start_of(keys, count, start, key);
+    let mut place = start;
     while place < count {
         if key <= keys[place] {
             return place;
@@ -89,10 +72,10 @@ fn first_place(keys: &[u64], count: usize, own_keys: &[u64], own: usize) -> usiz
     place_of(keys, count, own_keys[0])
 }
 
-// The seat of each own key among the first `count` keys.
+// The seat of each own key among the first `count` keys. Both ascend, so each place is looked for from the one before on.
 pub fn locate(keys: &[u64], count: usize, own_keys: &[u64], seats: &mut [u32], own: usize)
     requires { ⌜ (count ≤ length (now keys)) × (length (now keys) ≤ 65536) × (ascending (take count (now keys)) ≡ true) ⌝ }
-    requires { ⌜ (own ≤ length (now «own_keys»)) × (own ≤ length (now seats)) ⌝ }
+    requires { ⌜ (own ≤ length (now «own_keys»)) × (own ≤ length (now seats)) × (ascending (take own (now «own_keys»)) ≡ true) ⌝ }
     ensures { λ _. ⌜ take own (now (seats .exit)) ≡ seatsOf (take count (now (keys .entry))) (take own (now («own_keys» .entry))) ⌝ }
 {
     let mut place = first_place(keys, count, own_keys, own);

@@ -257,7 +257,7 @@ fn load_own(
     own: usize,
 )
     requires { ⌜ lengthsOk (length (now keys)) (length (now distances)) (length (now weights)) count ≡ true ⌝ }
-    requires { ⌜ (ascending (take count (now keys)) ≡ true) × (own ≤ length (now seats)) ⌝ }
+    requires { ⌜ (ascending (take count (now keys)) ≡ true) × (own ≤ length (now seats)) × (ascending (take own (now «own_keys»)) ≡ true) ⌝ }
     requires { ⌜ lengthsOk (length (now «own_keys»)) (length (now «own_distances»)) (length (now «own_weights»)) own ≡ true ⌝ }
     ensures { λ _. ⌜ Loaded (table (now (keys .entry)) (now (distances .entry)) (now (weights .entry)) count)
         (now (seats .exit)) (now («own_keys» .entry)) (now («own_distances» .exit)) (now («own_weights» .exit)) own ⌝ }

@@ -15,9 +15,6 @@ Inv-loop keys count start key place₀ place = place ≤ placeOf key (take count
 abbrev μ-loop : tie.MeasureT-loop
 μ-loop keys count start key place₀ place = count - place
 
-start-of-requires : tie.Need-start-of-requires Inv-loop μ-loop
-start-of-requires c κs = search needs
-
 loop-holds : tie.Need-loop-holds Inv-loop μ-loop
 loop-holds c = search needs
 
@@ -29,8 +26,8 @@ shared-slice-read-if1 c = search needs
 
 returns : tie.Need-returns Inv-loop μ-loop
 returns c =
-    let s = c .before .before .before .before .before .before in
-    stops (s .args .key) (s .args .keys .now) (s .args .count) (s .pre .0) (s .pre .1) _
+    let s = c .before .before .before .before in
+    stops (s .args .key) (s .args .keys .now) (s .args .count) (s .pre .0 .0) (s .pre .0 .1) _
     (c .before .before .loop-test .taken) (c .if1 .taken) (c .before .before .before .loop .inv)
 
 add-place : tie.Need-add-place Inv-loop μ-loop
@@ -41,17 +38,17 @@ loop-less c = search needs
 
 loop-again : tie.Need-loop-again Inv-loop μ-loop
 loop-again c =
-    let s = c .before .before .before .before .before .before in
+    let s = c .before .before .before .before in
     omega (
       arith,
-      goes (s .args .key) (s .args .keys .now) (s .args .count) (s .pre .0) (s .pre .1)
+      goes (s .args .key) (s .args .keys .now) (s .args .count) (s .pre .0 .0) (s .pre .0 .1)
           (c .before .before .before .loop .place) (c .before .before .loop-test .taken) (omega (arith, c .if1 .left)),
     )
 
 returns-2 : tie.Need-returns-2 Inv-loop μ-loop
 returns-2 c =
-    let s = c .before .before .before .before in
-    ends (s .args .key) (s .args .keys .now) (s .args .count) (s .pre .0) (s .pre .1) _ (c .loop-test .left) (c .before .loop .inv)
+    let s = c .before .before in
+    ends (s .args .key) (s .args .keys .now) (s .args .count) (s .pre .0 .0) (s .pre .0 .1) _ (c .loop-test .left) (c .before .loop .inv)
 
 pub place-from-spec : {M : Type 1} → statement M
 place-from-spec =
@@ -59,7 +56,6 @@ place-from-spec =
     (tie.spec
     Inv-loop
     μ-loop
-    start-of-requires
     loop-holds
     mul-if1
     shared-slice-read-if1

@@ -52,7 +52,7 @@ load-own-requires c κs =
     lengths-known (length (s .args .keys .now)) (length (s .args .distances .now)) (length (s .args .weights .now))
     (s .args .count .now) (k .lengths) in
     let few = at-own-rows .own-rows .ensures .0 .0 in
-    (k .lengths, ((k .order, rw length-replicate few), simp (at-own-rows .own-rows .kept .0, length-replicate, le-leb _ _ few)))
+    (k .lengths, ((k .order, rw length-replicate few, at-own-rows .own-rows .ensures .0 .1), simp (at-own-rows .own-rows .kept .0, length-replicate, le-leb _ _ few)))
 
 slice-aggregate-fuse-run : tie.Need-slice-aggregate-fuse-run
 slice-aggregate-fuse-run c = search needs

@@ -30,7 +30,7 @@ own-fit s =
 
 locate-requires : tie.Need-locate-requires
 locate-requires c κs =
-    let s = c .before .before .before .before .before .before .before .before in ((fit s .0, fit s .3, s .pre .1 .0 .0), (own-fit s .0, s .pre .1 .0 .1))
+    let s = c .before .before .before .before .before .before .before .before in ((fit s .0, fit s .3, s .pre .1 .0 .0), (own-fit s .0, s .pre .1 .0 .1, s .pre .1 .0 .2))
 
 load-f32-requires : tie.Need-load-f32-requires
 load-f32-requires c κs =
