@@ -1,12 +1,12 @@
 -- Where a walk over ascending keys ends, and that ascending own keys have their places in order.
 -- Assumes nothing.
-use mathlib.Core.Path.{_≡_}
+use mathlib.Core.Path.{_≡_, _∙_}
 use mathlib.Core.Bool.{Bool, true, cond}
 use mathlib.Core.List.{List, [], _∷_}
-use Prim.Native.Nat.{ℕ, suc, _+_, _<_, _≤_, zero-le, suc-le-suc}
+use Prim.Native.Nat.{ℕ, suc, _+_, _-_, _<_, _≤_, zero-le, suc-le-suc}
 use native.Mathlib.Nat.{le-refl, le-of-lt}
 use native.Mathlib.Omega.{arith}
-use borrow.Author.Tests.{lt-ltb, ltb-true, ne-eqb}
+use borrow.Author.Tests.{lt-ltb, ltb-true, ltb-false, ne-eqb}
 use lib.Dec.{ltb}
 use lib.ListN.{length, getD, take}
 use lib.Seq.{length-take-le, getD-take}
@@ -21,13 +21,40 @@ module _ (k : ℕ) (ks : List ℕ) (n : ℕ) (g : n ≤ length ks) (a : ascendin
   pub goes : (p : ℕ) → p < n → getD ks p 0 < k → p < placeOf k (take n ks)
   goes p h l = lt-place k (take n ks) p a (rw (getD-take n ks p 0 h) l) (rw (length-take-le n ks g) h)
 
+  -- one that is not: it is there or before it
+  pub not-past : (p : ℕ) → p < n → k ≤ getD ks p 0 → placeOf k (take n ks) ≤ p
+  not-past p h l = place-le k (take n ks) p (rw (getD-take n ks p 0 h) l) (rw (length-take-le n ks g) h)
+
   pub stops : (p : ℕ) → p < n → k ≤ getD ks p 0 → p ≤ placeOf k (take n ks) → p ≡ placeOf k (take n ks)
-  stops p h l q =
-      let r : placeOf k (take n ks) ≤ p = place-le k (take n ks) p (rw (getD-take n ks p 0 h) l) (rw (length-take-le n ks g) h) in
-      omega arith
+  stops p h l q = omega (arith, not-past p h l)
+
+  -- the place is among the keys or behind them
+  pub place-within : placeOf k (take n ks) ≤ n
+  place-within = omega (arith, place-length k (take n ks), length-take-le n ks g)
 
   pub ends : (p : ℕ) → n ≤ p → p ≤ placeOf k (take n ks) → p ≡ placeOf k (take n ks)
-  ends p h q = omega (arith, place-length k (take n ks), length-take-le n ks g)
+  ends p h q = omega (arith, place-within)
+
+  -- q is the smaller of k's place and j; a key further, counted where it is below k, it is so again
+  one-counted : (j q x : ℕ) → j < n → q ≡ placeOf k (take n ks) - (placeOf k (take n ks) - j) → x ≡ cond (ltb (getD ks j 0) k) 1 0
+      → q + x ≡ placeOf k (take n ks) - (placeOf k (take n ks) - suc j)
+  one-counted j q x h e f =
+      cases (λ (b : Bool). x ≡ cond b 1 0 → q + x ≡ placeOf k (take n ks) - (placeOf k (take n ks) - suc j)) (ltb (getD ks j 0) k)
+      (λ t g. omega (arith, g, e, goes j h (ltb-true (getD ks j 0) k t)))
+      (λ t g. omega (arith, g, e, not-past j h (ltb-false (getD ks j 0) k t)))
+      f
+
+  -- the place is among four keys: it is behind those of them that are below k
+  pub of-four : (p x y z : ℕ) → p ≤ placeOf k (take n ks) → placeOf k (take n ks) ≤ p + 3 → p + 3 < n
+      → x ≡ cond (ltb (getD ks p 0) k) 1 0
+      → y ≡ cond (ltb (getD ks (p + 1) 0) k) 1 0
+      → z ≡ cond (ltb (getD ks (p + 2) 0) k) 1 0
+      → p + x + y + z ≡ placeOf k (take n ks)
+  of-four p x y z low high h ex ey ez =
+      let one = one-counted p p x (omega arith) (omega (arith, low)) ex in
+      let two = one-counted (p + 1) (p + x) y (omega arith) (omega (arith, one)) ey in
+      let three = one-counted (p + 2) (p + x + y) z (omega arith) (omega (arith, two)) ez in
+      omega (arith, three, high)
 
 -- ---- own keys
 

@@ -1,13 +1,14 @@
-// Own rows beside a table, column by column: each own key gets a seat among the table's keys; by the seats a column's values
-// are loaded, and after they were changed apart they are settled into it, all columns in one walk over the seats. A row whose
-// weight is in range stands; the others wait, and are never settled. A further column takes one call of `load_` and one of
-// `seat_` for its type of element, and cites the same laws; one row alone is put into it by `set` or `inserted`
-// (table/proofs/Laying: laid-set, laid-open).
+// Own rows beside a table: each own key gets a seat among the table's keys; by the seats a column's values are loaded, and after
+// they were changed apart all columns are settled in one walk over the seats. A row whose weight is in range stands; the others
+// wait, and are never settled. A further column takes one call of `load_` for its type of element and a line each in `slide` and
+// `seat_row`, and cites the same laws; one row alone is put into it by `set` or `inserted` (table/proofs/Laying: laid-set,
+// laid-open).
 use floats::between;
 use search::place_of;
 ghost use Prim.Native.Nat.{_+_, _≤_, _<_};
 ghost use mathlib.Core.Path.{_≡_};
 ghost use mathlib.Core.Bool.{true, cond};
+ghost use lib.Dec.{ltb};
 ghost use lib.ListN.{length, take};
 ghost use Rattle.search.specs.Keys.{ascending, placeOf};
 ghost use Rattle.gathering.specs.Gathering.{below, above, seatOf, seatsOf, valueAt, loaded, heldBack, Within, InOrder, Settles, settledIn};
@@ -30,8 +31,32 @@ fn first_above(seat: u32) -> usize
     seat as usize / 2
 }
 
-// The place that `key` has or would take among the first `count` keys, looked for from `start` on.
-fn place_from(keys: &[u64], count: usize, start: usize, key: u64) -> usize
+// From `start` on, past four keys at a time while the last of them is below `key`.
+fn skip_fours(keys: &[u64], count: usize, start: usize, key: u64) -> usize
+    requires { ⌜ (count ≤ length (now keys)) × (ascending (take count (now keys)) ≡ true) ⌝ }
+    requires { ⌜ start ≤ placeOf key (take count (now keys)) ⌝ }
+    ensures { λ r. ⌜ (r ≤ count) × (r ≤ placeOf key (take count (now (keys .entry)))) ⌝ }
+    ensures { λ r. ⌜ (r + 3 < count → placeOf key (take count (now (keys .entry))) ≤ r + 3) ⌝ }
+{
+    let mut place = start;
+    while place + 3 < count {
+        if key <= keys[place + 3] {
+            return place;
+        }
+        place += 4;
+    }
+    place
+}
+
+// 1 for a key that is below `key`, otherwise 0.
+fn one_below(other: u64, key: u64) -> usize
+    ensures { λ r. ⌜ (r ≤ 1) × (r ≡ cond (ltb other key) 1 0) ⌝ }
+{
+    if other < key { 1 } else { 0 }
+}
+
+// The place that `key` has or would take among the first `count` keys, looked for from `start` on key by key.
+fn walk_from(keys: &[u64], count: usize, start: usize, key: u64) -> usize
     requires { ⌜ (count ≤ length (now keys)) × (ascending (take count (now keys)) ≡ true) ⌝ }
     requires { ⌜ start ≤ placeOf key (take count (now keys)) ⌝ }
     ensures { λ r. ⌜ r ≡ placeOf key (take count (now (keys .entry))) ⌝ }
@@ -44,6 +69,22 @@ fn place_from(keys: &[u64], count: usize, start: usize, key: u64) -> usize
         place += 1;
     }
     place
+}
+
+// The same, four keys at a time. Those of the last four that are below `key` are counted, so that no branch is guessed wrongly.
+fn place_from(keys: &[u64], count: usize, start: usize, key: u64) -> usize
+    requires { ⌜ (count ≤ length (now keys)) × (ascending (take count (now keys)) ≡ true) ⌝ }
+    requires { ⌜ start ≤ placeOf key (take count (now keys)) ⌝ }
+    ensures { λ r. ⌜ r ≡ placeOf key (take count (now (keys .entry))) ⌝ }
+{
+    let place = skip_fours(keys, count, start, key);
+    if place + 3 < count {
+        return place
+            + one_below(keys[place], key)
+            + one_below(keys[place + 1], key)
+            + one_below(keys[place + 2], key);
+    }
+    walk_from(keys, count, place, key)
 }
 
 // The seat of `key`, whose place is known.
@@ -133,10 +174,21 @@ pub fn hold_back(most: f32, own_weights: &[f32], seats: &mut [u32], own: usize)
     }
 }
 
-// What stands from `from` up to `end`, moved up so that it ends at `to`; the answer is where it then begins.
-fn slide_u64(list: &mut [u64], from: usize, end: usize, to: usize) -> usize
-    requires { ⌜ (from ≤ end) × (end ≤ to) × (to ≤ length (now list)) ⌝ }
-    ensures { λ r. ⌜ (r + end ≡ to + from) × (now (list .exit) ≡ slid (now (list .entry)) r from end to) ⌝ }
+// The rows from `from` up to `end`, moved up so that they end at `to`, each column's value in turn; the answer is where they then begin.
+fn slide(
+    keys: &mut [u64],
+    distances: &mut [f32],
+    weights: &mut [f32],
+    from: usize,
+    end: usize,
+    to: usize,
+) -> usize
+    requires { ⌜ (from ≤ end) × (end ≤ to) ⌝ }
+    requires { ⌜ (to ≤ length (now keys)) × (to ≤ length (now distances)) × (to ≤ length (now weights)) ⌝ }
+    ensures { λ r. ⌜ r + end ≡ to + from ⌝ }
+    ensures { λ r. ⌜ now (keys .exit) ≡ slid (now (keys .entry)) r from end to ⌝ }
+    ensures { λ r. ⌜ now (distances .exit) ≡ slid (now (distances .entry)) r from end to ⌝ }
+    ensures { λ r. ⌜ now (weights .exit) ≡ slid (now (weights .entry)) r from end to ⌝ }
 {
     if end == to {
         return from;
@@ -146,49 +198,41 @@ fn slide_u64(list: &mut [u64], from: usize, end: usize, to: usize) -> usize
     while from < i {
         i -= 1;
         place -= 1;
-        list[place] = list[i];
+        keys[place] = keys[i];
+        distances[place] = distances[i];
+        weights[place] = weights[i];
     }
     place
 }
 
-fn slide_f32(list: &mut [f32], from: usize, end: usize, to: usize) -> usize
-    requires { ⌜ (from ≤ end) × (end ≤ to) × (to ≤ length (now list)) ⌝ }
-    ensures { λ r. ⌜ (r + end ≡ to + from) × (now (list .exit) ≡ slid (now (list .entry)) r from end to) ⌝ }
+// A row to its seat, where `rows` rows are left and the places from `place` on are written: what is above the seat goes up to there,
+// and the row before it. The answer is its place.
+fn seat_row(
+    keys: &mut [u64],
+    distances: &mut [f32],
+    weights: &mut [f32],
+    seat: u32,
+    rows: usize,
+    place: usize,
+    key: u64,
+    distance: f32,
+    weight: f32,
+) -> usize
+    requires { ⌜ (above seat ≤ rows) × (rows ≤ place) × (rows < place + above seat) ⌝ }
+    requires { ⌜ (place ≤ length (now keys)) × (place ≤ length (now distances)) × (place ≤ length (now weights)) ⌝ }
+    ensures { λ r. ⌜ r ≡ seatPlace seat rows place ⌝ }
+    ensures { λ r. ⌜ now (keys .exit) ≡ seatedAt seat rows place key (now (keys .entry)) ⌝ }
+    ensures { λ r. ⌜ now (distances .exit) ≡ seatedAt seat rows place distance (now (distances .entry)) ⌝ }
+    ensures { λ r. ⌜ now (weights .exit) ≡ seatedAt seat rows place weight (now (weights .entry)) ⌝ }
 {
-    if end == to {
-        return from;
-    }
-    let mut i = end;
-    let mut place = to;
-    while from < i {
-        i -= 1;
-        place -= 1;
-        list[place] = list[i];
-    }
-    place
-}
-
-// A value to its seat, where `rows` values of the column are left and the places from `place` on are written: what is above the seat goes up to there,
-// and the value before it. The answer is its place.
-fn seat_u64(column: &mut [u64], seat: u32, rows: usize, place: usize, value: u64) -> usize
-    requires { ⌜ (above seat ≤ rows) × (rows ≤ place) × (place ≤ length (now column)) × (rows < place + above seat) ⌝ }
-    ensures { λ r. ⌜ (r ≡ seatPlace seat rows place) × (now (column .exit) ≡ seatedAt seat rows place value (now (column .entry))) ⌝ }
-{
-    let at = slide_u64(column, first_above(seat), rows, place) - 1;
-    column[at] = value;
+    let at = slide(keys, distances, weights, first_above(seat), rows, place) - 1;
+    keys[at] = key;
+    distances[at] = distance;
+    weights[at] = weight;
     at
 }
 
-fn seat_f32(column: &mut [f32], seat: u32, rows: usize, place: usize, value: f32) -> usize
-    requires { ⌜ (above seat ≤ rows) × (rows ≤ place) × (place ≤ length (now column)) × (rows < place + above seat) ⌝ }
-    ensures { λ r. ⌜ (r ≡ seatPlace seat rows place) × (now (column .exit) ≡ seatedAt seat rows place value (now (column .entry))) ⌝ }
-{
-    let at = slide_f32(column, first_above(seat), rows, place) - 1;
-    column[at] = value;
-    at
-}
-
-// The own rows, settled column by column among the first `count` by their seats, from the last down; `total` result.
+// The own rows, settled among the first `count` by their seats, from the last down; `total` result.
 pub fn settle(
     keys: &mut [u64],
     distances: &mut [f32],
@@ -216,10 +260,17 @@ pub fn settle(
         left -= 1;
         let seat = seats[left];
         if seat != 0 {
-            let at = seat_u64(keys, seat, rows, place, own_keys[left]);
-            seat_f32(distances, seat, rows, place, own_distances[left]);
-            seat_f32(weights, seat, rows, place, own_weights[left]);
-            place = at;
+            place = seat_row(
+                keys,
+                distances,
+                weights,
+                seat,
+                rows,
+                place,
+                own_keys[left],
+                own_distances[left],
+                own_weights[left],
+            );
             rows = rows_below(seat);
         }
     }

@@ -1,66 +1,96 @@
--- `gathering::place_from` meets its contract: the walk never passes the key's place.
+-- `gathering::place_from` meets its contract: of the four keys among which the place is, those below the key are before it.
 -- Assumes nothing.
-use native.Mathlib.Omega.{arith}
-use Rattle.gathering.proofs.Placing.{goes, stops, ends}
-use Prim.Native.Nat.{_≤_, _-_}
-use lib.ListN.{take}
-use Rattle.search.specs.Keys.{placeOf}
+use Rattle.gathering.proofs.Placing.{of-four}
 use borrow.Author.Needs.{needs}
 use Rattle.gathering.proofs.place_from.Statement.{statement}
 use Rattle.gathering.proofs.place_from.Tie as tie
 
-abbrev Inv-loop : tie.InvT-loop
-Inv-loop keys count start key place₀ place = place ≤ placeOf key (take count keys)
+skip-fours-requires : tie.Need-skip-fours-requires
+skip-fours-requires c κs = search needs
 
-abbrev μ-loop : tie.MeasureT-loop
-μ-loop keys count start key place₀ place = count - place
+add-if1 : tie.Need-add-if1
+add-if1 c = search needs
 
-loop-holds : tie.Need-loop-holds Inv-loop μ-loop
-loop-holds c = search needs
+mul-one-below : tie.Need-mul-one-below
+mul-one-below c = search needs
 
-mul-if1 : tie.Need-mul-if1 Inv-loop μ-loop
-mul-if1 c = search needs
+shared-slice-read-one-below : tie.Need-shared-slice-read-one-below
+shared-slice-read-one-below c = search needs
 
-shared-slice-read-if1 : tie.Need-shared-slice-read-if1 Inv-loop μ-loop
-shared-slice-read-if1 c = search needs
+one-below-requires : tie.Need-one-below-requires
+one-below-requires c κs = search needs
 
-returns : tie.Need-returns Inv-loop μ-loop
+add-result : tie.Need-add-result
+add-result c = search needs
+
+add-one-below : tie.Need-add-one-below
+add-one-below c = search needs
+
+mul-one-below-2 : tie.Need-mul-one-below-2
+mul-one-below-2 c = search needs
+
+shared-slice-read-one-below-2 : tie.Need-shared-slice-read-one-below-2
+shared-slice-read-one-below-2 c = search needs
+
+one-below-requires-2 : tie.Need-one-below-requires-2
+one-below-requires-2 c κs = search needs
+
+add-result-2 : tie.Need-add-result-2
+add-result-2 c = search needs
+
+add-one-below-2 : tie.Need-add-one-below-2
+add-one-below-2 c = search needs
+
+mul-one-below-3 : tie.Need-mul-one-below-3
+mul-one-below-3 c = search needs
+
+shared-slice-read-one-below-3 : tie.Need-shared-slice-read-one-below-3
+shared-slice-read-one-below-3 c = search needs
+
+one-below-requires-3 : tie.Need-one-below-requires-3
+one-below-requires-3 c κs = search needs
+
+add-result-3 : tie.Need-add-result-3
+add-result-3 c = search needs
+
+returns : tie.Need-returns
 returns c =
-    let s = c .before .before .before .before in
-    stops (s .args .key) (s .args .keys .now) (s .args .count) (s .pre .0 .0) (s .pre .0 .1) _
-    (c .before .before .loop-test .taken) (c .if1 .taken) (c .before .before .before .loop .inv)
+    let at-second = c .before .before in
+    let at-first = at-second .before .before in
+    let at-if1 = at-first .before .before in
+    let s = at-if1 .before .before .before in
+    let some = at-if1 .if1 .taken in
+    let place = at-if1 .before .skip-fours .result in
+    let skipped = at-if1 .before .skip-fours .ensures in
+    of-four (s .args .key) (s .args .keys .now) (s .args .count) (s .pre .0 .0) (s .pre .0 .1) place _ _ _ (skipped .0 .1) (skipped .1 some) some
+    (at-first .one-below .ensures .1) (at-second .one-below2 .ensures .1) (c .one-below3 .ensures .1)
 
-add-place : tie.Need-add-place Inv-loop μ-loop
-add-place c = search needs
+walk-from-requires : tie.Need-walk-from-requires
+walk-from-requires c κs = search needs
 
-loop-less : tie.Need-loop-less Inv-loop μ-loop
-loop-less c = search needs
-
-loop-again : tie.Need-loop-again Inv-loop μ-loop
-loop-again c =
-    let s = c .before .before .before .before in
-    omega (
-      arith,
-      goes (s .args .key) (s .args .keys .now) (s .args .count) (s .pre .0 .0) (s .pre .0 .1)
-          (c .before .before .before .loop .place) (c .before .before .loop-test .taken) (omega (arith, c .if1 .left)),
-    )
-
-returns-2 : tie.Need-returns-2 Inv-loop μ-loop
-returns-2 c =
-    let s = c .before .before in
-    ends (s .args .key) (s .args .keys .now) (s .args .count) (s .pre .0 .0) (s .pre .0 .1) _ (c .loop-test .left) (c .before .loop .inv)
+returns-2 : tie.Need-returns-2
+returns-2 c = search needs
 
 pub place-from-spec : {M : Type 1} → statement M
 place-from-spec =
     tie.close
     (tie.spec
-    Inv-loop
-    μ-loop
-    loop-holds
-    mul-if1
-    shared-slice-read-if1
+    skip-fours-requires
+    add-if1
+    mul-one-below
+    shared-slice-read-one-below
+    one-below-requires
+    add-result
+    add-one-below
+    mul-one-below-2
+    shared-slice-read-one-below-2
+    one-below-requires-2
+    add-result-2
+    add-one-below-2
+    mul-one-below-3
+    shared-slice-read-one-below-3
+    one-below-requires-3
+    add-result-3
     returns
-    add-place
-    loop-less
-    loop-again
+    walk-from-requires
     returns-2)

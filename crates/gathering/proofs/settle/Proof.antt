@@ -33,57 +33,37 @@ mul-seat c = search needs
 shared-slice-read-seat : tie.Need-shared-slice-read-seat Inv-loop μ-loop
 shared-slice-read-seat c = search needs
 
-mul-seat-u64 : tie.Need-mul-seat-u64 Inv-loop μ-loop
-mul-seat-u64 c = search needs
+mul-seat-row : tie.Need-mul-seat-row Inv-loop μ-loop
+mul-seat-row c = search needs
 
-shared-slice-read-seat-u64 : tie.Need-shared-slice-read-seat-u64 Inv-loop μ-loop
-shared-slice-read-seat-u64 c = search needs
+shared-slice-read-seat-row : tie.Need-shared-slice-read-seat-row Inv-loop μ-loop
+shared-slice-read-seat-row c = search needs
 
-seat-u64-requires : tie.Need-seat-u64-requires Inv-loop μ-loop
-seat-u64-requires c κs =
-    let at-if1 = c .before .before in
+mul-seat-row-2 : tie.Need-mul-seat-row-2 Inv-loop μ-loop
+mul-seat-row-2 c = search needs
+
+shared-slice-read-seat-row-2 : tie.Need-shared-slice-read-seat-row-2 Inv-loop μ-loop
+shared-slice-read-seat-row-2 c = search needs
+
+mul-seat-row-3 : tie.Need-mul-seat-row-3 Inv-loop μ-loop
+mul-seat-row-3 c = search needs
+
+shared-slice-read-seat-row-3 : tie.Need-shared-slice-read-seat-row-3 Inv-loop μ-loop
+shared-slice-read-seat-row-3 c = search needs
+
+seat-row-requires : tie.Need-seat-row-requires Inv-loop μ-loop
+seat-row-requires c κs =
+    let at-if1 = c .before .before .before .before .before .before in
     let at-test = at-if1 .before .before in
     let at-loop = at-test .before in
     let s = at-loop .before .before .before .before .before .before .before .before in
     let l = at-loop .loop in
     let e : l .left ≡ suc (l .left - 1) = omega (arith, at-test .loop-test .taken) in
     let some : 0 < getD (s .args .seats .now) (l .left - 1) 0 = omega (arith, at-if1 .if1 .taken) in
-    seat-fits 0 (s .pre .1 .0) (l .inv .0) (l .left - 1) e some (s .pre .0 .1)
-
-mul-seat-f32 : tie.Need-mul-seat-f32 Inv-loop μ-loop
-mul-seat-f32 c = search needs
-
-shared-slice-read-seat-f32 : tie.Need-shared-slice-read-seat-f32 Inv-loop μ-loop
-shared-slice-read-seat-f32 c = search needs
-
-seat-f32-requires : tie.Need-seat-f32-requires Inv-loop μ-loop
-seat-f32-requires c κs =
-    let at-if1 = c .before .before .before .before .before .before .before in
-    let at-test = at-if1 .before .before in
-    let at-loop = at-test .before in
-    let s = at-loop .before .before .before .before .before .before .before .before in
-    let l = at-loop .loop in
-    let e : l .left ≡ suc (l .left - 1) = omega (arith, at-test .loop-test .taken) in
-    let some : 0 < getD (s .args .seats .now) (l .left - 1) 0 = omega (arith, at-if1 .if1 .taken) in
-    seat-fits nan (s .pre .1 .1 .0) (l .inv .1) (l .left - 1) e some (s .pre .0 .1)
-
-mul-seat-f32-2 : tie.Need-mul-seat-f32-2 Inv-loop μ-loop
-mul-seat-f32-2 c = search needs
-
-shared-slice-read-seat-f32-2 : tie.Need-shared-slice-read-seat-f32-2 Inv-loop μ-loop
-shared-slice-read-seat-f32-2 c = search needs
-
-seat-f32-requires-2 : tie.Need-seat-f32-requires-2 Inv-loop μ-loop
-seat-f32-requires-2 c κs =
-    let at-keys = c .before .before .before .before .before .before .before .before .before in
-    let at-if1 = at-keys .before .before .before in
-    let at-test = at-if1 .before .before in
-    let at-loop = at-test .before in
-    let s = at-loop .before .before .before .before .before .before .before .before in
-    let l = at-loop .loop in
-    let e : l .left ≡ suc (l .left - 1) = omega (arith, at-test .loop-test .taken) in
-    let some : 0 < getD (s .args .seats .now) (l .left - 1) 0 = omega (arith, at-if1 .if1 .taken) in
-    seat-fits nan (s .pre .1 .1 .1) (l .inv .2) (l .left - 1) e some (s .pre .0 .1)
+    let keys = seat-fits 0 (s .pre .1 .0) (l .inv .0) (l .left - 1) e some (s .pre .0 .1) in
+    let distances = seat-fits nan (s .pre .1 .1 .0) (l .inv .1) (l .left - 1) e some (s .pre .0 .1) in
+    let weights = seat-fits nan (s .pre .1 .1 .1) (l .inv .2) (l .left - 1) e some (s .pre .0 .1) in
+    ((keys .0, keys .1, keys .3), (keys .2, distances .2, weights .2))
 
 rows-below-requires : tie.Need-rows-below-requires Inv-loop μ-loop
 rows-below-requires c κs = search needs
@@ -93,21 +73,19 @@ loop-less c = search needs
 
 loop-again : tie.Need-loop-again Inv-loop μ-loop
 loop-again c =
-    let at-weights = c .before .before .before in
-    let at-distances = at-weights .before .before .before .before .before in
-    let at-keys = at-distances .before .before .before .before .before in
-    let at-if1 = at-keys .before .before .before in
+    let at-row = c .before .before .before .before .before .before .before in
+    let at-if1 = at-row .before .before .before .before .before .before .before in
     let at-test = at-if1 .before .before in
     let at-loop = at-test .before in
     let s = at-loop .before .before .before .before .before .before .before .before in
     let l = at-loop .loop in
     let e : l .left ≡ suc (l .left - 1) = omega (arith, at-test .loop-test .taken) in
     let some : 0 < getD (s .args .seats .now) (l .left - 1) 0 = omega (arith, at-if1 .if1 .taken) in
-    let at = at-keys .seat-u64 .ensures in
+    let row = at-row .seat-row .ensures in
     let below = c .rows-below .ensures in (
-      seat-down 0 (s .pre .1 .0) (l .inv .0) (l .left - 1) e some (s .pre .0 .1) _ _ _ below (at .0) (at .1),
-      seat-down nan (s .pre .1 .1 .0) (l .inv .1) (l .left - 1) e some (s .pre .0 .1) _ _ _ below (at .0) (at-distances .seat-f32 .ensures .1),
-      seat-down nan (s .pre .1 .1 .1) (l .inv .2) (l .left - 1) e some (s .pre .0 .1) _ _ _ below (at .0) (at-weights .seat-f322 .ensures .1),
+      seat-down 0 (s .pre .1 .0) (l .inv .0) (l .left - 1) e some (s .pre .0 .1) _ _ _ below (row .0) (row .1 .0),
+      seat-down nan (s .pre .1 .1 .0) (l .inv .1) (l .left - 1) e some (s .pre .0 .1) _ _ _ below (row .0) (row .1 .1 .0),
+      seat-down nan (s .pre .1 .1 .1) (l .inv .2) (l .left - 1) e some (s .pre .0 .1) _ _ _ below (row .0) (row .1 .1 .1),
     )
 
 loop-less-2 : tie.Need-loop-less-2 Inv-loop μ-loop
@@ -152,15 +130,13 @@ settle-spec =
     sub-left
     mul-seat
     shared-slice-read-seat
-    mul-seat-u64
-    shared-slice-read-seat-u64
-    seat-u64-requires
-    mul-seat-f32
-    shared-slice-read-seat-f32
-    seat-f32-requires
-    mul-seat-f32-2
-    shared-slice-read-seat-f32-2
-    seat-f32-requires-2
+    mul-seat-row
+    shared-slice-read-seat-row
+    mul-seat-row-2
+    shared-slice-read-seat-row-2
+    mul-seat-row-3
+    shared-slice-read-seat-row-3
+    seat-row-requires
     rows-below-requires
     loop-less
     loop-again
