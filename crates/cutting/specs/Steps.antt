@@ -1,5 +1,5 @@
 -- What the private functions promise each other.
-use Prim.Native.Nat.{ℕ, _+_, _≤_, _<_}
+use Prim.Native.Nat.{ℕ, _+_, _*_, _≤_, _<_}
 use mathlib.Core.Path.{_≡_}
 use mathlib.Core.Bool.{Bool, true, false, cond}
 use mathlib.Core.List.{List}
@@ -37,10 +37,14 @@ pub record Beside (hs : List ℕ) (ss : List Bool) : Type 0 where
   pub equal : length ss ≡ length hs
   pub few : length hs ≤ 14
 
--- which of some cells past a place are adjacent to the one there, in a room of 14
-pub record Meets (hs : List ℕ) (i : ℕ) (ms : List Bool) : Type 0 where
-  pub room : length ms ≡ 14
-  pub told : (l : ℕ) → i < l → l < length hs → getD ms l false ≡ adjacent (getD hs i 0) (getD hs l 0)
+-- of the first n cells is told which past each are adjacent to it, each in a part of 14
+abbrev pub Told : List ℕ → ℕ → List Bool → Type 0
+Told hs n ms = (i l : ℕ) → i < n → i < l → l < length hs → getD ms (14 * i + l) false ≡ adjacent (getD hs i 0) (getD hs l 0)
+
+-- of all cells
+pub record Meets (hs : List ℕ) (ms : List Bool) : Type 0 where
+  pub room : length ms ≡ 196
+  pub told : Told hs (length hs) ms
 
 -- an edge starts at a key, by the place of the key: the first key there is that one
 unfoldable pub startsAt : List ℕ → ℕ → ℕ → ℕ → Bool

@@ -24,7 +24,7 @@ ghost use Rattle.tetrahedra.specs.ClosedTriangles.{closedTriangles};
 ghost use Rattle.cuts.specs.Patches.{trianglesOfPatch, trianglesBy};
 ghost use Rattle.cuts.specs.Numbers.{Numbered};
 ghost use Rattle.cutting.specs.Corners.{sided, sidedBy, sidedAt, cutWith, cutsOf, cutsAt, cutRow};
-ghost use Rattle.cutting.specs.Steps.{Even, Puts, Beside, Meets, startsAt, Own, OwnIf, IsCut};
+ghost use Rattle.cutting.specs.Steps.{Even, Puts, Beside, Told, Meets, startsAt, Own, OwnIf, IsCut};
 ghost use Rattle.cutting.specs.Closing.{threeOk, IsClosed};
 
 // What is answered to the closed mesh's edges, and to its triangles.
@@ -68,16 +68,28 @@ fn put_patch(patch: Patch, at: usize, t0: &mut [u32], t1: &mut [u32], t2: &mut [
     }
 }
 
-// Which of those past a place are adjacent to the one there.
-fn meets_of(cells: &[u64], i: usize) -> [bool; 14]
-    requires { ⌜ (i < length (now cells)) × (length (now cells) ≤ 14) ⌝ }
-    ensures { λ r. ⌜ Meets (now (cells .entry)) i r ⌝ }
+// Which of those past a place are adjacent to the one there, in its part of `meets`.
+fn mark_meets(cells: &[u64], i: usize, meets: &mut [bool])
+    requires { ⌜ (i < length (now cells)) × (length (now cells) ≤ 14) × (length (now meets) ≡ 196) × Told (now cells) i (now meets) ⌝ }
+    ensures { λ _. ⌜ Told (now (cells .entry)) (i + 1) (now (meets .exit)) ⌝ }
 {
-    let mut meets = [false; 14];
     let mut l = i + 1;
     while l < cells.len() {
-        meets[l] = neighbors::are_adjacent(cells[i], cells[l]);
+        meets[14 * i + l] = neighbors::are_adjacent(cells[i], cells[l]);
         l += 1;
+    }
+}
+
+// Which of some cells are adjacent, each with those past it.
+fn meets_of(cells: &[u64]) -> [bool; 196]
+    requires { ⌜ length (now cells) ≤ 14 ⌝ }
+    ensures { λ r. ⌜ Meets (now (cells .entry)) r ⌝ }
+{
+    let mut meets = [false; 196];
+    let mut i = 0;
+    while i < cells.len() {
+        mark_meets(cells, i, &mut meets);
+        i += 1;
     }
     meets
 }
@@ -88,7 +100,7 @@ fn patch_at(
     side: bool,
     cells: &[u64],
     inside: &[bool],
-    meets: &[bool; 14],
+    meets: &[bool; 196],
     i: usize,
     j: usize,
     l: usize,
@@ -97,16 +109,16 @@ fn patch_at(
     edges: usize,
     near: usize,
 ) -> Patch
-    requires { ⌜ Beside (now cells) (now inside) × Meets (now cells) i (now meets) × (i < j) × (j < l) × (l < length (now cells))
+    requires { ⌜ Beside (now cells) (now inside) × Meets (now cells) (now meets) × (i < j) × (j < l) × (l < length (now cells))
         × (adjacent (getD (now cells) i 0) (getD (now cells) j 0) ≡ true) × Numbered (now first) (now second) edges ⌝ }
     ensures { λ r. ⌜ trianglesOfPatch r ≡ trianglesBy (edgesIn (now (first .entry)) (now (second .entry)) edges) (cutWith (sided own side)
         (three (sidedAt (now (cells .entry)) (now (inside .entry)) i) (sidedAt (now (cells .entry)) (now (inside .entry)) j)
         (sidedAt (now (cells .entry)) (now (inside .entry)) l))) ⌝ }
 {
-    if !meets[l] {
+    if !meets[14 * i + l] {
         return Patch::Empty;
     }
-    if !neighbors::are_adjacent(cells[j], cells[l]) {
+    if !meets[14 * j + l] {
         return Patch::Empty;
     }
     let corners = Corners {
@@ -130,7 +142,7 @@ fn cut_third(
     side: bool,
     cells: &[u64],
     inside: &[bool],
-    meets: &[bool; 14],
+    meets: &[bool; 196],
     i: usize,
     j: usize,
     first: &[u64],
@@ -142,7 +154,7 @@ fn cut_third(
     t1: &mut [u32],
     t2: &mut [u32],
 ) -> usize
-    requires { ⌜ Beside (now cells) (now inside) × Meets (now cells) i (now meets) × (i < j) × (j < length (now cells))
+    requires { ⌜ Beside (now cells) (now inside) × Meets (now cells) (now meets) × (i < j) × (j < length (now cells))
         × (adjacent (getD (now cells) i 0) (getD (now cells) j 0) ≡ true) × Numbered (now first) (now second) edges
         × Even (now t0) (now t1) (now t2) × (at ≤ 900000000) ⌝ }
     ensures { λ r. ⌜ Puts (cutsOf (edgesIn (now (first .entry)) (now (second .entry)) edges) (sided own side)
@@ -180,6 +192,7 @@ fn cut_second(
     side: bool,
     cells: &[u64],
     inside: &[bool],
+    meets: &[bool; 196],
     i: usize,
     first: &[u64],
     second: &[u64],
@@ -190,24 +203,23 @@ fn cut_second(
     t1: &mut [u32],
     t2: &mut [u32],
 ) -> usize
-    requires { ⌜ Beside (now cells) (now inside) × (i < length (now cells))
+    requires { ⌜ Beside (now cells) (now inside) × Meets (now cells) (now meets) × (i < length (now cells))
         × Numbered (now first) (now second) edges × Even (now t0) (now t1) (now t2) × (at ≤ 800000000) ⌝ }
     ensures { λ r. ⌜ Puts (cutsOf (edgesIn (now (first .entry)) (now (second .entry)) edges) (sided own side)
         (withTwo (sidedAt (now (cells .entry)) (now (inside .entry)) i) (drop (i + 1) (sidedBy (now (cells .entry)) (now (inside .entry))))))
         at (now (t0 .entry)) (now (t1 .entry)) (now (t2 .entry)) r (now (t0 .exit)) (now (t1 .exit)) (now (t2 .exit)) ⌝ }
     ensures { λ r. ⌜ r ≤ at + 392 ⌝ }
 {
-    let meets = meets_of(cells, i);
     let mut end = at;
     let mut j = i + 1;
     while j < cells.len() {
-        if meets[j] {
+        if meets[14 * i + j] {
             end = cut_third(
                 own,
                 side,
                 cells,
                 inside,
-                &meets,
+                meets,
                 i,
                 j,
                 first,
@@ -247,6 +259,7 @@ fn cut_first(
         at (now (t0 .entry)) (now (t1 .entry)) (now (t2 .entry)) r (now (t0 .exit)) (now (t1 .exit)) (now (t2 .exit)) ⌝ }
     ensures { λ r. ⌜ r ≤ at + 5488 ⌝ }
 {
+    let meets = meets_of(cells);
     let mut end = at;
     let mut i = 0;
     while i < cells.len() {
@@ -255,6 +268,7 @@ fn cut_first(
             side,
             cells,
             inside,
+            &meets,
             i,
             first,
             second,

@@ -13,52 +13,49 @@ use Rattle.cutting.proofs.cut_second.Statement.{statement}
 use Rattle.cutting.proofs.cut_second.Tie as tie
 
 abbrev Inv-loop : tie.InvT-loop
-Inv-loop own side cells inside i first second edges near at t0₀ t1₀ t2₀ meets end₀ j₀ t0 t1 t2 end j =
+Inv-loop own side cells inside meets i first second edges near at t0₀ t1₀ t2₀ end₀ j₀ t0 t1 t2 end j =
     let left = secondFrom (edgesIn first second edges) (sided own side) cells inside i in
     (i < j) × (j ≤ length cells) × (end ≤ at + 28 * j) × Going (left (i + 1)) at t0₀ t1₀ t2₀ (left j) end t0 t1 t2
 
 abbrev μ-loop : tie.MeasureT-loop
-μ-loop own side cells inside i first second edges near at t0₀ t1₀ t2₀ meets end₀ j₀ t0 t1 t2 end j = length cells - j
-
-meets-of-requires : tie.Need-meets-of-requires Inv-loop μ-loop
-meets-of-requires c κs =
-    let s = c .before .before .before .before .before .before .before in
-    (s .pre .1, s .pre .0 .few)
+μ-loop own side cells inside meets i first second edges near at t0₀ t1₀ t2₀ end₀ j₀ t0 t1 t2 end j = length cells - j
 
 add-j : tie.Need-add-j Inv-loop μ-loop
 add-j c = search needs
 
 loop-holds : tie.Need-loop-holds Inv-loop μ-loop
 loop-holds c =
-    let s = c .before .before .before .before .before .before .before .before in
-    (omega arith, omega (arith, s .pre .1), omega arith, going-begun _ _ _ _ _)
+    let s = c .before .before .before .before .before .before .before in
+    (omega arith, omega (arith, s .pre .2), omega arith, going-begun _ _ _ _ _)
 
-array-read-if1 : tie.Need-array-read-if1 Inv-loop μ-loop
-array-read-if1 c =
-    let l = c .before in
-    let s = l .before .before .before .before .before .before .before .before .before in
-    let room = l .before .meets-of .ensures .room in
-    omega (arith, room, s .pre .0 .few, c .loop-test .taken)
+mul-if1 : tie.Need-mul-if1 Inv-loop μ-loop
+mul-if1 c = search needs
+
+add-if1 : tie.Need-add-if1 Inv-loop μ-loop
+add-if1 c = search needs
+
+element-copy-out-if1 : tie.Need-element-copy-out-if1 Inv-loop μ-loop
+element-copy-out-if1 c = search needs
 
 cut-third-requires : tie.Need-cut-third-requires Inv-loop μ-loop
 cut-third-requires c κs =
-    let at-if = c .before .before .before .before in
-    let turn = at-if .before in
+    let at-if = c .before .before .before in
+    let turn = at-if .before .before in
     let l = turn .before in
-    let made = l .before in
-    let s = made .before .before .before .before .before .before .before .before in
+    let s = l .before .before .before .before .before .before .before .before in
+    let h = turn .loop-test .taken in
     let w = l .loop .inv .3 .putting in (
       s .pre .0,
-      made .meets-of .ensures,
+      s .pre .1,
       l .loop .inv .0,
-      turn .loop-test .taken,
-      sym (made .meets-of .ensures .told _ (l .loop .inv .0) (turn .loop-test .taken)) ∙ at-if .if1 .taken,
-      s .pre .2,
+      h,
+      sym (s .pre .1 .told (s .args .i) (l .loop .j) (s .pre .2) (l .loop .inv .0) h) ∙ at-if .if1 .taken,
+      s .pre .3,
       record {
-        second = omega (arith, s .pre .3 .second, w .ones .long, w .twos .long);
-        third = omega (arith, s .pre .3 .third, w .ones .long, w .threes .long);
+        second = omega (arith, s .pre .4 .second, w .ones .long, w .twos .long);
+        third = omega (arith, s .pre .4 .third, w .ones .long, w .threes .long);
       },
-      omega (arith, s .pre .4, s .pre .0 .few, l .loop .inv .1, l .loop .inv .2),
+      omega (arith, s .pre .5, s .pre .0 .few, l .loop .inv .1, l .loop .inv .2),
     )
 
 add-j-2 : tie.Need-add-j-2 Inv-loop μ-loop
@@ -69,21 +66,20 @@ loop-less c = search needs
 
 loop-again : tie.Need-loop-again Inv-loop μ-loop
 loop-again c =
-    let turn = c .before in
+    let turn = c .before .before in
     let l = turn .before in
-    let made = l .before in
-    let s = made .before .before .before .before .before .before .before .before in
+    let s = l .before .before .before .before .before .before .before .before in
     let a = s .args in
     let h = turn .loop-test .taken in
-    let told = made .meets-of .ensures .told _ (l .loop .inv .0) h in
+    let told = s .pre .1 .told (a .i) (l .loop .j) (s .pre .2) (l .loop .inv .0) h in
     let w = l .loop .inv .3 in
     ⊎-elim
     (λ p. (
       omega (arith, l .loop .inv .0),
       omega (arith, h),
-      omega (arith, p .15, p .5 .ensures .1, l .loop .inv .2),
-      rw (p .12, p .13, p .14, p .15)
-          (second-turn _ _ (a .cells .now) (a .inside .now) (s .pre .0 .equal) _ _ _ _ _ _ _ _ _ _ _ _ _ (a .i) _ h w (p .5 .ensures .0)),
+      omega (arith, p .14, p .4 .ensures .1, l .loop .inv .2),
+      rw (p .11, p .12, p .13, p .14)
+          (second-turn _ _ (a .cells .now) (a .inside .now) (s .pre .0 .equal) _ _ _ _ _ _ _ _ _ _ _ _ _ (a .i) _ h w (p .4 .ensures .0)),
     ))
     (λ p. (
       omega (arith, l .loop .inv .0),
@@ -107,7 +103,7 @@ same-length-3 c = search needs
 returns : tie.Need-returns Inv-loop μ-loop
 returns c =
     let l = c .before in
-    let s = l .before .before .before .before .before .before .before .before .before in (
+    let s = l .before .before .before .before .before .before .before .before in (
       going-done _ _ _ _ _ _ _ _ _ _ (l .loop .inv .3)
           (second-left _ _ (s .args .cells .now) (s .args .inside .now) (s .pre .0 .equal) (s .args .i) _ (c .loop-test .left)),
       omega (arith, l .loop .inv .1, l .loop .inv .2, s .pre .0 .few),
@@ -119,10 +115,11 @@ cut-second-spec =
     (tie.spec
     Inv-loop
     μ-loop
-    meets-of-requires
     add-j
     loop-holds
-    array-read-if1
+    mul-if1
+    add-if1
+    element-copy-out-if1
     cut-third-requires
     add-j-2
     loop-less

@@ -1,7 +1,9 @@
 -- `cutting::patch_at` meets its contract: three that are pairwise adjacent are cut, and no others.
 -- Assumes nothing.
+use Prim.Native.Nat.{_<_}
 use mathlib.Core.Path.{ap, _∙_}
 use native.Mathlib.Omega.{arith}
+use lib.ListN.{length}
 use Rattle.lists.proofs.Bools.{yes, no}
 use Rattle.tetrahedra.specs.Near.{close}
 use Rattle.cuts.specs.Patches.{patchBy, trianglesOfPatch, trianglesBy}
@@ -11,6 +13,12 @@ use borrow.Author.Needs.{needs}
 use Rattle.cutting.proofs.patch_at.Statement.{statement}
 use Rattle.cutting.proofs.patch_at.Tie as tie
 
+mul-if1 : tie.Need-mul-if1
+mul-if1 c = search needs
+
+add-if1 : tie.Need-add-if1
+add-if1 c = search needs
+
 element-copy-out-if1 : tie.Need-element-copy-out-if1
 element-copy-out-if1 c = search needs
 
@@ -18,43 +26,40 @@ returns : tie.Need-returns
 unfolding cutWith close trianglesBy patchBy trianglesOfPatch
 returns c =
     let s = c .before .before .before .before .before .before in
-    let told = s .pre .1 .told _ (omega (arith, s .pre .2, s .pre .3)) (s .pre .4) in
-    rw (s .pre .5, no told (c .if1 .taken))
+    let short : s .args .i < length (s .args .cells .now) = omega (arith, s .pre .2, s .pre .3, s .pre .4) in
+    let il = s .pre .1 .told (s .args .i) (s .args .l) short (omega (arith, s .pre .2, s .pre .3)) (s .pre .4) in
+    rw (s .pre .5, no il (c .if1 .taken))
 
-mul-are-adjacent : tie.Need-mul-are-adjacent
-mul-are-adjacent c = search needs
+mul-if2 : tie.Need-mul-if2
+mul-if2 c = search needs
 
-shared-slice-read-are-adjacent : tie.Need-shared-slice-read-are-adjacent
-shared-slice-read-are-adjacent c = search needs
+add-if2 : tie.Need-add-if2
+add-if2 c = search needs
 
-mul-are-adjacent-2 : tie.Need-mul-are-adjacent-2
-mul-are-adjacent-2 c = search needs
-
-shared-slice-read-are-adjacent-2 : tie.Need-shared-slice-read-are-adjacent-2
-shared-slice-read-are-adjacent-2 c = search needs
-
-are-adjacent-requires : tie.Need-are-adjacent-requires
-are-adjacent-requires c κs = search needs
+element-copy-out-if2 : tie.Need-element-copy-out-if2
+element-copy-out-if2 c = search needs
 
 returns-2 : tie.Need-returns-2
 unfolding cutWith close trianglesBy patchBy trianglesOfPatch
 returns-2 c =
-    let at-if1 = c .before .before .before .before in
+    let at-if1 = c .before .before in
     let s = at-if1 .before .before .before .before .before .before in
-    let told = s .pre .1 .told _ (omega (arith, s .pre .2, s .pre .3)) (s .pre .4) in
-    rw (s .pre .5, yes told (at-if1 .if1 .left), no (c .before .are-adjacent .ensures) (c .if2 .taken))
+    let short : s .args .i < length (s .args .cells .now) = omega (arith, s .pre .2, s .pre .3, s .pre .4) in
+    let il = s .pre .1 .told (s .args .i) (s .args .l) short (omega (arith, s .pre .2, s .pre .3)) (s .pre .4) in
+    let jl = s .pre .1 .told (s .args .j) (s .args .l) (omega (arith, s .pre .3, s .pre .4)) (s .pre .3) (s .pre .4) in
+    rw (s .pre .5, yes il (at-if1 .if1 .left), no jl (c .if2 .taken))
 
-mul-t19 : tie.Need-mul-t19
-mul-t19 c = search needs
-
-shared-slice-read-t21 : tie.Need-shared-slice-read-t21
-shared-slice-read-t21 c = search needs
-
-mul-t22 : tie.Need-mul-t22
-mul-t22 c = search needs
+mul-t15 : tie.Need-mul-t15
+mul-t15 c = search needs
 
 shared-slice-read-t24 : tie.Need-shared-slice-read-t24
 shared-slice-read-t24 c = search needs
+
+mul-t16 : tie.Need-mul-t16
+mul-t16 c = search needs
+
+shared-slice-read-t26 : tie.Need-shared-slice-read-t26
+shared-slice-read-t26 c = search needs
 
 mul-t27 : tie.Need-mul-t27
 mul-t27 c = search needs
@@ -62,11 +67,11 @@ mul-t27 c = search needs
 shared-slice-read-t29 : tie.Need-shared-slice-read-t29
 shared-slice-read-t29 c = search needs
 
-shared-slice-read-t17 : tie.Need-shared-slice-read-t17
-shared-slice-read-t17 c = search needs
+shared-slice-read-t19 : tie.Need-shared-slice-read-t19
+shared-slice-read-t19 c = search needs
 
-shared-slice-read-t18 : tie.Need-shared-slice-read-t18
-shared-slice-read-t18 c = search needs
+shared-slice-read-t20 : tie.Need-shared-slice-read-t20
+shared-slice-read-t20 c = search needs
 
 shared-slice-read-t33 : tie.Need-shared-slice-read-t33
 shared-slice-read-t33 c = search needs
@@ -78,32 +83,34 @@ returns-3 : tie.Need-returns-3
 unfolding cutWith close
 returns-3 c =
     let at-if2 = c .before .before .before .before .before .before .before in
-    let at-if1 = at-if2 .before .before .before .before in
+    let at-if1 = at-if2 .before .before in
     let s = at-if1 .before .before .before .before .before .before in
-    let told = s .pre .1 .told _ (omega (arith, s .pre .2, s .pre .3)) (s .pre .4) in
-    rw (s .pre .5, yes told (at-if1 .if1 .left), yes (at-if2 .before .are-adjacent .ensures) (at-if2 .if2 .left))
+    let short : s .args .i < length (s .args .cells .now) = omega (arith, s .pre .2, s .pre .3, s .pre .4) in
+    let il = s .pre .1 .told (s .args .i) (s .args .l) short (omega (arith, s .pre .2, s .pre .3)) (s .pre .4) in
+    let jl = s .pre .1 .told (s .args .j) (s .args .l) (omega (arith, s .pre .3, s .pre .4)) (s .pre .3) (s .pre .4) in
+    rw (s .pre .5, yes il (at-if1 .if1 .left), yes jl (at-if2 .if2 .left))
     (ap trianglesOfPatch (c .patch-of .ensures) ∙ patch-in _ _ _ (s .pre .6) _ _)
 
 pub patch-at-spec : {M : Type 1} → statement M
 patch-at-spec =
     tie.close
     (tie.spec
+    mul-if1
+    add-if1
     element-copy-out-if1
     returns
-    mul-are-adjacent
-    shared-slice-read-are-adjacent
-    mul-are-adjacent-2
-    shared-slice-read-are-adjacent-2
-    are-adjacent-requires
+    mul-if2
+    add-if2
+    element-copy-out-if2
     returns-2
-    mul-t19
-    shared-slice-read-t21
-    mul-t22
+    mul-t15
     shared-slice-read-t24
+    mul-t16
+    shared-slice-read-t26
     mul-t27
     shared-slice-read-t29
-    shared-slice-read-t17
-    shared-slice-read-t18
+    shared-slice-read-t19
+    shared-slice-read-t20
     shared-slice-read-t33
     patch-of-requires
     returns-3)
