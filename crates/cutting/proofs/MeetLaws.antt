@@ -12,17 +12,17 @@ use lib.Seq.{getD-set-same, getD-set-other}
 use borrow.Author.Tests.{eqb-true, eqb-false}
 use Rattle.lists.proofs.Bools.{cases}
 use Rattle.neighbors.specs.Neighbors.{adjacent}
-use Rattle.cutting.specs.Steps.{Told}
+use Rattle.cutting.specs.Steps.{MeetsUpTo}
 
 -- of the cell at i those before l are told too
 abbrev pub Telling : List ℕ → ℕ → ℕ → List Bool → Type 0
-Telling hs i l ms = Told hs i ms × ((k : ℕ) → i < k → k < l → getD ms (14 * i + k) false ≡ adjacent (getD hs i 0) (getD hs k 0))
+Telling hs i l ms = MeetsUpTo hs i ms × ((k : ℕ) → i < k → k < l → getD ms (14 * i + k) false ≡ adjacent (getD hs i 0) (getD hs k 0))
 
-pub none-told : (hs : List ℕ) (ms : List Bool) → Told hs 0 ms
+pub none-told : (hs : List ℕ) (ms : List Bool) → MeetsUpTo hs 0 ms
 none-told hs ms i l a b c = absurd (not-suc-le-zero a)
 
 module _ (hs : List ℕ) (few : length hs ≤ 14) (i : ℕ) (ms : List Bool) where
-  pub none-telling : Told hs i ms → Telling hs i (i + 1) ms
+  pub none-telling : MeetsUpTo hs i ms → Telling hs i (i + 1) ms
   none-telling t = (t, λ k a b. absurd (omega arith))
 
   pub one-telling : (l : ℕ)
@@ -43,7 +43,7 @@ module _ (hs : List ℕ) (few : length hs ≤ 14) (i : ℕ) (ms : List Bool) whe
         refl,
   )
 
-  pub all-telling : (l : ℕ) → Telling hs i l ms → length hs ≤ l → Told hs (i + 1) ms
+  pub all-telling : (l : ℕ) → Telling hs i l ms → length hs ≤ l → MeetsUpTo hs (i + 1) ms
   all-telling l t h k m p q r =
       cases (λ (s : Bool). eqb k i ≡ s → getD ms (14 * k + m) false ≡ adjacent (getD hs k 0) (getD hs m 0)) (eqb k i)
       (λ s u. rw (eqb-true k i u) (t .1 m (omega (arith, q, eqb-true k i u)) (omega (arith, r))))

@@ -38,13 +38,13 @@ pub record Beside (hs : List ℕ) (ss : List Bool) : Type 0 where
   pub few : length hs ≤ 14
 
 -- of the first n cells is told which past each are adjacent to it, each in a part of 14
-abbrev pub Told : List ℕ → ℕ → List Bool → Type 0
-Told hs n ms = (i l : ℕ) → i < n → i < l → l < length hs → getD ms (14 * i + l) false ≡ adjacent (getD hs i 0) (getD hs l 0)
+abbrev pub MeetsUpTo : List ℕ → ℕ → List Bool → Type 0
+MeetsUpTo hs n ms = (i l : ℕ) → i < n → i < l → l < length hs → getD ms (14 * i + l) false ≡ adjacent (getD hs i 0) (getD hs l 0)
 
 -- of all cells
 pub record Meets (hs : List ℕ) (ms : List Bool) : Type 0 where
   pub room : length ms ≡ 196
-  pub told : Told hs (length hs) ms
+  pub told : MeetsUpTo hs (length hs) ms
 
 -- an edge starts at a key, by the place of the key: the first key there is that one
 unfoldable pub startsAt : List ℕ → ℕ → ℕ → ℕ → Bool

@@ -24,7 +24,7 @@ ghost use Rattle.tetrahedra.specs.ClosedTriangles.{closedTriangles};
 ghost use Rattle.cuts.specs.Patches.{trianglesOfPatch, trianglesBy};
 ghost use Rattle.cuts.specs.Numbers.{Numbered};
 ghost use Rattle.cutting.specs.Corners.{sided, sidedBy, sidedAt, cutWith, cutsOf, cutsAt, cutRow};
-ghost use Rattle.cutting.specs.Steps.{Even, Puts, Beside, Told, Meets, startsAt, Own, OwnIf, IsCut};
+ghost use Rattle.cutting.specs.Steps.{Even, Puts, Beside, MeetsUpTo, Meets, startsAt, Own, OwnIf, IsCut};
 ghost use Rattle.cutting.specs.Closing.{threeOk, IsClosed};
 
 // What is answered to the closed mesh's edges, and to its triangles.
@@ -70,8 +70,8 @@ fn put_patch(patch: Patch, at: usize, t0: &mut [u32], t1: &mut [u32], t2: &mut [
 
 // Which of those past a place are adjacent to the one there, in its part of `meets`.
 fn mark_meets(cells: &[u64], i: usize, meets: &mut [bool])
-    requires { ⌜ (i < length (now cells)) × (length (now cells) ≤ 14) × (length (now meets) ≡ 196) × Told (now cells) i (now meets) ⌝ }
-    ensures { λ _. ⌜ Told (now (cells .entry)) (i + 1) (now (meets .exit)) ⌝ }
+    requires { ⌜ (i < length (now cells)) × (length (now cells) ≤ 14) × (length (now meets) ≡ 196) × MeetsUpTo (now cells) i (now meets) ⌝ }
+    ensures { λ _. ⌜ MeetsUpTo (now (cells .entry)) (i + 1) (now (meets .exit)) ⌝ }
 {
     let mut l = i + 1;
     while l < cells.len() {

@@ -1,6 +1,6 @@
 -- Where a walk over ascending keys ends, and that ascending own keys have their places in order.
 -- Assumes nothing.
-use mathlib.Core.Path.{_≡_, _∙_}
+use mathlib.Core.Path.{_≡_}
 use mathlib.Core.Bool.{Bool, true, cond}
 use mathlib.Core.List.{List, [], _∷_}
 use Prim.Native.Nat.{ℕ, suc, _+_, _-_, _<_, _≤_, zero-le, suc-le-suc}
@@ -36,9 +36,9 @@ module _ (k : ℕ) (ks : List ℕ) (n : ℕ) (g : n ≤ length ks) (a : ascendin
   ends p h q = omega (arith, place-within)
 
   -- q is the smaller of k's place and j; a key further, counted where it is below k, it is so again
-  one-counted : (j q x : ℕ) → j < n → q ≡ placeOf k (take n ks) - (placeOf k (take n ks) - j) → x ≡ cond (ltb (getD ks j 0) k) 1 0
+  counts-below : (j q x : ℕ) → j < n → q ≡ placeOf k (take n ks) - (placeOf k (take n ks) - j) → x ≡ cond (ltb (getD ks j 0) k) 1 0
       → q + x ≡ placeOf k (take n ks) - (placeOf k (take n ks) - suc j)
-  one-counted j q x h e f =
+  counts-below j q x h e f =
       cases (λ (b : Bool). x ≡ cond b 1 0 → q + x ≡ placeOf k (take n ks) - (placeOf k (take n ks) - suc j)) (ltb (getD ks j 0) k)
       (λ t g. omega (arith, g, e, goes j h (ltb-true (getD ks j 0) k t)))
       (λ t g. omega (arith, g, e, not-past j h (ltb-false (getD ks j 0) k t)))
@@ -51,9 +51,9 @@ module _ (k : ℕ) (ks : List ℕ) (n : ℕ) (g : n ≤ length ks) (a : ascendin
       → z ≡ cond (ltb (getD ks (p + 2) 0) k) 1 0
       → p + x + y + z ≡ placeOf k (take n ks)
   of-four p x y z low high h ex ey ez =
-      let one = one-counted p p x (omega arith) (omega (arith, low)) ex in
-      let two = one-counted (p + 1) (p + x) y (omega arith) (omega (arith, one)) ey in
-      let three = one-counted (p + 2) (p + x + y) z (omega arith) (omega (arith, two)) ez in
+      let one = counts-below p p x (omega arith) (omega (arith, low)) ex in
+      let two = counts-below (p + 1) (p + x) y (omega arith) (omega (arith, one)) ey in
+      let three = counts-below (p + 2) (p + x + y) z (omega arith) (omega (arith, two)) ez in
       omega (arith, three, high)
 
 -- ---- own keys

@@ -1,8 +1,8 @@
 // Own rows beside a table: each own key gets a seat among the table's keys; by the seats a column's values are loaded, and after
 // they were changed apart all columns are settled in one walk over the seats. A row whose weight is in range stands; the others
-// wait, and are never settled. A further column takes one call of `load_` for its type of element and a line each in `slide` and
-// `seat_row`, and cites the same laws; one row alone is put into it by `set` or `inserted` (table/proofs/Laying: laid-set,
-// laid-open).
+// wait, and are never settled. A further column takes one call of `load_` for its type of element, a line each in `slide` and
+// `seat_row` and a clause in their contracts and in that of `settle`, by the same laws; one row alone is put into it by `set` or
+// `inserted` (table/proofs/Laying: laid-set, laid-open).
 use floats::between;
 use search::place_of;
 ghost use Prim.Native.Nat.{_+_, _≤_, _<_};
@@ -72,7 +72,7 @@ fn walk_from(keys: &[u64], count: usize, start: usize, key: u64) -> usize
 }
 
 // The same, four keys at a time. Those of the last four that are below `key` are counted, so that no branch is guessed wrongly.
-fn place_from(keys: &[u64], count: usize, start: usize, key: u64) -> usize
+fn place_past(keys: &[u64], count: usize, start: usize, key: u64) -> usize
     requires { ⌜ (count ≤ length (now keys)) × (ascending (take count (now keys)) ≡ true) ⌝ }
     requires { ⌜ start ≤ placeOf key (take count (now keys)) ⌝ }
     ensures { λ r. ⌜ r ≡ placeOf key (take count (now (keys .entry))) ⌝ }
@@ -123,7 +123,7 @@ pub fn locate(keys: &[u64], count: usize, own_keys: &[u64], seats: &mut [u32], o
     let mut i = 0;
     while i < own {
         let key = own_keys[i];
-        place = place_from(keys, count, place, key);
+        place = place_past(keys, count, place, key);
         seats[i] = seat_at(keys, count, place, key);
         i += 1;
     }

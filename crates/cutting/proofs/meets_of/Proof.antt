@@ -5,14 +5,14 @@ use native.Mathlib.Omega.{arith}
 use mathlib.Core.Path.{_≡_, refl}
 use mathlib.Core.Bool.{false}
 use lib.ListN.{length, replicate}
-use Rattle.cutting.specs.Steps.{Told}
+use Rattle.cutting.specs.Steps.{MeetsUpTo}
 use Rattle.cutting.proofs.MeetLaws.{none-told}
 use borrow.Author.Needs.{needs}
 use Rattle.cutting.proofs.meets_of.Statement.{statement}
 use Rattle.cutting.proofs.meets_of.Tie as tie
 
 abbrev Inv-loop : tie.InvT-loop
-Inv-loop cells meets₀ i₀ meets i = (i ≤ length cells) × (length meets ≡ 196) × Told cells i meets
+Inv-loop cells meets₀ i₀ meets i = (i ≤ length cells) × (length meets ≡ 196) × MeetsUpTo cells i meets
 
 abbrev μ-loop : tie.MeasureT-loop
 μ-loop cells meets₀ i₀ meets i = length cells - i

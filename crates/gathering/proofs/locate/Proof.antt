@@ -1,6 +1,6 @@
 -- `gathering::locate` meets its contract: the first i own keys have their seats, and the next one is at the place or past it.
 -- Assumes nothing.
-use Prim.Native.Nat.{ℕ, _-_, _+_, _<_, _≤_}
+use Prim.Native.Nat.{ℕ, _-_, _<_, _≤_}
 use mathlib.Core.Path.{_≡_, refl, _∙_}
 use native.Mathlib.Omega.{arith}
 use lib.ListN.{length, getD, take, length-set}
@@ -39,8 +39,8 @@ mul-key c = search needs
 shared-slice-read-key : tie.Need-shared-slice-read-key Inv-loop μ-loop
 shared-slice-read-key c = search needs
 
-place-from-requires : tie.Need-place-from-requires Inv-loop μ-loop
-place-from-requires c κs =
+place-past-requires : tie.Need-place-past-requires Inv-loop μ-loop
+place-past-requires c κs =
     let l = c .before .before .loop in
     let s = c .before .before .before .before .before .before .before in ((s .pre .0 .0, s .pre .0 .2), l .inv .3 (c .before .loop-test .taken))
 
@@ -69,7 +69,7 @@ loop-again c =
           (c .seat-at .result) (c .seat-at .ensures) (omega (arith, more, s .pre)) (omega (arith, more, s .pre, l .inv .2)) (l .inv .1),
       length-set (l .seats) (l .i) (c .seat-at .result) ∙ l .inv .2,
       next-start (take (s .args .count) (s .args .keys .now)) (s .args .own-keys .now) (s .args .own) (s .pre .1 .0) (s .pre .1 .2) (l .i) _
-          (c .before .place-from .ensures),
+          (c .before .place-past .ensures),
     )
 
 same-length : tie.Need-same-length Inv-loop μ-loop
@@ -91,7 +91,7 @@ locate-spec =
     loop-holds
     mul-key
     shared-slice-read-key
-    place-from-requires
+    place-past-requires
     seat-at-requires
     mul-seats
     slice-write-seats

@@ -1,9 +1,9 @@
--- `gathering::place_from` meets its contract: of the four keys among which the place is, those below the key are before it.
+-- `gathering::place_past` meets its contract: of the four keys among which the place is, those below the key are before it.
 -- Assumes nothing.
 use Rattle.gathering.proofs.Placing.{of-four}
 use borrow.Author.Needs.{needs}
-use Rattle.gathering.proofs.place_from.Statement.{statement}
-use Rattle.gathering.proofs.place_from.Tie as tie
+use Rattle.gathering.proofs.place_past.Statement.{statement}
+use Rattle.gathering.proofs.place_past.Tie as tie
 
 skip-fours-requires : tie.Need-skip-fours-requires
 skip-fours-requires c κs = search needs
@@ -71,8 +71,8 @@ walk-from-requires c κs = search needs
 returns-2 : tie.Need-returns-2
 returns-2 c = search needs
 
-pub place-from-spec : {M : Type 1} → statement M
-place-from-spec =
+pub place-past-spec : {M : Type 1} → statement M
+place-past-spec =
     tie.close
     (tie.spec
     skip-fours-requires
