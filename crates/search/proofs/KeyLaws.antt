@@ -1,7 +1,7 @@
 -- Ascending keys, and the search by halves.
 -- Assumes nothing.
 use mathlib.Core.Path.{_≡_, refl, sym, ap, subst, _∙_}
-use mathlib.Core.Bool.{Bool, true, false, cond, _&&_, and-false}
+use mathlib.Core.Bool.{Bool, true, false, cond, _&&_, _||_, and-false}
 use mathlib.Core.List.{List, [], _∷_, List·Memᴰ·not-nil, List·Memᴰ·cases-cons}
 use mathlib.Core.Logic.{⊎-elim}
 use Prim.Native.Nat.{ℕ, zero, suc, _+_, _-_, _/_, _<_, _≤_, min, zero-le, suc-le-suc}
@@ -12,7 +12,7 @@ use borrow.Author.Tests.{lt-ltb, le-ltb, ltb-true, ltb-false, ne-eqb, eq-eqb, eq
 use lib.Dec.{ltb, eqb, leb·suc-suc}
 use lib.ListN.{length, getD, take, drop, length-take}
 use lib.Seq.{length-take-le, getD-take}
-use Rattle.search.specs.Keys.{risesFrom, ascending, placeOf, halving, halved, find, findBy, next}
+use Rattle.search.specs.Keys.{member, risesFrom, ascending, placeOf, halving, halved, find, findBy, next}
 use Rattle.search.specs.declared.Found.{Found}
 use Rattle.search.specs.declared.Found.the-variants.{At, Absent}
 use Rattle.lists.specs.Lists.{_∈_, Ordered}
@@ -235,6 +235,31 @@ absent-differs k l ks a =
     (λ e h. absurd (at-absent 0 h))
     (λ e h. (eqb-false l k e, next-absent (find k ks) h))
     a
+
+-- a key that is found stands in the list, and one that is not does not
+isAt : Found → Bool
+isAt (At i) = true
+isAt Absent = false
+
+find-member : (k : ℕ) (ks : List ℕ) → member k ks ≡ isAt (find k ks)
+unfolding isAt member find next
+find-member k [] = refl
+find-member k (l ∷ ls) =
+    cases (λ (b : Bool). b || member k ls ≡ isAt (cond b (At 0) (next (find k ls)))) (eqb l k)
+    (λ e. refl)
+    (λ e. find-member k ls ∙ moved (find k ls))
+  where
+    moved : (f : Found) → isAt f ≡ isAt (next f)
+    moved (At i) = refl
+    moved Absent = refl
+
+pub found-member : (k : ℕ) (ks : List ℕ) (i : ℕ) → find k ks ≡ At i → member k ks ≡ true
+unfolding isAt
+found-member k ks i e = find-member k ks ∙ ap isAt e
+
+pub absent-member : (k : ℕ) (ks : List ℕ) → find k ks ≡ Absent → member k ks ≡ false
+unfolding isAt
+absent-member k ks e = find-member k ks ∙ ap isAt e
 
 next-cond : (b : Bool) (p : ℕ) → cond b (At (suc p)) Absent ≡ next (cond b (At p) Absent)
 unfolding next
