@@ -112,13 +112,13 @@ static int put_away(const char *path, size_t bytes) {
 }
 
 int main(int words, char **word) {
-    size_t rows = 0, at, vertices, triangles, bytes, n = scan();
+    size_t rows = 0, added, changed, far, at, vertices, triangles, bytes, n = scan();
     if (words != 2) {
         fprintf(stderr, "usage: closed FILE.stl\n");
         return 2;
     }
     uint32_t answer = akf_batch_update(SETTINGS, keys, ROWS, distances, ROWS, weights, ROWS, &rows, read_keys, n,
-                                       readings, n, confidences, n, &at);
+                                       readings, n, confidences, n, &added, &changed, &far, &at);
     if (answer == AKF_DONE)
         answer = akf_extract_turned_mesh(SETTINGS, keys, ROWS, distances, ROWS, weights, ROWS, rows, first, EDGES,
                                          second, EDGES, px, EDGES, py, EDGES, pz, EDGES, nx, EDGES, ny, EDGES, nz,

@@ -1,7 +1,7 @@
-/* host.c: what a plug-in does. Two passes over a small last are fused, the surface is meshed, and counts, area and box
- * are printed; then the mesh that closes, its triangles turned outwards: counts, area, sides and volume, the same as an
- * STL file and read back; and two refusals. All lists are the host's own. Lengths are millimetres, which lathes and
- * slicers read. */
+/* host.c: what a plug-in does. Two passes over a small last are fused, with the counter that an operator watches, the
+ * surface is meshed, and counts, area and box are printed; then the mesh that closes, its triangles turned outwards:
+ * counts, area, sides and volume, the same as an STL file and read back; and two refusals. All lists are the host's
+ * own. Lengths are millimetres, which lathes and slicers read. */
 #include "akfelzun.h"
 
 #include <stdio.h>
@@ -99,12 +99,13 @@ static size_t same_corners(size_t triangles) {
 }
 
 int main(void) {
-    size_t rows = 0, at, edges, triangles, written, corners;
+    size_t rows = 0, added, changed, far, at, edges, triangles, written, corners;
     for (int pass = 0; pass < 2; pass++) {
         size_t n = scan(pass == 0 ? 0.15625f : -0.15625f);
         uint32_t answer = akf_batch_update(SETTINGS, TABLE_IN, &rows, batch_keys, n, batch_distances, n,
-                                           batch_confidences, n, &at);
-        printf("pass %d: %zu readings, answer %u, rows %zu\n", pass + 1, n, answer, rows);
+                                           batch_confidences, n, &added, &changed, &far, &at);
+        printf("pass %d: %zu readings, answer %u, new %zu, changed %zu, far %zu, rows %zu\n", pass + 1, n, answer, added,
+               changed, far, rows);
     }
 
     uint32_t answer = akf_extract_mesh_from_tsdf(

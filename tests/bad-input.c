@@ -2,8 +2,9 @@
  * length 0, lengths that differ, counts past lengths, lists longer than the limits, NaNs and infinities everywhere,
  * files of every length and with any count.
  *
- * All that calls are lent stands in one place. Each case makes it good, where every call answers AKF_DONE, spoils one thing, and asks
- * the calls that take it: the answer's number is as said, numbers handed back are 0, and lists that are written are zero throughout. */
+ * All that calls are lent stands in one place. Each case makes it good, where every call answers AKF_DONE, a fuse AKF_CHANGED, spoils one
+ * thing, and asks the calls that take it: the answer's number is as said, numbers handed back are 0, and lists that are written are zero
+ * throughout. */
 #include "akfelzun.h"
 
 #include <math.h>
@@ -82,7 +83,7 @@ static float settings[4], reading, confidence, depth, sensor[3], threshold, posi
 static uint64_t cell[ROWS];
 
 /* what is handed back */
-static size_t n[3];
+static size_t n[4];
 static float f[6];
 static uint32_t yes;
 static int32_t snapped[3];
@@ -182,8 +183,13 @@ static uint32_t fuse(void) { return akf_update_from_depth(THE_SETTINGS, THE_TABL
 static uint32_t fuse_ray(void) {
     return akf_update_from_depth_ray(THE_SETTINGS, THE_TABLE, &count, cell[1], sensor[0], sensor[1], sensor[2], depth, confidence);
 }
+/* an answer; 99 in its place where what was added, changed and far is not all that was taken: every reading, those before the refused one, none
+   where 1, 2 or 3 refuses */
 static uint32_t batch(void) {
-    return akf_batch_update(THE_SETTINGS, THE_TABLE, &count, U64(BATCH_KEYS), F32(BATCH_DISTANCES), F32(BATCH_CONFIDENCES), n);
+    uint32_t answer = akf_batch_update(THE_SETTINGS, THE_TABLE, &count, U64(BATCH_KEYS), F32(BATCH_DISTANCES), F32(BATCH_CONFIDENCES), n,
+                                       n + 1, n + 2, n + 3);
+    size_t taken = answer == AKF_DONE ? len[BATCH_KEYS] : n[3];
+    return n[0] + n[1] + n[2] == taken && (answer > 3 || n[3] == 0) ? answer : 99;
 }
 static uint32_t tsdf_distance(void) { return back(akf_tsdf_get_distance(THE_SETTINGS, THE_TABLE, count, cell[1], f), 0, 1, 0); }
 static uint32_t tsdf_weight(void) { return back(akf_tsdf_get_weight(THE_SETTINGS, THE_TABLE, count, cell[1], f), 0, 1, 0); }
@@ -288,13 +294,22 @@ static int table_as_then(void) {
     return count == count_then;
 }
 
+/* numbers that are to be handed back */
+static void spoil_numbers(void) {
+    for (int k = 0; k < 4; k++) n[k] = 77;
+    for (int k = 0; k < 6; k++) f[k] = 77.0f;
+    yes = 77;
+}
+
+/* a call's answer where nothing is spoilt */
+static uint32_t unspoilt(int i) { return call[i].run == fuse || call[i].run == fuse_ray ? AKF_CHANGED : AKF_DONE; }
+
 /* the call's answer to what is lent now; numbers handed back are spoilt before */
 static void ask(int i, uint32_t answer, const char *spoilt) {
-    n[0] = n[1] = n[2] = 77, yes = 77;
-    for (int k = 0; k < 6; k++) f[k] = 77.0f;
+    spoil_numbers();
     remember();
     expect(call[i].run() == answer, "the answer is another, or a number handed back is not 0", call[i].name, spoilt);
-    if (answer == AKF_DONE) return;
+    if (answer == unspoilt(i)) return;
     expect(table_as_then(), "the table is touched", call[i].name, spoilt);
     for (int s = 0; s < SETS; s++)
         if (call[i].writes & IN(s))
@@ -303,7 +318,30 @@ static void ask(int i, uint32_t answer, const char *spoilt) {
 }
 
 static void all_good(void) {
-    for (int i = 0; i < CALLS; i++) good(), ask(i, AKF_DONE, "nothing is spoilt");
+    for (int i = 0; i < CALLS; i++) good(), ask(i, unspoilt(i), "nothing is spoilt");
+}
+
+/* what a reading did: a cell that is not stored is new, then changed, and a reading beyond the truncation is far */
+static void readings(void) {
+    uint32_t (*const run[2])(void) = {fuse, fuse_ray};
+    for (int r = 0; r < 2; r++) {
+        good(), count = 1;
+        expect(run[r]() == AKF_NEW && count == 2, "not new, or no row more", "update_from_depth", "a cell that is not stored");
+        expect(run[r]() == AKF_CHANGED && count == 2, "not changed, or a row more", "update_from_depth", "a stored cell");
+        reading = 2.0f, depth = 9.0f, remember();
+        expect(run[r]() == AKF_FAR && table_as_then(), "not far, or the table is touched", "update_from_depth", "a far reading");
+    }
+}
+
+/* a batch's readings of three cells that are not stored, the last far; then no place for the third cell */
+static void counters(void) {
+    good(), count = 0, floats(BATCH_DISTANCES)[ROOM - 1] = 2.0f, spoil_numbers();
+    expect(batch() == AKF_DONE && n[0] == ROWS && n[1] == ROOM - ROWS - 1 && n[2] == 1 && count == ROWS, "counted otherwise", "batch_update",
+           "three new cells");
+    good(), count = 0, floats(BATCH_DISTANCES)[2] = 2.0f, spoil_numbers();
+    for (int l = KEYS; l <= WEIGHTS; l++) len[l] = 2;
+    expect(batch() == 6 && n[0] == 2 && n[1] == 2 && n[2] == 1 && n[3] == 5 && count == 2, "counted otherwise", "batch_update",
+           "no place for a third cell");
 }
 
 /* each list in turn one place shorter than those that it is lent with: 2 */
@@ -345,7 +383,7 @@ static void limits(void) {
         for (int s = 0; s < SETS; s++)
             if (call[i].takes & IN(s)) {
                 good(), lengthen(s, set[s].limit + 1), ask(i, 2, set[s].name);
-                if (s != BATCH && s != READ) good(), lengthen(s, set[s].limit), ask(i, AKF_DONE, set[s].name);
+                if (s != BATCH && s != READ) good(), lengthen(s, set[s].limit), ask(i, unspoilt(i), set[s].name);
             }
     good();
 }
@@ -374,8 +412,9 @@ static void nans(void) {
         }
         /* a refused batch names the reading; the one before it stands */
         for (int l = BATCH_DISTANCES; l <= BATCH_CONFIDENCES; l++) {
-            good(), floats(l)[1] = x, n[0] = 77;
-            expect(batch() == 5 && n[0] == 1 && count == ROWS && floats(DISTANCES)[0] < 0.5f && floats(DISTANCES)[1] == -0.5f, "not refused at reading 1", "batch_update", "a reading");
+            good(), floats(l)[1] = x, spoil_numbers();
+            expect(batch() == 5 && n[3] == 1 && n[1] == 1 && count == ROWS && floats(DISTANCES)[0] < 0.5f && floats(DISTANCES)[1] == -0.5f,
+                   "not refused at reading 1", "batch_update", "a reading");
         }
         for (int p = 0; p < 3; p++) {
             good(), position[p] = x, snapped[0] = snapped[1] = snapped[2] = 77;
@@ -551,8 +590,7 @@ static void nulls(void) {
         uint32_t answer = AKF_DONE;
         for (size_t o = 0; o < sizeof other / sizeof *other; o++)
             if (call[i].run == other[o].run) answer = other[o].answer;
-        n[0] = n[1] = n[2] = 77, yes = 77;
-        for (int k = 0; k < 6; k++) f[k] = 77.0f;
+        spoil_numbers();
         expect(call[i].run() == answer, "the answer is another, or a number handed back is not 0", call[i].name, "null pointers");
         if (answer == AKF_DONE)
             expect((n[0] == 0 || n[0] == 77) && (n[1] == 0 || n[1] == 77) && (yes == 0 || yes == 77) && count == 0, "something is counted", call[i].name, "null pointers");
@@ -562,6 +600,8 @@ static void nulls(void) {
 
 int main(void) {
     all_good();
+    readings();
+    counters();
     nulls();
     lengths();
     counts();

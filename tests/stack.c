@@ -21,9 +21,9 @@ static size_t count, edges, triangles, written, corners;
 static uint32_t answer;
 
 static void *fuse(void *unused) {
-    size_t at;
+    size_t added, changed, far, at;
     answer = akf_batch_update(SETTINGS, keys, ROWS, distances, ROWS, weights, ROWS, &count, batch, READINGS, read_distances, READINGS, confidences,
-                              READINGS, &at);
+                              READINGS, &added, &changed, &far, &at);
     return unused;
 }
 

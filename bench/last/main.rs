@@ -166,10 +166,11 @@ fn face_batch(f: &Field, order: impl Iterator<Item = usize>) -> Done {
     let ones = vec![1.0; keys.len()];
     let n = keys.len();
     let ms = best(|| {
-        let (mut k, mut d, mut w, mut count, mut at) = (vec![0; n], vec![0.0; n], vec![0.0; n], 0, 0);
+        let (mut k, mut d, mut w, mut count) = (vec![0; n], vec![0.0; n], vec![0.0; n], 0);
+        let (mut added, mut changed, mut far, mut at) = (0, 0, 0, 0);
         let t = TableMut { keys: &mut k, distances: &mut d, weights: &mut w, count: &mut count };
-        let answer = (FACE.batch_update)(f.settings, t, &keys, &distances, &ones, &mut at);
-        assert!(answer == 0 && count == n, "batch: answer {answer} at {at}");
+        let answer = (FACE.batch_update)(f.settings, t, &keys, &distances, &ones, &mut added, &mut changed, &mut far, &mut at);
+        assert!(answer == 0 && count == n && [added, changed, far] == [n, 0, 0], "batch: answer {answer} at {at}");
         assert!(k == f.keys && d == f.distances, "the batch gave another table");
     });
     done(ms, n)

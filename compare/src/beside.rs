@@ -12,7 +12,7 @@ use crate::ordered::counted;
 use crate::ordered::neighbors::neighbors_index64 as rust_neighbors;
 use crate::plain::keys::{head_of, on_lattice};
 use crate::plain::table::{distance_ok, Row};
-use crate::plain::{one_set, ABSENT, DONE, FAR, LISTS_LIMIT, ROWS_LIMIT};
+use crate::plain::{one_set, ABSENT, CHANGED, DONE, FAR, LISTS_LIMIT, NEW, ROWS_LIMIT};
 use std::panic::{catch_unwind, AssertUnwindSafe};
 
 fn index(key: u64) -> Index64 {
@@ -128,8 +128,9 @@ fn lists_of(c: &Case, l: &TSDFLayer, answer: Option<u32>) -> Outcome {
         .list("weights", &weights)
 }
 
-// One update of the Rust's, and document 01's answer to it: FAR where a new key was not stored, 6 or 7 where the row that it stored
-// has no place or is too large (then the row is taken back). None where a stored row came out as it was: FAR and DONE look alike.
+// One update of the Rust's, and the answer to it: NEW where its table did not have the key and CHANGED where it had, FAR where a
+// new key was not stored, 6 or 7 where the row that it stored has no place or is too large (then the row is taken back). None where
+// a stored row came out as it was: FAR and CHANGED look alike.
 pub fn updated(l: &mut TSDFLayer, room: usize, key: u64, update: impl FnOnce(&mut TSDFLayer, Index64)) -> Option<u32> {
     let k = index(key);
     let before = l.voxels.get(&k).copied();
@@ -141,12 +142,12 @@ pub fn updated(l: &mut TSDFLayer, room: usize, key: u64, update: impl FnOnce(&mu
             l.voxels.remove(&k);
             Some(6)
         }
-        (None, Some(_)) => Some(DONE),
+        (None, Some(_)) => Some(NEW),
         (Some(b), Some(a)) if !distance_ok(a.distance) => {
             l.voxels.insert(k, b);
             Some(7)
         }
-        (Some(b), Some(a)) => (b.distance.to_bits() != a.distance.to_bits() || b.weight.to_bits() != a.weight.to_bits()).then_some(DONE),
+        (Some(b), Some(a)) => (b.distance.to_bits() != a.distance.to_bits() || b.weight.to_bits() != a.weight.to_bits()).then_some(CHANGED),
         (Some(_), None) => unreachable!("the Rust never drops a row"),
     }
 }
@@ -170,7 +171,8 @@ pub fn update_from_depth_ray(c: &Case) -> Option<Outcome> {
     Some(lists_of(c, &l, answer))
 }
 
-// The readings one by one find the first that document 01 refuses; the Rust's own batch then takes those before it.
+// The readings one by one find the first that document 01 refuses; the Rust's own batch then takes those before it. The Rust
+// counts nothing: its table tells which readings add a row, its own test of the truncation which are far, and the others change one.
 pub fn batch_update(c: &Case) -> Option<Outcome> {
     let n = c.batch_keys.len();
     if !rust_table(c) || !one_set(&[n, c.batch_distances.len(), c.batch_confidences.len()], ROWS_LIMIT) {
@@ -178,9 +180,11 @@ pub fn batch_update(c: &Case) -> Option<Outcome> {
     }
     let mut l = layer(c);
     let (mut answer, mut at) = (DONE, 0);
+    let (mut added, mut far) = (0, 0);
     let mut taken = Vec::new();
     for i in 0..n {
         let (key, distance, confidence) = (c.batch_keys[i], c.batch_distances[i], c.batch_confidences[i]);
+        let rows = l.voxels.len();
         let refused = if !on_lattice(key) {
             Some(4)
         } else if !rust_key(key) {
@@ -195,10 +199,13 @@ pub fn batch_update(c: &Case) -> Option<Outcome> {
             break;
         }
         taken.push((index(key), distance, confidence));
+        added += l.voxels.len() - rows;
+        far += (distance.abs() > c.settings[0]) as usize;
     }
     let mut l = layer(c);
     l.batch_update(&taken).unwrap();
-    Some(lists_of(c, &l, Some(answer)).number("at", at))
+    let changed = taken.len() - added - far;
+    Some(lists_of(c, &l, Some(answer)).number("added", added).number("changed", changed).number("far", far).number("at", at))
 }
 
 fn told<T: Bits + Default>(name: &'static str, value: Option<T>) -> Outcome {

@@ -18,7 +18,7 @@ pub struct Side {
     pub is_valid_bcc: fn(i32, i32, i32) -> u32,
     pub update_from_depth: fn(Settings, TableMut, u64, f32, f32) -> u32,
     pub update_from_depth_ray: fn(Settings, TableMut, u64, [f32; 3], f32, f32) -> u32,
-    pub batch_update: fn(Settings, TableMut, &[u64], &[f32], &[f32], &mut usize) -> u32,
+    pub batch_update: fn(Settings, TableMut, &[u64], &[f32], &[f32], &mut usize, &mut usize, &mut usize, &mut usize) -> u32,
     pub tsdf_get_distance: fn(Settings, Table, u64, &mut f32) -> u32,
     pub tsdf_get_weight: fn(Settings, Table, u64, &mut f32) -> u32,
     pub is_surface_voxel: fn(Settings, Table, u64, f32, &mut u32) -> u32,
@@ -149,9 +149,21 @@ pub fn update_from_depth_ray(side: &Side, c: &Case) -> Outcome {
 }
 
 pub fn batch_update(side: &Side, c: &Case) -> Outcome {
-    let mut at = dirty();
-    let made = fused(c, |t| (side.batch_update)(c.settings(), t, &c.batch_keys, &c.batch_distances, &c.batch_confidences, &mut at));
-    made.number("at", at)
+    let (mut added, mut changed, mut far, mut at) = (dirty(), dirty(), dirty(), dirty());
+    let made = fused(c, |t| {
+        (side.batch_update)(
+            c.settings(),
+            t,
+            &c.batch_keys,
+            &c.batch_distances,
+            &c.batch_confidences,
+            &mut added,
+            &mut changed,
+            &mut far,
+            &mut at,
+        )
+    });
+    made.number("added", added).number("changed", changed).number("far", far).number("at", at)
 }
 
 pub fn tsdf_get_distance(side: &Side, c: &Case) -> Outcome {

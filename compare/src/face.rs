@@ -67,6 +67,9 @@ extern "C" {
         batch_distances_len: usize,
         batch_confidences: *const f32,
         batch_confidences_len: usize,
+        added: *mut usize,
+        changed: *mut usize,
+        far: *mut usize,
         at: *mut usize,
     ) -> u32;
     fn akf_tsdf_get_distance(
@@ -537,8 +540,19 @@ fn update_from_depth_ray(s: Settings, t: TableMut, key: u64, sensor: [f32; 3], d
     fusing!(akf_update_from_depth_ray, s, t, key, sensor[0], sensor[1], sensor[2], depth, confidence)
 }
 
-fn batch_update(s: Settings, t: TableMut, keys: &[u64], distances: &[f32], confidences: &[f32], at: &mut usize) -> u32 {
-    fusing!(akf_batch_update, s, t, read(keys), keys.len(), read(distances), distances.len(), read(confidences), confidences.len(), at)
+#[allow(clippy::too_many_arguments)]
+fn batch_update(
+    s: Settings,
+    t: TableMut,
+    keys: &[u64],
+    distances: &[f32],
+    confidences: &[f32],
+    added: &mut usize,
+    changed: &mut usize,
+    far: &mut usize,
+    at: &mut usize,
+) -> u32 {
+    fusing!(akf_batch_update, s, t, read(keys), keys.len(), read(distances), distances.len(), read(confidences), confidences.len(), added, changed, far, at)
 }
 
 fn tsdf_get_distance(s: Settings, t: Table, key: u64, distance: &mut f32) -> u32 {

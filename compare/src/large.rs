@@ -42,6 +42,12 @@ fn readings(order: impl Fn(usize) -> Vec<usize>) -> Case {
     }
 }
 
+// Every fifth reading beyond the truncation.
+fn some_far(mut c: Case) -> Case {
+    c.batch_distances.iter_mut().step_by(5).for_each(|d| *d = 2.0);
+    c
+}
+
 fn rooms(mut c: Case, rooms: &[usize]) -> Case {
     c.rooms = rooms.to_vec();
     c
@@ -51,6 +57,7 @@ const LARGE: &[Large] = &[
     ("akf_batch_update", "ascending", || readings(|n| (0..n).collect()), calls::batch_update, beside::batch_update),
     ("akf_batch_update", "descending", || readings(|n| (0..n).rev().collect()), calls::batch_update, beside::batch_update),
     ("akf_batch_update", "shuffled", || readings(last::shuffled), calls::batch_update, beside::batch_update),
+    ("akf_batch_update", "shuffled, every fifth reading far", || some_far(readings(last::shuffled)), calls::batch_update, beside::batch_update),
     ("akf_batch_update", "four passes over a quarter", || readings(|n| (0..n).map(|i| i * 7_919 % (n / 4) * 4).collect()), calls::batch_update, beside::batch_update),
     ("akf_get_zero_crossing_edges", "", || rooms(field(), &[60_000; 2]), calls::get_zero_crossing_edges, beside::get_zero_crossing_edges),
     ("akf_extract_mesh_from_tsdf", "", || rooms(field(), &[60_000, 60_000, 50_000, 50_000, 50_000, 50_000, 50_000, 50_000, 120_000, 200_000, 200_000, 200_000]), calls::extract_mesh_from_tsdf, beside::extract_mesh_from_tsdf),

@@ -1,10 +1,10 @@
 // Document 01's "Samples at the edges", and after them some of document 02's No. 14, of the turned mesh and of document 02's
-// No. 1, held against a side.
+// No. 1 and No. 2, held against a side.
 // Truncation 1, maximum weight 100, size 1, confidence and weight 1 unless said.
 use crate::calls::{self, Side};
 use crate::case::{Case, Outcome};
 use crate::plain::keys::{key_of, neighbours};
-use crate::plain::{ABSENT, DONE, FAR};
+use crate::plain::{ABSENT, CHANGED, DONE, FAR, NEW};
 use crate::shape::{Places, Triangles};
 use std::collections::BTreeSet;
 
@@ -48,6 +48,24 @@ fn fused(side: &Side, settings: [f32; 4], places: usize, readings: &[(f32, f32)]
         c.weights = o.lists[2].1.iter().map(|&b| f32::from_bits(b as u32)).collect();
     }
     (answer, c.count as u64, c.distances[0], c.weights[0])
+}
+
+// Readings (key, distance, confidence) as one batch into an empty table with this many places: the answer, the rows, then what was
+// added, changed and far, and the reading that is named.
+fn batched(side: &Side, places: usize, readings: &[(u64, f32, f32)]) -> (u32, [u64; 5]) {
+    let o = calls::batch_update(
+        side,
+        &Case {
+            keys: vec![0; places],
+            distances: vec![0.0; places],
+            weights: vec![0.0; places],
+            batch_keys: readings.iter().map(|r| r.0).collect(),
+            batch_distances: readings.iter().map(|r| r.1).collect(),
+            batch_confidences: readings.iter().map(|r| r.2).collect(),
+            ..empty()
+        },
+    );
+    (o.answer.unwrap(), [0, 1, 2, 3, 4].map(|i| o.numbers[i].1))
 }
 
 fn edges(side: &Side, c: &Case) -> u64 {
@@ -162,12 +180,12 @@ pub const SAMPLES: &[Sample] = &[
     Sample {
         what: "0.5 then -0.25: distance 0.125, weight 2",
         calls: &["akf_update_from_depth"],
-        holds: |s| fused(s, [1.0, 100.0, 1.0, 2.0], 2, &[(0.5, 1.0), (-0.25, 1.0)]) == (DONE, 1, 0.125, 2.0),
+        holds: |s| fused(s, [1.0, 100.0, 1.0, 2.0], 2, &[(0.5, 1.0), (-0.25, 1.0)]) == (CHANGED, 1, 0.125, 2.0),
     },
     Sample {
         what: "maximum weight 1, 0.5 twice: distance 1.0, weight 1",
         calls: &["akf_update_from_depth"],
-        holds: |s| fused(s, [1.0, 1.0, 1.0, 2.0], 2, &[(0.5, 1.0), (0.5, 1.0)]) == (DONE, 1, 1.0, 1.0),
+        holds: |s| fused(s, [1.0, 1.0, 1.0, 2.0], 2, &[(0.5, 1.0), (0.5, 1.0)]) == (CHANGED, 1, 1.0, 1.0),
     },
     Sample {
         what: "reading 1.0 is stored; the next float above is Far, even with a full table",
@@ -175,7 +193,7 @@ pub const SAMPLES: &[Sample] = &[
         holds: |s| {
             let above = f32::from_bits(0x3f80_0001);
             let full = Case { key: at(12, 12, 12), reals: [above, 1.0, 0.0, 0.0, 0.0], ..rows(&[(at(10, 10, 10), 0.5)]) };
-            fused(s, [1.0, 100.0, 1.0, 2.0], 1, &[(1.0, 1.0)]) == (DONE, 1, 1.0, 1.0)
+            fused(s, [1.0, 100.0, 1.0, 2.0], 1, &[(1.0, 1.0)]) == (NEW, 1, 1.0, 1.0)
                 && fused(s, [1.0, 100.0, 1.0, 2.0], 1, &[(above, 1.0)]) == (FAR, 0, 0.0, 0.0)
                 && calls::update_from_depth(s, &full).answer == Some(FAR)
         },
@@ -186,7 +204,7 @@ pub const SAMPLES: &[Sample] = &[
         holds: |s| {
             let mut c = rows(&[(at(10, 10, 10), 0.25), (at(11, 11, 11), -0.25)]);
             c.weights[0] = 0.0;
-            fused(s, [1.0, 100.0, 1.0, 2.0], 2, &[(0.25, 0.0)]) == (DONE, 1, 0.25, 0.0) && edges(s, &c) == 0
+            fused(s, [1.0, 100.0, 1.0, 2.0], 2, &[(0.25, 0.0)]) == (NEW, 1, 0.25, 0.0) && edges(s, &c) == 0
         },
     },
     Sample {
@@ -394,6 +412,39 @@ pub const SAMPLES: &[Sample] = &[
                 (96..132).step_by(4).all(|at| read(s, &with(at, x), 0) == (10, 0, Vec::new()))
                     && (84..96).step_by(4).all(|at| read(s, &with(at, x), 3).0 == DONE)
             }) && read(s, &ignored, 3) == read(s, &triangle_file(), 3)
+        },
+    },
+    Sample {
+        what: "No. 2: confidence 0 is New, the same once more Changed though its bits stay, and so is a row of weight 0 that a reading gives weight",
+        calls: &["akf_update_from_depth"],
+        holds: |s| {
+            let one = |readings: &[(f32, f32)]| fused(s, [1.0, 100.0, 1.0, 2.0], 2, readings);
+            one(&[(0.25, 0.0)]) == (NEW, 1, 0.25, 0.0)
+                && one(&[(0.25, 0.0), (0.25, 0.0)]) == (CHANGED, 1, 0.25, 0.0)
+                && one(&[(0.25, 0.0), (0.5, 1.0)]) == (CHANGED, 1, 0.5, 1.0)
+        },
+    },
+    Sample {
+        what: "No. 2: a key twice in a batch is one New and one Changed, beside one that is far; six times over, by own rows, one New and eleven Changed",
+        calls: &["akf_batch_update"],
+        holds: |s| {
+            let three = [(at(10, 10, 10), 0.5, 1.0), (at(10, 10, 10), -0.25, 1.0), (at(11, 11, 11), 2.0, 1.0)];
+            batched(s, 2, &three) == (DONE, [1, 1, 1, 1, 0]) && batched(s, 2, &three.repeat(6)) == (DONE, [1, 1, 11, 6, 0])
+        },
+    },
+    Sample {
+        what: "No. 2: a refused batch has counted the readings before it, few or many: 4, 5 and, in a full table, 6; refused by its tests, none",
+        calls: &["akf_batch_update"],
+        holds: |s| {
+            let three = [(at(10, 10, 10), 0.5, 1.0), (at(10, 10, 10), -0.25, 1.0), (at(11, 11, 11), 2.0, 1.0)];
+            let with = |n: usize, last: (u64, f32, f32)| [three.repeat(n), vec![last], three.to_vec()].concat();
+            let refused = |answer: u32, last: (u64, f32, f32)| {
+                batched(s, 1, &with(1, last)) == (answer, [1, 1, 1, 1, 3]) && batched(s, 1, &with(6, last)) == (answer, [1, 1, 11, 6, 18])
+            };
+            refused(4, (key_of(0, 1, 0, 0), 0.5, 1.0))
+                && refused(5, (at(10, 10, 10), 0.5, 2.0))
+                && refused(6, (at(11, 11, 11), 0.5, 1.0))
+                && batched(s, 65_537, &three) == (2, [0; 5])
         },
     },
 ];

@@ -5,7 +5,7 @@ use crate::case::{Case, Outcome};
 use crate::make;
 use crate::ordered::layers::tsdf::TSDFLayer;
 use crate::plain::table::Row;
-use crate::plain::{DONE, FAR};
+use crate::plain::{CHANGED, DONE, FAR, NEW};
 use crate::rng::Rng;
 use crate::table::{judge, Judged, COMPARED};
 use std::fmt::Write;
@@ -147,10 +147,12 @@ fn tsdf(seed: u64) -> String {
                 updated(&mut l, 64, next.key, |l, k| l.update_from_depth(k, a, b).unwrap())
             };
             // a refusal, or an answer that the Rust does not tell, is no vector; the table stands as it was
-            let Some(answer) = answer.filter(|a| *a == DONE || *a == FAR) else {
+            let Some(answer) = answer.filter(|a| [NEW, CHANGED, FAR].contains(a)) else {
                 beside::restore(&mut l, &before);
                 continue;
             };
+            // the stored answers are document 01's: a row that is stored, new or changed, is 0
+            let answer = if answer == FAR { FAR } else { DONE };
             let row = beside::rows_of(&l).into_iter().find(|w| w.key == next.key);
             let left = row.map_or([0, 0], |w| [w.distance.to_bits() as u64, w.weight.to_bits() as u64]);
             let asked = if ray { bits(&next.reals) } else { bits(&[a, b]) };

@@ -32,7 +32,7 @@ fn direct(s: Settings, key: u64, reading: Reading) -> (f32, f32) {
     }
 }
 
-// One reading into a table that passed 1, 2 and 3. The answer is DONE or FAR.
+// One reading into a table that passed 1, 2 and 3. The answer is NEW, CHANGED or FAR.
 fn fuse(s: Settings, t: &mut TableMut, key: u64, reading: Reading) -> Done<u32> {
     need(on_lattice(key), 4)?;
     need(reading_ok(reading), 5)?;
@@ -63,7 +63,8 @@ fn fuse(s: Settings, t: &mut TableMut, key: u64, reading: Reading) -> Done<u32> 
     t.keys[at] = key;
     t.distances[at] = new_distance;
     t.weights[at] = new_weight;
-    Ok(DONE)
+    // by the key alone: whatever the confidence, the weights and the bits
+    Ok(if place.is_some() { CHANGED } else { NEW })
 }
 
 fn sound(s: Settings, t: Table, lists: bool) -> Done<()> {
@@ -87,18 +88,35 @@ pub fn update_from_depth_ray(s: Settings, t: TableMut, key: u64, sensor: [f32; 3
     fuse_one(s, t, key, Reading::Ray { sensor, depth, confidence })
 }
 
-// Direct readings, taken in order. A refused batch names the reading; the earlier ones stand.
-pub fn batch_update(s: Settings, mut t: TableMut, keys: &[u64], distances: &[f32], confidences: &[f32], at: &mut usize) -> u32 {
-    *at = 0;
+// Direct readings, taken in order, and counted by their answers. A refused batch names the reading; the earlier ones stand and
+// are what it has counted.
+#[allow(clippy::too_many_arguments)]
+pub fn batch_update(
+    s: Settings,
+    mut t: TableMut,
+    keys: &[u64],
+    distances: &[f32],
+    confidences: &[f32],
+    added: &mut usize,
+    changed: &mut usize,
+    far: &mut usize,
+    at: &mut usize,
+) -> u32 {
+    (*added, *changed, *far, *at) = (0, 0, 0, 0);
     let batch = one_set(&[keys.len(), distances.len(), confidences.len()], ROWS_LIMIT);
     if let Err(n) = sound(s, t.seen(), batch) {
         return n;
     }
     for i in 0..keys.len() {
         let reading = Reading::Direct { distance: distances[i], confidence: confidences[i] };
-        if let Err(n) = fuse(s, &mut t, keys[i], reading) {
-            *at = i;
-            return n;
+        match fuse(s, &mut t, keys[i], reading) {
+            Ok(NEW) => *added += 1,
+            Ok(CHANGED) => *changed += 1,
+            Ok(_) => *far += 1,
+            Err(n) => {
+                *at = i;
+                return n;
+            }
         }
     }
     DONE

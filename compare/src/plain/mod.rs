@@ -17,6 +17,8 @@ pub mod turned;
 pub const DONE: u32 = 0;
 pub const FAR: u32 = 100;
 pub const ABSENT: u32 = 101;
+pub const NEW: u32 = 102;
+pub const CHANGED: u32 = 103;
 
 pub const ROWS_LIMIT: usize = 65_536;
 pub const LISTS_LIMIT: usize = 1_048_576;

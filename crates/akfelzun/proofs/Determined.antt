@@ -141,12 +141,18 @@ pub akf-batch-update-determined :
     × (now (s .1 .1 .1 .1 .1 .1 .0) ≡ now (s' .1 .1 .1 .1 .1 .1 .0))
     × (now (s .1 .1 .1 .1 .1 .1 .1 .0) ≡ now (s' .1 .1 .1 .1 .1 .1 .1 .0))
     × (now (s .1 .1 .1 .1 .1 .1 .1 .1 .1 .1 .1 .0) ≡ now (s' .1 .1 .1 .1 .1 .1 .1 .1 .1 .1 .1 .0))
+    × (now (s .1 .1 .1 .1 .1 .1 .1 .1 .1 .1 .1 .1 .0) ≡ now (s' .1 .1 .1 .1 .1 .1 .1 .1 .1 .1 .1 .1 .0))
+    × (now (s .1 .1 .1 .1 .1 .1 .1 .1 .1 .1 .1 .1 .1 .0) ≡ now (s' .1 .1 .1 .1 .1 .1 .1 .1 .1 .1 .1 .1 .1 .0))
+    × (now (s .1 .1 .1 .1 .1 .1 .1 .1 .1 .1 .1 .1 .1 .1 .0) ≡ now (s' .1 .1 .1 .1 .1 .1 .1 .1 .1 .1 .1 .1 .1 .1 .0))
 akf-batch-update-determined κs a r r' s s' p q = (
   ap (λ (h : BatchBack). h .number) (p ∙ sym q),
   ap (λ (h : BatchBack). h .left .keys) (p ∙ sym q),
   ap (λ (h : BatchBack). h .left .distances) (p ∙ sym q),
   ap (λ (h : BatchBack). h .left .weights) (p ∙ sym q),
   ap (λ (h : BatchBack). h .left .count) (p ∙ sym q),
+  ap (λ (h : BatchBack). h .counts .added) (p ∙ sym q),
+  ap (λ (h : BatchBack). h .counts .changed) (p ∙ sym q),
+  ap (λ (h : BatchBack). h .counts .far) (p ∙ sym q),
   ap (λ (h : BatchBack). h .at) (p ∙ sym q),
 )
 

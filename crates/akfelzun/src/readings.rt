@@ -6,7 +6,7 @@ use table::settings_of;
 ghost use mathlib.Core.Path.{_≡_};
 ghost use Rattle.table.specs.Table.{settingsOf, table};
 ghost use Rattle.fusing.specs.Fusing.{fuse};
-ghost use Rattle.batching.specs.Batches.{batch};
+ghost use Rattle.batching.specs.Batches.{counts, batch};
 ghost use Rattle.answers.specs.Readings.{directReading, rayReading, fuseBack, fuseHanded, batchBack, batchHanded};
 
 #[no_mangle]
@@ -96,9 +96,13 @@ pub extern "C" fn akf_batch_update(
     batch_keys: &[u64],
     batch_distances: &[f32],
     batch_confidences: &[f32],
+    added: &mut usize,
+    changed: &mut usize,
+    far: &mut usize,
     at: &mut usize,
 ) -> u32
-    ensures { λ r. ⌜ batchBack r (table (now (keys .exit)) (now (distances .exit)) (now (weights .exit)) (now (count .exit))) (now (at .exit))
+    ensures { λ r. ⌜ batchBack r (table (now (keys .exit)) (now (distances .exit)) (now (weights .exit)) (now (count .exit)))
+        (counts (now (added .exit)) (now (changed .exit)) (now (far .exit))) (now (at .exit))
         ≡ batchHanded
         (batch (settingsOf truncation «max_weight» «voxel_size» «max_distance»)
         (table (now (keys .entry)) (now (distances .entry)) (now (weights .entry)) (now (count .entry)))
@@ -116,6 +120,10 @@ pub extern "C" fn akf_batch_update(
         batch_confidences,
     );
     let back = batch_back(batched);
-    *at = back.count;
+    let counts = back.counts;
+    *added = counts.added;
+    *changed = counts.changed;
+    *far = counts.far;
+    *at = back.at;
     back.number
 }

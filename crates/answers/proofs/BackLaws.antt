@@ -2,7 +2,8 @@
 use Prim.Native.Nat.{ℕ}
 use mathlib.Core.Path.{_≡_, ap, _∙_}
 use Rattle.fusing.specs.Fusing.{Outcome, fusedNumber}
-use Rattle.batching.specs.Batches.{BatchOutcome, batchedNumber, batchedAt}
+use Rattle.batching.specs.declared.Counts.{Counts}
+use Rattle.batching.specs.Batches.{BatchOutcome, batchedNumber, batchedCounts, batchedAt}
 use Rattle.answers.specs.Readings.{fuseBack, fuseHanded, batchBack, batchHanded}
 
 -- two numbers that are read off one answer
@@ -15,7 +16,8 @@ fuse-back {o} e p = ap (λ m. fuseBack m (o .left)) p ∙ ap fuseHanded e
 pub batch-back :
     {o o' : BatchOutcome}
     {n at : ℕ}
+    {c : Counts}
     → o ≡ o'
-    → (n ≡ batchedNumber (o .answer)) × (at ≡ batchedAt (o .answer))
-    → batchBack n (o .left) at ≡ batchHanded o'
-batch-back {o} e p = rw (p .0, p .1) (ap batchHanded e)
+    → (n ≡ batchedNumber (o .answer)) × ((c ≡ batchedCounts (o .answer)) × (at ≡ batchedAt (o .answer)))
+    → batchBack n (o .left) c at ≡ batchHanded o'
+batch-back {o} e p = rw (p .0, p .1 .0, p .1 .1) (ap batchHanded e)

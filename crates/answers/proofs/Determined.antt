@@ -4,6 +4,7 @@ use mathlib.Core.Path.{_≡_, sym, _∙_}
 use Rattle.answers.specs.declared.LengthBack.{LengthBack}
 use Rattle.answers.specs.declared.YesBack.{YesBack}
 use Rattle.answers.specs.declared.CountBack.{CountBack}
+use Rattle.answers.specs.declared.readings.ReadingsBack.{ReadingsBack}
 use Rattle.answers.specs.declared.keys.KeyBack.{KeyBack}
 use Rattle.answers.specs.declared.keys.PlaceBack.{PlaceBack}
 use Rattle.answers.proofs.readings.fused_number.Reads as fused_number
@@ -27,11 +28,11 @@ pub fused-number-determined : (κs : _) (a : _) (r r' : _) (s s' : _) → fused_
 fused-number-determined κs a r r' s s' p q = p ∙ sym q
 
 pub batch-back-determined :
-    (κs : _) (a : _) (r r' : CountBack) (s s' : _)
+    (κs : _) (a : _) (r r' : ReadingsBack) (s s' : _)
     → batch_back.Post κs a r s
     → batch_back.Post κs a r' s'
-    → (r .number ≡ r' .number) × (r .count ≡ r' .count)
-batch-back-determined κs a r r' s s' p q = (p .0 ∙ sym (q .0), p .1 ∙ sym (q .1))
+    → (r .number ≡ r' .number) × (r .counts ≡ r' .counts) × (r .at ≡ r' .at)
+batch-back-determined κs a r r' s s' p q = (p .0 ∙ sym (q .0), p .1 .0 ∙ sym (q .1 .0), p .1 .1 ∙ sym (q .1 .1))
 
 pub one-if-determined : (κs : _) (a : _) (r r' : _) (s s' : _) → one_if.Post κs a r s → one_if.Post κs a r' s' → r ≡ r'
 one-if-determined κs a r r' s s' p q = p ∙ sym q

@@ -3,7 +3,8 @@ use Prim.Native.Nat.{ℕ}
 use lib.Ieee.{Float}
 use Rattle.table.specs.Table.{Table}
 use Rattle.fusing.specs.Fusing.{Outcome, fusedNumber}
-use Rattle.batching.specs.Batches.{BatchOutcome, batchedNumber, batchedAt}
+use Rattle.batching.specs.declared.Counts.{Counts}
+use Rattle.batching.specs.Batches.{BatchOutcome, batchedNumber, batchedCounts, batchedAt}
 use Rattle.measuring.specs.declared.Reading.{Reading}
 use Rattle.measuring.specs.declared.Reading.the-variants.{Direct, Ray}
 
@@ -27,14 +28,15 @@ fuseBack number left = record { number = number; left = left }
 abbrev pub fuseHanded : Outcome → FuseBack
 fuseHanded o = fuseBack (fusedNumber (o .answer)) (o .left)
 
--- what a batch hands back: the same, and the reading that a refusal names
+-- what a batch hands back: the same, the counts of its readings, and the one that a refusal names
 pub record BatchBack : Type 0 where
   pub number : ℕ
   pub left : Table
+  pub counts : Counts
   pub at : ℕ
 
-abbrev pub batchBack : ℕ → Table → ℕ → BatchBack
-batchBack number left at = record { number = number; left = left; at = at }
+abbrev pub batchBack : ℕ → Table → Counts → ℕ → BatchBack
+batchBack number left counts at = record { number = number; left = left; counts = counts; at = at }
 
 abbrev pub batchHanded : BatchOutcome → BatchBack
-batchHanded o = batchBack (batchedNumber (o .answer)) (o .left) (batchedAt (o .answer))
+batchHanded o = batchBack (batchedNumber (o .answer)) (o .left) (batchedCounts (o .answer)) (batchedAt (o .answer))

@@ -1,9 +1,10 @@
--- One reading of a batch: it ends the batch or leaves the rest to the table that it left.
+-- One reading of a batch: it ends the batch or leaves the rest to the table that it left, and is counted as far or not.
 -- Assumes nothing.
-use mathlib.Core.Path.{_≡_, refl, ap, _∙_}
+use mathlib.Core.Path.{_≡_, refl, sym, ap, _∙_}
+use mathlib.Core.Bool.{false}
 use mathlib.Core.List.{List, [], _∷_}
 use Prim.Native.Nat.{ℕ, suc, _+_, _<_, _≤_}
-use native.Mathlib.Nat.{le-of-eq}
+use native.Mathlib.Nat.{le-of-eq, add-zero}
 use native.Mathlib.Numerals.{add-one}
 use lib.ListN.{length, getD, drop}
 use lib.Ieee.{Float, nan}
@@ -16,8 +17,12 @@ use Rattle.fusing.specs.declared.Step.{Step}
 use Rattle.fusing.specs.declared.Step.the-variants.{Far, Added, Changed, Refused}
 use Rattle.batching.specs.declared.Ending.the-variants as Ending
 use Rattle.fusing.specs.Fusing.{Effect, effect, effectOf, fusedOf, fuse}
+use Rattle.fusing.specs.Steps.{answersFar}
 use Rattle.batching.specs.Batches.{BatchEnd, batchEnd, entry, entries, directOf, stopOr, batchFrom}
+use Rattle.batching.specs.Steps.{isFar, farUpTo}
 use Rattle.fusing.proofs.Keeping.{fuse-keeps}
+use Rattle.fusing.proofs.FuseLaws.{far-exactly}
+use Rattle.batching.proofs.CountLaws.{far-passed, near-passed}
 
 -- the reading at place i, and those after it
 pub entry-at :
@@ -62,6 +67,23 @@ module _ (s : Settings) (t : Table) (ks : List ℕ) (ds cs : List Float) (i : �
     pub goes-on-changed : (at : ℕ) → step ≡ Changed at → from i t ≡ from (i + 1) u
     unfolding stopOr
     goes-on-changed at f = one ∙ rw f
+
+    -- what it did tells whether it is far
+    tells-far : tableCheck s t ≡ Passed → answersFar (fusedOf step) ≡ isFar s (entry (getD ks i 0) (getD ds i nan) (getD cs i nan))
+    unfolding fuse
+    tells-far c =
+        ap (λ (o : Effect). answersFar (fusedOf (o .step))) e
+        ∙ far-exactly s t (getD ks i 0) (directOf (entry (getD ks i 0) (getD ds i nan) (getD cs i nan))) c
+
+    pub far-here : tableCheck s t ≡ Passed → step ≡ Far → farUpTo s (entries ks ds cs) (i + 1) ≡ farUpTo s (entries ks ds cs) i + 1
+    unfolding answersFar
+    far-here c f = far-passed s (entries ks ds cs) i _ (entry-at ks ds cs i p q h) (sym (tells-far c) ∙ rw f)
+
+    pub near-here :
+        tableCheck s t ≡ Passed
+        → answersFar (fusedOf step) ≡ false
+        → farUpTo s (entries ks ds cs) (i + 1) ≡ farUpTo s (entries ks ds cs) i + 0
+    near-here c f = near-passed s (entries ks ds cs) i _ (entry-at ks ds cs i p q h) (sym (tells-far c) ∙ f) ∙ sym (add-zero _)
 
     -- the table passes the check again
     pub passes-again : tableCheck s t ≡ Passed → tableCheck s u ≡ Passed

@@ -1,2 +1,4 @@
+pub mod CountLaws
 pub mod BatchLaws
 pub mod Batching
+pub mod Determined

@@ -13,10 +13,12 @@ pub struct Fed {
     pub agrees: bool,
 }
 
-// The number of an answer; that of a refusal is no vector's.
+// The number of an answer: 0 where a row is stored, new or changed, since the Rust does not tell which; that of a refusal
+// is no vector's.
 fn fused_number(fused: Fused) -> u64 {
     match fused {
-        Fused::Stored => 0,
+        Fused::New => 0,
+        Fused::Changed => 0,
         Fused::Far => 100,
         Fused::Refused(_) => 1,
     }

@@ -27,7 +27,7 @@ use Rattle.fusing.specs.Fusing.{newWeight, fusedVoxel, voxelAt, hasPlace
 abbrev pub metres : ℕ → Metres
 metres b = record { 0 = f32 b }
 
--- a reading of a key, and its answer: 0 stored, 100 Far, else the refusal's number
+-- a reading of a key, and its answer: 102 New, 103 Changed, 100 Far, else the refusal's number
 pub record Step : Type 0 where
   pub key : ℕ
   pub reading : Reading
@@ -88,7 +88,7 @@ samples =
       most = 0x42C8_0000;
       room = 1;
       steps =
-          step 8 0x3F80_0000 0x3F80_0000 0 ∷ step 7 0x3F80_0001 0x3F80_0000 100 ∷ step 7 0x3F80_0000 0x3F80_0000 6 ∷ [];
+          step 8 0x3F80_0000 0x3F80_0000 102 ∷ step 7 0x3F80_0001 0x3F80_0000 100 ∷ step 7 0x3F80_0000 0x3F80_0000 6 ∷ [];
       left = bits 8 0x3F80_0000 0x3F80_0000 ∷ [];
     }
     -- rows stand ascending by key
@@ -97,7 +97,7 @@ samples =
       most = 0x42C8_0000;
       room = 3;
       steps =
-          step 15 0x3F00_0000 0x3F80_0000 0 ∷ step 7 0x3E80_0000 0x3F80_0000 0 ∷ step 8 0xBE80_0000 0x3F80_0000 0 ∷ [];
+          step 15 0x3F00_0000 0x3F80_0000 102 ∷ step 7 0x3E80_0000 0x3F80_0000 102 ∷ step 8 0xBE80_0000 0x3F80_0000 102 ∷ [];
       left = bits 7 0x3E80_0000 0x3F80_0000 ∷ bits 8 0xBE80_0000 0x3F80_0000 ∷ bits 15 0x3F00_0000 0x3F80_0000 ∷ [];
     }
     -- rays to (1, 1, 1): from (1, 1, 5) at depth 4.5 a distance of 0.5; from (1, 1, 2 ^ 100) the square overflows, Far
@@ -106,7 +106,7 @@ samples =
       most = 0x42C8_0000;
       room = 2;
       steps =
-          ray 7 0x3F80_0000 0x3F80_0000 0x40A0_0000 0x4090_0000 0x3F80_0000 0
+          ray 7 0x3F80_0000 0x3F80_0000 0x40A0_0000 0x4090_0000 0x3F80_0000 102
           ∷ ray 7 0x3F80_0000 0x3F80_0000 0x7180_0000 0x4090_0000 0x3F80_0000 100 ∷ [];
       left = bits 7 0x3F00_0000 0x3F80_0000 ∷ [];
     }

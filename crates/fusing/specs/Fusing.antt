@@ -12,7 +12,7 @@ use Rattle.search.specs.declared.Found.{Found}
 use Rattle.search.specs.declared.Found.the-variants.{At, Absent}
 use Rattle.table.specs.declared.Checked.{Checked}
 use Rattle.table.specs.declared.Checked.the-variants as Checked
-use Rattle.search.specs.Keys.{find, placeOf}
+use Rattle.search.specs.Keys.{member, find, placeOf}
 use Rattle.table.specs.Table.{row, Table, rows, tableCheck, put, relaid}
 use Rattle.fusing.specs.declared.Averaging.{Averaging}
 use Rattle.fusing.specs.declared.Voxel.{Voxel}
@@ -107,10 +107,14 @@ unfoldable pub effectOf : Settings → Table → ℕ → Reading → Effect
 unfolding fuseIf
 effectOf s t k r = fuseIf (tableCheck s t) s t k r
 
--- a row that was added or changed is answered as stored
+-- a row of the table has the key k
+abbrev pub storedKey : ℕ → Table → Bool
+storedKey k t = member k (take (t .count) (t .keys))
+
+-- a row that was added is answered New, and one that was stored Changed, even if its bits come out the same
 abbrev pub fusedOf : Step → Fused
-fusedOf (Step.Added i) = Fused.Stored
-fusedOf (Step.Changed i) = Fused.Stored
+fusedOf (Step.Added i) = Fused.New
+fusedOf (Step.Changed i) = Fused.Changed
 fusedOf Step.Far = Fused.Far
 fusedOf (Step.Refused why) = Fused.Refused why
 
@@ -122,8 +126,9 @@ unfoldable pub fuse : Settings → Table → ℕ → Reading → Outcome
 unfolding effectOf
 fuse s t k r = answered (effectOf s t k r)
 
--- the number of an answer: 0 for stored, 100 for Far, and document 01's for a refusal
+-- the number of an answer: 102 for New, 103 for Changed, 100 for Far, and document 01's for a refusal
 abbrev pub fusedNumber : Fused → ℕ
-fusedNumber Fused.Stored = 0
+fusedNumber Fused.New = 102
+fusedNumber Fused.Changed = 103
 fusedNumber Fused.Far = 100
 fusedNumber (Fused.Refused why) = numberOf why

@@ -1,1 +1,2 @@
 pub mod Fusing
+pub mod Steps

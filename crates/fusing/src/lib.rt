@@ -22,9 +22,10 @@ ghost use Rattle.search.specs.Keys.{find, ascending};
 ghost use Rattle.table.specs.Table.{table, lengthsOk, tableCheck};
 ghost use Rattle.fusing.specs.Fusing.{outcome, effect, averagingOf, newWeight, fusedVoxel, fusedNear, effectOf, fusedOf, fuse};
 
-// What a fuse answers.
+// What a fuse answers: a row is new, a stored one is changed, the reading is far, or why it is refused.
 pub enum Fused {
-    Stored,
+    New,
+    Changed,
     Far,
     Refused(Refusal),
 }
@@ -187,8 +188,8 @@ pub fn fused_of(step: Step) -> Fused
     ensures { λ r. ⌜ r ≡ fusedOf step ⌝ }
 {
     match step {
-        Step::Added(_) => Fused::Stored,
-        Step::Changed(_) => Fused::Stored,
+        Step::Added(_) => Fused::New,
+        Step::Changed(_) => Fused::Changed,
         Step::Far => Fused::Far,
         Step::Refused(why) => Fused::Refused(why),
     }

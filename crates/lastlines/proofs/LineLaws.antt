@@ -170,9 +170,13 @@ module _ (started : Bool) (s : Settings) where
   unfolding afterReading
   fused-far l e t = rw e (record { answer = refl; text = refl })
 
-  pub fused-stored : (l : List ℕ) {w : Fused} → w ≡ fused.Stored → (t : Table) → Prints (afterReading w started s t) (stepped started s 0 true) l l
+  pub fused-new : (l : List ℕ) {w : Fused} → w ≡ fused.New → (t : Table) → Prints (afterReading w started s t) (stepped started s 0 true) l l
   unfolding afterReading
-  fused-stored l e t = rw e (record { answer = refl; text = refl })
+  fused-new l e t = rw e (record { answer = refl; text = refl })
+
+  pub fused-changed : (l : List ℕ) {w : Fused} → w ≡ fused.Changed → (t : Table) → Prints (afterReading w started s t) (stepped started s 0 true) l l
+  unfolding afterReading
+  fused-changed l e t = rw e (record { answer = refl; text = refl })
 
 -- counts and then vertices are what a mesh prints
 module _ (started : Bool) (s : Settings) (t : Table) (rows n m : ℕ) (xs ys zs : List Float) (l : List ℕ) where
@@ -231,7 +235,8 @@ module _ (started : Bool) (s : Settings) (t : Table) where
 
   reading-short : (r : Fused) → length (afterReading r started s t .text) ≤ 15000
   unfolding afterReading
-  reading-short fused.Stored = omega arith
+  reading-short fused.New = omega arith
+  reading-short fused.Changed = omega arith
   reading-short fused.Far = omega arith
   reading-short (fused.Refused why) = omega (arith, refused-length why)
 
@@ -255,7 +260,8 @@ module _ (started : Bool) (s : Settings) (t : Table) where
 
   reading-left : (r : Fused) → t ≡ afterReading r started s t .left
   unfolding afterReading
-  reading-left fused.Stored = refl
+  reading-left fused.New = refl
+  reading-left fused.Changed = refl
   reading-left fused.Far = refl
   reading-left (fused.Refused why) = refl
 

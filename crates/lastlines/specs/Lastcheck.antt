@@ -149,7 +149,8 @@ afterSetup (Refused why) started s t = after started s t (refusedLine why) false
 
 -- D is silent unless it is refused
 unfoldable pub afterReading : Fused → Bool → Settings → Table → After
-afterReading fused.Stored started s t = after started s t [] true
+afterReading fused.New started s t = after started s t [] true
+afterReading fused.Changed started s t = after started s t [] true
 afterReading fused.Far started s t = after started s t [] true
 afterReading (fused.Refused why) started s t = after started s t (refusedLine why) false
 

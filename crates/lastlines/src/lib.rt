@@ -226,7 +226,13 @@ fn after_reading(answer: Fused, started: bool, settings: Settings, out: &mut [u8
             length: 0,
             goes_on: true,
         },
-        Fused::Stored => Stepped {
+        Fused::New => Stepped {
+            started,
+            settings,
+            length: 0,
+            goes_on: true,
+        },
+        Fused::Changed => Stepped {
             started,
             settings,
             length: 0,

@@ -64,16 +64,17 @@ module _ (s : Settings) (ks : List ℕ) (ds ws : List Float) (n : ℕ) (passed :
         (ran : RanTo s oks ods ows own room rs from ran-to ods' ows') (left : n + room ≤ length ks) where
       -- what settling needs
       pub counted : (n + ran-to .added ≡ length (puts (s .«max_weight») (rowsOf oks ods' ows' own) (rows t))) × (n + ran-to .added ≤ length ks)
-      counted = let q = ran t ready left .1 in (sym (q .many), q .fits)
+      counted = let q = ran .0 t ready left .1 in (sym (q .many), q .fits)
 
       pub settled :
           (ks' : List ℕ) (ds' ws' : List Float)
           → table ks' ds' ws' (n + ran-to .added) ≡ over s t oks ods' ows' own
           → RunTo s t rs from from (ran-to .run) (table ks' ds' ws' (n + ran-to .added))
       settled ks' ds' ws' e =
-          let q = ran t ready left in (
+          let q = ran .0 t ready left in (
             subst (λ (u : Table). RunLeft s u rs from from (ran-to .run) (table ks' ds' ws' (n + ran-to .added)))
                 over-same
                 (subst (λ (u : Table). RunLeft s (over s t oks ods ows own) rs from from (ran-to .run) u) (sym e) (q .0)),
             ap (tableCheck s) e ∙ q .1 .again,
+            ran .1,
           )

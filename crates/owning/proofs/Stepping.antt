@@ -34,14 +34,15 @@ use Rattle.table.proofs.Keeping.{relaid-rows, relaid-keys}
 use Rattle.fusing.specs.declared.Averaging.{Averaging}
 use Rattle.fusing.specs.declared.Voxel.{Voxel}
 use Rattle.measuring.specs.declared.Measured.{Measured}
+use Rattle.fusing.specs.declared.Fused.{Fused}
 use Rattle.fusing.specs.declared.Fused.the-variants as Fused
 use Rattle.batching.specs.declared.Ending.the-variants as Ending
 use Rattle.measuring.specs.declared.Admitted.the-variants.{Near}
 use Rattle.owning.specs.declared.Owned.{Owned}
 use Rattle.owning.specs.declared.Owned.the-variants as Owned
 use Rattle.measuring.specs.Readings.{admitted}
-use Rattle.fusing.specs.Fusing.{Outcome, outcome, averagingOf, fusedVoxel, voxelAt, hasPlace, stepAt, stored, fusedNear, fusedIf, fuseIf, effectOf, answered, fuse}
-use Rattle.batching.specs.Batches.{batchEnd, Entry, directOf, stopOr, batchFrom}
+use Rattle.fusing.specs.Fusing.{Outcome, outcome, averagingOf, fusedVoxel, voxelAt, hasPlace, stepAt, stored, fusedNear, fusedIf, fuseIf, effectOf, fusedOf, answered, fuse}
+use Rattle.batching.specs.Batches.{BatchEnd, batchEnd, Entry, directOf, stopOr, batchFrom}
 use Rattle.sorting.specs.Sorting.{Numbered}
 use Rattle.owning.specs.Runs.{over, Ready, oldVoxel, voxelAfter, Placed, StepLeft}
 use Rattle.fusing.proofs.Keeping.{weight-above, voxel-kept, zero-in, fuse-keeps}
@@ -170,7 +171,7 @@ module _ (s : Settings) (t : Table) (ks : List ℕ) (ds ws : List Float) (own ad
       → voxelAt f now-table ≡ old
       → standing most (fusedVoxel how old m .weight) ≡ true
       → answered (fusedNear how now-table k m) ≡ cond (within million (fusedVoxel how old m .distance))
-      (outcome Fused.Stored
+      (outcome (fusedOf (stepAt f now-table k))
       (over s t ks (set ds p (fusedVoxel how old m .distance)) (set ws p (fusedVoxel how old m .weight)) own))
       (outcome (Fused.Refused TooLarge) now-table)
   unfolding fusedNear
@@ -182,7 +183,7 @@ module _ (s : Settings) (t : Table) (ks : List ℕ) (ds ws : List Float) (own ad
       ∙ ap (λ (o : Voxel). answered (stored now-table k (hasPlace f now-table) (stepAt f now-table k) (fusedVoxel how o m))) q
       ∙ ap (λ (b : Bool). answered (stored now-table k b (stepAt f now-table k) v)) h
       ∙ stored-answers now-table k f v
-      ∙ ap (λ (u : Table). cond (within million (v .distance)) (outcome Fused.Stored u) (outcome (Fused.Refused TooLarge) now-table))
+      ∙ ap (λ (u : Table). cond (within million (v .distance)) (outcome (fusedOf (stepAt f now-table k)) u) (outcome (Fused.Refused TooLarge) now-table))
       (ap (λ (l : List Row). relaid now-table (put y l)) (relaid-rows t both)
       ∙ relaid-twice t both (put y both) (no-shorter y both)
       ∙ ap (relaid t) (sym (put-own (v .distance) (v .weight) w)))
@@ -247,21 +248,21 @@ module _ (s : Settings) (t : Table) (ks : List ℕ) (ds ws : List Float) (own ad
         voxel-kept how (oldVoxel (standing most (getD ws p nan)) (getD ds p nan) (getD ws p nan)) m above
         (old-in (standing most (getD ws p nan)) refl) on
 
-    -- fusing, said of the own rows
-    abbrev Said : Type 0
-    Said =
+    -- fusing that is answered so, said of the own rows
+    abbrev Said : Fused → Type 0
+    Said a =
         answered (fusedNear how now-table k m) ≡ cond (within million (v .distance))
-        (outcome Fused.Stored (over s t ks (set ds p (v .distance)) (set ws p (v .weight)) own))
+        (outcome a (over s t ks (set ds p (v .distance)) (set ws p (v .weight)) own))
         (outcome (Fused.Refused TooLarge) now-table)
 
-    said-stands : standing most (getD ws p nan) ≡ true → Said
-    unfolding hasPlace oldVoxel
+    said-stands : standing most (getD ws p nan) ≡ true → Said Fused.Changed
+    unfolding hasPlace oldVoxel stepAt
     said-stands st =
         near-own (At (has st .place)) (oldVoxel (standing most (getD ws p nan)) (getD ds p nan) (getD ws p nan)) m (has st .at) refl
         (voxel-at (x st) (has st) ∙ ap (λ (b : Bool). oldVoxel b (getD ds p nan) (getD ws p nan)) (sym st)) weighs
 
-    said-waits : standing most (getD ws p nan) ≡ false → t .count + added < length (t .keys) → Said
-    unfolding voxelAt oldVoxel
+    said-waits : standing most (getD ws p nan) ≡ false → t .count + added < length (t .keys) → Said Fused.New
+    unfolding voxelAt oldVoxel stepAt
     said-waits st h =
         near-own Absent (oldVoxel (standing most (getD ws p nan)) (getD ds p nan) (getD ws p nan)) m (waiting st) (place-left st h)
         (ap (λ (b : Bool). oldVoxel b (getD ds p nan) (getD ws p nan)) (sym st)) weighs
@@ -301,34 +302,34 @@ module _ (s : Settings) (t : Table) (ks : List ℕ) (ds ws : List Float) (own ad
       unfolding fuse effectOf fuseIf fusedIf
       fused = rw (keyed, ready .again, near)
 
-      stores :
-          Said
-          → within million (v .distance) ≡ true
-          → fuse s now-table (r .key) (directOf r) ≡ outcome Fused.Stored (over s t ks (set ds p (v .distance)) (set ws p (v .weight)) own)
-      stores said b = fused ∙ said ∙ rw b
+      module _ (a : Fused) (said : Said a) where
+        stores :
+            within million (v .distance) ≡ true
+            → fuse s now-table (r .key) (directOf r) ≡ outcome a (over s t ks (set ds p (v .distance)) (set ws p (v .weight)) own)
+        stores b = fused ∙ said ∙ rw b
 
-      goes-on :
-          Said
-          → within million (v .distance) ≡ true
-          → (i : ℕ) (rs : List Entry)
-          → batchFrom s i now-table (r ∷ rs) ≡ batchFrom s (suc i) (over s t ks (set ds p (v .distance)) (set ws p (v .weight)) own) rs
-      unfolding batchFrom stopOr
-      goes-on said b i rs =
-          ap (λ (o : Outcome). stopOr (o .answer) i (o .left) (batchFrom s (suc i) (o .left) rs)) (stores said b)
+        -- an answer that is no refusal lets the batch go on
+        goes-on :
+            ((i : ℕ) (u : Table) (rest : BatchEnd) → stopOr a i u rest ≡ rest)
+            → within million (v .distance) ≡ true
+            → (i : ℕ) (rs : List Entry)
+            → batchFrom s i now-table (r ∷ rs) ≡ batchFrom s (suc i) (over s t ks (set ds p (v .distance)) (set ws p (v .weight)) own) rs
+        unfolding batchFrom
+        goes-on lets b i rs =
+            ap (λ (o : Outcome). stopOr (o .answer) i (o .left) (batchFrom s (suc i) (o .left) rs)) (stores b) ∙ lets i _ _
 
-      passes : Said → within million (v .distance) ≡ true → tableCheck s (over s t ks (set ds p (v .distance)) (set ws p (v .weight)) own) ≡ Passed
-      passes said b =
-          ap (λ (o : Outcome). tableCheck s (o .left)) (sym (stores said b)) ∙ fuse-keeps s now-table (r .key) (directOf r) (ready .again)
+        passes : within million (v .distance) ≡ true → tableCheck s (over s t ks (set ds p (v .distance)) (set ws p (v .weight)) own) ≡ Passed
+        passes b =
+            ap (λ (o : Outcome). tableCheck s (o .left)) (sym (stores b)) ∙ fuse-keeps s now-table (r .key) (directOf r) (ready .again)
 
-      ends-there :
-          Said
-          → within million (v .distance) ≡ false
-          → (i : ℕ) (rs : List Entry)
-          → batchFrom s i now-table (r ∷ rs) ≡ batchEnd (Ending.Refused TooLarge i) now-table
-      unfolding batchFrom stopOr
-      ends-there said b i rs =
-          let e : fuse s now-table (r .key) (directOf r) ≡ outcome (Fused.Refused TooLarge) now-table = fused ∙ said ∙ rw b in
-          ap (λ (o : Outcome). stopOr (o .answer) i (o .left) (batchFrom s (suc i) (o .left) rs)) e
+        ends-there :
+            within million (v .distance) ≡ false
+            → (i : ℕ) (rs : List Entry)
+            → batchFrom s i now-table (r ∷ rs) ≡ batchEnd (Ending.Refused TooLarge i) now-table
+        unfolding batchFrom stopOr
+        ends-there b i rs =
+            let e : fuse s now-table (r .key) (directOf r) ≡ outcome (Fused.Refused TooLarge) now-table = fused ∙ said ∙ rw b in
+            ap (λ (o : Outcome). stopOr (o .answer) i (o .left) (batchFrom s (suc i) (o .left) rs)) e
 
       -- every case of a near reading
       pub near-left :
@@ -337,33 +338,40 @@ module _ (s : Settings) (t : Table) (ks : List ℕ) (ds ws : List Float) (own ad
           → (step : Owned) (ds' ws' : List Float)
           → Placed how ds ws p spare m step ds' ws'
           → StepLeft s t ks ds ws own added r step ds' ws'
-      unfolding Placed StepLeft
+      unfolding Placed StepLeft stopOr
       near-left spare room Owned.Far ds' ws' h = absurd h
       near-left spare room Owned.Changed ds' ws' h =
           let said = said-stands (h .0) in
           let c = h .1 in
           rw (c .1, c .2) (
-            goes-on said (c .0),
-            ready-again added (passes said (c .0)) (stands-many (h .0) (v .distance) (v .weight) ∙ ready .many)
+            goes-on Fused.Changed said (λ i u rest. refl) (c .0),
+            ready-again added (passes Fused.Changed said (c .0)) (stands-many (h .0) (v .distance) (v .weight) ∙ ready .many)
                 (ready .fits),
           )
       near-left spare room Owned.Added ds' ws' h =
           let said = said-waits (h .0) (room (h .1)) in
           let c = h .2 in
           rw (c .1, c .2) (
-            goes-on said (c .0),
-            ready-again (suc added) (passes said (c .0))
+            goes-on Fused.New said (λ i u rest. refl) (c .0),
+            ready-again (suc added) (passes Fused.New said (c .0))
                 (longer (row k (v .distance) (v .weight)) both (waiting (h .0))
                 ∙ ap suc (ready .many)
                 ∙ sym (add-suc (t .count) added)) (omega (arith, room (h .1))),
           )
       near-left spare room Owned.Unknown ds' ws' h = h
-      near-left spare room (Owned.Refused why) ds' ws' h = (rw (h .2) (λ i rs. ends-there (told (h .4)) (h .3) i rs), h .0, h .1)
+      near-left spare room (Owned.Refused why) ds' ws' h = (rw (h .2) (told (h .4)), h .0, h .1)
         where
-          told : (standing most (getD ws p nan) ≡ true) ⊎ (spare ≡ true) → Said
-          told (inl e) = said-stands e
+          told :
+              (standing most (getD ws p nan) ≡ true) ⊎ (spare ≡ true)
+              → (i : ℕ) (rs : List Entry)
+              → batchFrom s i now-table (r ∷ rs) ≡ batchEnd (Ending.Refused TooLarge i) now-table
+          told (inl e) = ends-there Fused.Changed (said-stands e) (h .3)
           told (inr e) = by-standing (standing most (getD ws p nan)) refl
             where
-              by-standing : (b : Bool) → standing most (getD ws p nan) ≡ b → Said
-              by-standing true q = said-stands q
-              by-standing false q = said-waits q (room e)
+              by-standing :
+                  (b : Bool)
+                  → standing most (getD ws p nan) ≡ b
+                  → (i : ℕ) (rs : List Entry)
+                  → batchFrom s i now-table (r ∷ rs) ≡ batchEnd (Ending.Refused TooLarge i) now-table
+              by-standing true q = ends-there Fused.Changed (said-stands q) (h .3)
+              by-standing false q = ends-there Fused.New (said-waits q (room e)) (h .3)

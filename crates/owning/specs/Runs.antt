@@ -26,6 +26,7 @@ use Rattle.batching.specs.declared.Ending.the-variants as Ending
 use Rattle.fusing.specs.Fusing.{fusedVoxel}
 use Rattle.sorting.specs.Sorting.{Numbered}
 use Rattle.batching.specs.Batches.{batchEnd, Entry, batchFrom}
+use Rattle.batching.specs.Steps.{farUpTo}
 
 -- the table with the own rows that stand
 abbrev pub over : Settings → Table → List ℕ → List Float → List Float → ℕ → Table
@@ -96,18 +97,35 @@ Stepped s ks ds ws own spare r step ds' ws' =
     Table) (added : ℕ) → Ready s t ks ds ws own added → (spare ≡ true
     → t .count + added < length (t .keys)) → StepLeft s t ks ds ws own added r step ds' ws'
 
+-- a reading is passed over as far
+unfoldable pub passedFar : Owned → Bool
+passedFar Owned.Far = true
+passedFar Owned.Added = false
+passedFar Owned.Changed = false
+passedFar Owned.Unknown = false
+passedFar (Owned.Refused why) = false
+
 -- where a part of a batch leaves off, at the least-th reading or later, it goes on with the table that is left; or it ends there
 unfoldable pub RunLeft : Settings → Table → List Entry → ℕ → ℕ → Run → Table → Type 0
-RunLeft s t rs from least (Run.Reached i) u =
+RunLeft s t rs from least (Run.Reached i far) u =
     (batchFrom s from t (drop from rs) ≡ batchFrom s i u (drop i rs)) × (least ≤ i) × (i ≤ length rs)
-RunLeft s t rs from least (Run.Refused why i) u = batchFrom s from t (drop from rs) ≡ batchEnd (Ending.Refused why i) u
+RunLeft s t rs from least (Run.Refused why i far) u = batchFrom s from t (drop from rs) ≡ batchEnd (Ending.Refused why i) u
+
+-- of the readings before the one where it leaves off, so many more are far than of those before the from-th
+unfoldable pub RunFar : Settings → List Entry → ℕ → Run → Type 0
+RunFar s rs from (Run.Reached i far) = farUpTo s rs i ≡ farUpTo s rs from + far
+RunFar s rs from (Run.Refused why i far) = farUpTo s rs i ≡ farUpTo s rs from + far
 
 -- a part of a batch through own rows, beside every table
-abbrev pub RanTo : Settings → List ℕ → List Float → List Float → ℕ → ℕ → List Entry → ℕ → Ran → List Float → List Float → Type 0
-RanTo s ks ds ws own room rs from ran ds' ws' =
+abbrev pub RanOver : Settings → List ℕ → List Float → List Float → ℕ → ℕ → List Entry → ℕ → Ran → List Float → List Float → Type 0
+RanOver s ks ds ws own room rs from ran ds' ws' =
     (t : Table) → Ready s t ks ds ws own 0 → t .count + room ≤ length (t .keys)
     → RunLeft s (over s t ks ds ws own) rs from from (ran .run) (over s t ks ds' ws' own) × Ready s t ks ds' ws' own (ran .added)
 
--- a part of a batch, and the table that it leaves
+-- the same, and its far readings
+abbrev pub RanTo : Settings → List ℕ → List Float → List Float → ℕ → ℕ → List Entry → ℕ → Ran → List Float → List Float → Type 0
+RanTo s ks ds ws own room rs from ran ds' ws' = RanOver s ks ds ws own room rs from ran ds' ws' × RunFar s rs from (ran .run)
+
+-- a part of a batch, the table that it leaves, and its far readings
 abbrev pub RunTo : Settings → Table → List Entry → ℕ → ℕ → Run → Table → Type 0
-RunTo s t rs from least run u = RunLeft s t rs from least run u × (tableCheck s u ≡ Passed)
+RunTo s t rs from least run u = RunLeft s t rs from least run u × (tableCheck s u ≡ Passed) × RunFar s rs from run

@@ -28,7 +28,8 @@ ghost use Rattle.table.specs.Table.{table, rowsOf, lengthsOk, settingsOk, table
 ghost use Rattle.gathering.specs.Gathering.{puts, seatsOf, Loaded};
 ghost use Rattle.batching.specs.Batches.{entry, entries};
 ghost use Rattle.sorting.specs.Sorting.{Numbered};
-ghost use Rattle.owning.specs.Runs.{oldVoxel, Placed, Stepped, OwnSlots, RanTo, RunTo};
+ghost use Rattle.batching.specs.Steps.{isFar};
+ghost use Rattle.owning.specs.Runs.{oldVoxel, Placed, Stepped, passedFar, OwnSlots, RanTo, RunTo};
 
 // What a reading does to the own rows of a batch: nothing where it is far; a row is added or changed; it is left to
 // others where its row has no place in the table; or why it is refused.
@@ -40,10 +41,10 @@ enum Owned {
     Refused(Refusal),
 }
 
-// How far a part of a batch went, or where it was refused.
+// How far a part of a batch went, or where it was refused; and how many of its readings were far.
 pub enum Run {
-    Reached(usize),
-    Refused(Refusal, usize),
+    Reached(usize, usize),
+    Refused(Refusal, usize, usize),
 }
 
 // How many rows a part of a batch adds, and how far it went.
@@ -116,6 +117,7 @@ fn fuse_own(
     ensures { λ r. ⌜ Stepped settings (now («own_keys» .entry)) (now («own_distances» .entry))
         (now («own_weights» .entry)) own spare (entry key distance confidence) r (now («own_distances» .exit))
         (now («own_weights» .exit)) ⌝ }
+    ensures { λ r. ⌜ passedFar r ≡ isFar settings (entry key distance confidence) ⌝ }
 {
     let reading = Reading::Direct {
         distance: Metres(distance),
@@ -164,6 +166,7 @@ fn fuse_run(
         (now («own_distances» .exit)) (now («own_weights» .exit)) ⌝ }
 {
     let mut added = 0;
+    let mut far = 0;
     let mut i = from;
     while i < to {
         let offset = i - from;
@@ -181,6 +184,7 @@ fn fuse_run(
         );
         match step {
             Owned::Far => {
+                far += 1;
                 i += 1;
             }
             Owned::Changed => {
@@ -193,20 +197,20 @@ fn fuse_run(
             Owned::Unknown => {
                 return Ran {
                     added,
-                    run: Run::Reached(i),
+                    run: Run::Reached(i, far),
                 };
             }
             Owned::Refused(why) => {
                 return Ran {
                     added,
-                    run: Run::Refused(why, i),
+                    run: Run::Refused(why, i, far),
                 };
             }
         }
     }
     Ran {
         added,
-        run: Run::Reached(i),
+        run: Run::Reached(i, far),
     }
 }
 

@@ -1,5 +1,5 @@
--- Document 01's cases marked P: what the definitions give beside what the document says, one list and one statement. Floats stand as their
--- bits, whole numbers below 0 as 32 bits. A request adds its own lines.
+-- Document 01's cases marked P, and those of document 02's requests: what the definitions give beside what the documents say, one list and one
+-- statement. Floats stand as their bits, whole numbers below 0 as 32 bits.
 -- Assumes nothing.
 use Prim.Native.Nat.{ℕ, _+_, _-_}
 use mathlib.Core.Path.{_≡_, refl}
@@ -27,6 +27,7 @@ use Rattle.table.specs.Rows.{stored}
 use Rattle.measuring.specs.declared.Reading.the-variants.{Direct}
 use Rattle.measuring.specs.Readings.{admitIf, admitted}
 use Rattle.fusing.specs.Fusing.{newWeight, fusedVoxel, voxelAt, hasPlace, stepAt, stored as fused-stored, fusedNear, fusedIf, fuseIf, effectOf, fuse, fusedNumber}
+use Rattle.batching.specs.Batches.{stopOr, batchFrom, aheadOf, answersFrom, counting, countsOf, batchIf, batch, batchedNumber, batchedCounts, batchedAt}
 use Rattle.edges.specs.Edges.{Edge, edges}
 use Rattle.edges.specs.ZeroCrossing.{crossing, zeroCrossingEdges}
 use Rattle.edges.specs.Listing.{firsts, seconds}
@@ -52,7 +53,7 @@ pub record SampleReading : Type 0 where
 abbrev given : ℕ → ℕ → ℕ → SampleReading
 given k d c = record { key = k; distance = d; confidence = c }
 
--- the answers to readings in turn, 0 stored, 100 Far or a refusal's number, then the rows that they leave
+-- the answers to readings in turn, 102 New, 103 Changed, 100 Far or a refusal's number, then the rows that they leave
 unfoldable fusedInto : ℕ → ℕ → Table → List SampleReading → List ℕ
 fusedInto truncation most t [] = joined rowBits (rows t)
 fusedInto truncation most t (g ∷ gs) =
@@ -63,6 +64,16 @@ fusedInto truncation most t (g ∷ gs) =
 abbrev fused : ℕ → ℕ → ℕ → List SampleReading → List ℕ
 fused truncation most places gs =
     fusedInto truncation most (table (replicate places 0) (replicate places zero32) (replicate places zero32) 0) gs
+
+-- the same readings as a batch: its number, what it added, changed and found far, the reading that it names, and the rows
+abbrev batched : ℕ → ℕ → ℕ → List SampleReading → List ℕ
+batched truncation most places gs =
+    let o = batch (settingsOf (f32 truncation) (f32 most) one32 one32)
+    (table (replicate places 0) (replicate places zero32) (replicate places zero32) 0)
+    (map (λ (g : SampleReading). g .key) gs) (map (λ (g : SampleReading). f32 (g .distance)) gs)
+    (map (λ (g : SampleReading). f32 (g .confidence)) gs) in
+    let n = batchedCounts (o .answer) in
+    batchedNumber (o .answer) ∷ n .added ∷ n .changed ∷ n .far ∷ batchedAt (o .answer) ∷ joined rowBits (rows (o .left))
 
 unfoldable intBits : ℤ → ℕ
 intBits (pos n) = n
@@ -129,15 +140,15 @@ unfolding fusedInto intBits rooted holding told
 samples =
     -- 0.5 then -0.25: distance 0.125, weight 2
     sample (fused 0x3F80_0000 0x42C8_0000 2 (given 7 0x3F00_0000 0x3F80_0000 ∷ given 7 0xBE80_0000 0x3F80_0000 ∷ []))
-    (0 ∷ 0 ∷ 7 ∷ 0x3E00_0000 ∷ 0x4000_0000 ∷ [])
+    (102 ∷ 103 ∷ 7 ∷ 0x3E00_0000 ∷ 0x4000_0000 ∷ [])
     -- maximum weight 1, 0.5 twice: distance 1.0, weight 1
     ∷ sample (fused 0x3F80_0000 0x3F80_0000 2 (given 7 0x3F00_0000 0x3F80_0000 ∷ given 7 0x3F00_0000 0x3F80_0000 ∷ []))
-    (0 ∷ 0 ∷ 7 ∷ 0x3F80_0000 ∷ 0x3F80_0000 ∷ [])
+    (102 ∷ 103 ∷ 7 ∷ 0x3F80_0000 ∷ 0x3F80_0000 ∷ [])
     -- reading 1.0 is stored; the next float above is Far, even with a full table
     ∷ sample (fused 0x3F80_0000 0x42C8_0000 1 (given 8 0x3F80_0000 0x3F80_0000 ∷ given 7 0x3F80_0001 0x3F80_0000 ∷ []))
-    (0 ∷ 100 ∷ 8 ∷ 0x3F80_0000 ∷ 0x3F80_0000 ∷ [])
+    (102 ∷ 100 ∷ 8 ∷ 0x3F80_0000 ∷ 0x3F80_0000 ∷ [])
     -- confidence 0, reading 0.25, new key: row (0.25, 0)
-    ∷ sample (fused 0x3F80_0000 0x42C8_0000 2 (given ten 0x3E80_0000 0 ∷ [])) (0 ∷ ten ∷ 0x3E80_0000 ∷ 0 ∷ [])
+    ∷ sample (fused 0x3F80_0000 0x42C8_0000 2 (given ten 0x3E80_0000 0 ∷ [])) (102 ∷ ten ∷ 0x3E80_0000 ∷ 0 ∷ [])
     -- no edge meanwhile
     ∷ sample (crossed (row ten (f32 0x3E80_0000) zero32 ∷ row eleven (f32 0xBE80_0000) one32 ∷ [])) []
     -- snap (5,6,7) gives (5,7,7)
@@ -161,14 +172,28 @@ samples =
     ∷ sample (marched 0 0x4000_0000) (5 ∷ 4 ∷ 1 ∷ 4 ∷ 0 ∷ 0 ∷ 0 ∷ [])
     -- not the document's: maximum 3, where a wrong axial length would not be clamped away
     ∷ sample (marched 10 0x4040_0000) (15 ∷ 14 ∷ 1 ∷ 8 ∷ 6 ∷ 0 ∷ 0 ∷ [])
+    -- document 02, No. 2: Changed even if the bits come out the same, and of a stored row of weight 0
+    ∷ sample (fused 0x3F80_0000 0x42C8_0000 2 (given 7 0x3E80_0000 0 ∷ given 7 0x3E80_0000 0 ∷ [])) (102 ∷ 103 ∷ 7 ∷ 0x3E80_0000 ∷ 0 ∷ [])
+    -- a key twice in a batch is one New and one Changed, beside one that is far
+    ∷ sample (batched 0x3F80_0000 0x42C8_0000 2 (given 7 0x3F00_0000 0x3F80_0000 ∷ given 8 0x4000_0000 0x3F80_0000 ∷ given 7 0xBE80_0000 0x3F80_0000 ∷ []))
+    (0 ∷ 1 ∷ 1 ∷ 1 ∷ 0 ∷ 7 ∷ 0x3E00_0000 ∷ 0x4000_0000 ∷ [])
+    -- a refused batch reports the counts of the readings before it: no place for the fourth, the fifth is not looked at
+    ∷ sample (batched 0x3F80_0000 0x42C8_0000 1
+    (given 7 0x3F00_0000 0x3F80_0000 ∷ given 8 0x4000_0000 0x3F80_0000 ∷ given 7 0xBE80_0000 0x3F80_0000 ∷ given 8 0x3F00_0000 0x3F80_0000
+    ∷ given 7 0x3F00_0000 0x3F80_0000 ∷ []))
+    (6 ∷ 1 ∷ 1 ∷ 1 ∷ 3 ∷ 7 ∷ 0x3E00_0000 ∷ 0x4000_0000 ∷ [])
+    -- refused by its tests, it has counted none: truncation 0
+    ∷ sample (batched 0 0x42C8_0000 1 (given 7 0 0x3F80_0000 ∷ [])) (1 ∷ 0 ∷ 0 ∷ 0 ∷ 0 ∷ [])
+    -- an empty batch
+    ∷ sample (batched 0x3F80_0000 0x42C8_0000 1 []) (0 ∷ 0 ∷ 0 ∷ 0 ∷ 0 ∷ [])
     ∷ []
 
--- Each case is as the document says.
+-- Each case is as the documents say.
 pub samples-hold : map (λ (s : Sample). s .found) samples ≡ map (λ (s : Sample). s .said) samples
-unfolding samples fusedInto intBits rooted holding told trailingZeros span climb size odd units round neg sum add sub mul div lt le eq ne ofInt
-    ofFields ofBits toBits besideBy joined insert respaced morton sameParity offsets inBox reachedFrom shown neighboursBy member risesFrom ascending
-    next find placeOf rootAnswer even onLattice evenDown evenUp oddUp oddDown squareOf squaredDistance nearest nearer nearestCandidate isEnd snapped
-    rowsOk need checkWith put relaid stored admitIf admitted newWeight fusedVoxel voxelAt hasPlace stepAt fused-stored
-    fusedNear fusedIf fuseIf effectOf fuse edges crossing orZero partOf vertexOf vertexAt verticesOf distance-stored andThen distanceOf store wait
-    waitAll seeds sow sowAll candidate heard settling settled spread settle visit taking takeUpTo march lengthAt
+unfolding samples fusedInto intBits rooted holding told trailingZeros span climb size odd units round neg sum add sub mul div lt le eq ne ofInt ofFields
+    ofBits toBits besideBy joined insert respaced morton sameParity offsets inBox reachedFrom shown neighboursBy member risesFrom ascending next find
+    placeOf rootAnswer even onLattice evenDown evenUp oddUp oddDown squareOf squaredDistance nearest nearer nearestCandidate isEnd snapped rowsOk need
+    checkWith put relaid stored admitIf admitted newWeight fusedVoxel voxelAt hasPlace stepAt fused-stored fusedNear fusedIf fuseIf effectOf fuse
+    stopOr batchFrom aheadOf answersFrom counting countsOf batchIf batch edges crossing orZero partOf vertexOf vertexAt verticesOf distance-stored
+    andThen distanceOf store wait waitAll seeds sow sowAll candidate heard settling settled spread settle visit taking takeUpTo march lengthAt
 samples-hold = refl

@@ -39,6 +39,9 @@ mod face {
             batch_distances_len: usize,
             batch_confidences: *const f32,
             batch_confidences_len: usize,
+            added: *mut usize,
+            changed: *mut usize,
+            far: *mut usize,
             at: *mut usize,
         ) -> u32;
         pub fn akf_extract_mesh_from_tsdf(
@@ -230,8 +233,16 @@ const MOST_PLACES: usize = 1_048_576;
 #[derive(Debug, Clone, Copy, PartialEq)]
 pub enum Answer<T> {
     Done(T),
-    Far,
     Absent,
+    Refused(Refusal),
+}
+
+/// What a reading did: its cell is new, was stored before, or it lies beyond the truncation.
+#[derive(Debug, Clone, Copy, PartialEq, Eq)]
+pub enum Fused {
+    New,
+    Changed,
+    Far,
     Refused(Refusal),
 }
 
@@ -244,12 +255,15 @@ impl<T> Answer<T> {
     }
 }
 
+fn refusal(number: u32) -> Refusal {
+    REFUSALS[number as usize - 1]
+}
+
 fn answer<T>(number: u32, value: T) -> Answer<T> {
     match number {
         0 => Answer::Done(value),
-        100 => Answer::Far,
         101 => Answer::Absent,
-        n => Answer::Refused(REFUSALS[n as usize - 1]),
+        n => Answer::Refused(refusal(n)),
     }
 }
 
@@ -284,11 +298,30 @@ pub struct Table {
     count: usize,
 }
 
-/// A refused batch: why, and which reading.
+/// The counter that an operator watches: how many readings were new, changed a stored cell, and were far.
+#[derive(Debug, Clone, Copy, PartialEq, Eq, Default)]
+pub struct Counts {
+    pub added: usize,
+    pub changed: usize,
+    pub far: usize,
+}
+
+impl std::fmt::Display for Counts {
+    fn fmt(&self, f: &mut std::fmt::Formatter) -> std::fmt::Result {
+        write!(
+            f,
+            "new {}, changed {}, far {}",
+            self.added, self.changed, self.far
+        )
+    }
+}
+
+/// A refused batch: why, which reading, and the counts of those before it.
 #[derive(Debug, Clone, Copy, PartialEq, Eq)]
 pub struct Stopped {
     pub why: Refusal,
     pub at: usize,
+    pub counts: Counts,
 }
 
 /// Room for a mesh's parts.
@@ -389,7 +422,7 @@ impl Table {
         self.count
     }
 
-    pub fn update_from_depth(&mut self, key: u64, distance: f32, confidence: f32) -> Answer<()> {
+    pub fn update_from_depth(&mut self, key: u64, distance: f32, confidence: f32) -> Fused {
         let s = self.settings;
         // SAFETY: each pointer is a list's own, with its length; no two lists overlap.
         let number = unsafe {
@@ -410,7 +443,12 @@ impl Table {
                 confidence,
             )
         };
-        answer(number, ())
+        match number {
+            100 => Fused::Far,
+            102 => Fused::New,
+            103 => Fused::Changed,
+            n => Fused::Refused(refusal(n)),
+        }
     }
 
     /// Each reading in turn; the earlier ones stand where one is refused.
@@ -419,9 +457,9 @@ impl Table {
         keys: &[u64],
         distances: &[f32],
         confidences: &[f32],
-    ) -> Result<(), Stopped> {
+    ) -> Result<Counts, Stopped> {
         let s = self.settings;
-        let mut at = 0;
+        let (mut counts, mut at) = (Counts::default(), 0);
         // SAFETY: each pointer is a list's own, with its length; no two lists overlap.
         let number = unsafe {
             face::akf_batch_update(
@@ -442,12 +480,19 @@ impl Table {
                 distances.len(),
                 confidences.as_ptr(),
                 confidences.len(),
+                &mut counts.added,
+                &mut counts.changed,
+                &mut counts.far,
                 &mut at,
             )
         };
-        match answer(number, ()) {
-            Answer::Refused(why) => Err(Stopped { why, at }),
-            _ => Ok(()),
+        match number {
+            0 => Ok(counts),
+            n => Err(Stopped {
+                why: refusal(n),
+                at,
+                counts,
+            }),
         }
     }
 

@@ -1,6 +1,7 @@
-//! What a plug-in in Rust does. Two passes over a small last are fused, the surface is meshed, and counts, area and box
-//! are printed; then the mesh that closes, the same with its triangles turned outwards, this as an STL file and read
-//! back, refusals and what is far. Lengths are millimetres, which lathes and slicers read.
+//! What a plug-in in Rust does. Two passes over a small last are fused, with the counter that an operator watches, the
+//! surface is meshed, and counts, area and box are printed; then the mesh that closes, the same with its triangles
+//! turned outwards, this as an STL file and read back, refusals and what single readings did. Lengths are millimetres,
+//! which lathes and slicers read.
 mod akfelzun;
 
 use akfelzun::{key, read_stl, root, Answer, Mesh, Room, Settings, Table};
@@ -130,13 +131,14 @@ fn main() {
     let mut table = Table::new(settings, 4096);
     for off in [0.15625, -0.15625] {
         let (keys, distances) = scan(off);
-        let fused = table.batch_update(&keys, &distances, &vec![0.5; keys.len()]);
-        println!(
-            "pass: {} readings, {:?}, rows {}",
-            keys.len(),
-            fused,
-            table.rows()
-        );
+        match table.batch_update(&keys, &distances, &vec![0.5; keys.len()]) {
+            Ok(counts) => println!(
+                "pass: {} readings, {counts}, rows {}",
+                keys.len(),
+                table.rows()
+            ),
+            Err(stopped) => println!("pass: {stopped:?}"),
+        }
     }
     match table.mesh(Room {
         edges: 16384,
@@ -192,10 +194,12 @@ fn main() {
     let Answer::Done(k) = key(0, 16, 16, 16) else {
         unreachable!("an even cell is on the lattice")
     };
-    println!(
-        "a reading of 3 mm: {:?}",
-        table.update_from_depth(k, 3.0, 1.0)
-    );
-    let halves = table.batch_update(&[k, 1], &[0.5, 0.5], &[1.0, 1.0]);
-    println!("a batch with a key off the lattice: {:?}", halves);
+    for (distance, what) in [(0.5, "0.5 mm"), (0.5, "0.5 mm once more"), (3.0, "3 mm")] {
+        println!(
+            "a reading of {what}: {:?}",
+            table.update_from_depth(k, distance, 1.0)
+        );
+    }
+    let halves = table.batch_update(&[k, k, 1], &[0.5, 3.0, 0.5], &[1.0; 3]);
+    println!("a batch with a key off the lattice: {halves:?}");
 }

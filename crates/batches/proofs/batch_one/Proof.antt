@@ -1,13 +1,16 @@
--- `batches::batch_one` meets its contract: it ends the batch or leaves the rest to the table that it left.
+-- `batches::batch_one` meets its contract: it ends the batch or leaves the rest to the table that it left, and tells whether it is far.
 -- Assumes nothing.
+use mathlib.Core.Path.{sym}
 use Prim.Native.Nat.{_<_}
+use native.Mathlib.Nat.{add-zero}
 use native.Mathlib.Omega.{arith}
 use lib.ListN.{length}
 use Rattle.lists.proofs.BesideLaws.{by-length}
 use Rattle.batching.specs.Batches.{entry}
 use Rattle.table.specs.Table.{table}
-use Rattle.owning.specs.Runs.{RunLeft}
-use Rattle.batching.proofs.Batching.{stops, goes-on-far, goes-on-added, goes-on-changed, passes-again}
+use Rattle.fusing.specs.Steps.{answersFar}
+use Rattle.owning.specs.Runs.{RunLeft, RunFar}
+use Rattle.batching.proofs.Batching.{stops, goes-on-far, goes-on-added, goes-on-changed, far-here, near-here, passes-again}
 use borrow.Author.Needs.{needs}
 use Rattle.batches.proofs.batch_one.Statement.{statement}
 use Rattle.batches.proofs.batch_one.Tie as tie
@@ -64,7 +67,7 @@ same-length-3 : tie.Need-same-length-3
 same-length-3 c = c .before .before .before .before .before .before .before .before .before .fuse-sound .kept .1 .1 .1 .0
 
 returns : tie.Need-returns
-unfolding RunLeft
+unfolding RunLeft RunFar
 returns c =
     let at-fuse-sound = c .before .before .before .before .before .before .before .before .before in
     let at-start = at-fuse-sound .before .before .before .before .before .before .before .before .before .before .before .before .before .before in
@@ -77,6 +80,7 @@ returns c =
       passes-again (a .settings) (table (a .keys .now) (a .distances .now) (a .weights .now) (a .count .now))
           (a .batch-keys .now) (a .batch-distances .now) (a .batch-confidences .now) (a .from) (p .1 .1 .0) (p .1 .1 .1) h
           _ _ (at-fuse-sound .fuse-sound .ensures) (p .0),
+      sym (add-zero _),
     )
 
 same-length-4 : tie.Need-same-length-4
@@ -89,7 +93,7 @@ same-length-6 : tie.Need-same-length-6
 same-length-6 c = c .before .before .before .before .before .before .before .before .fuse-sound .kept .1 .1 .1 .0
 
 returns-2 : tie.Need-returns-2
-unfolding RunLeft
+unfolding RunLeft RunFar
 returns-2 c =
     let at-fuse-sound = c .before .before .before .before .before .before .before .before in
     let at-start = at-fuse-sound .before .before .before .before .before .before .before .before .before .before .before .before .before .before in
@@ -107,6 +111,9 @@ returns-2 c =
       passes-again (a .settings) (table (a .keys .now) (a .distances .now) (a .weights .now) (a .count .now))
           (a .batch-keys .now) (a .batch-distances .now) (a .batch-confidences .now) (a .from) (p .1 .1 .0) (p .1 .1 .1) h
           _ _ (at-fuse-sound .fuse-sound .ensures) (p .0),
+      far-here (a .settings) (table (a .keys .now) (a .distances .now) (a .weights .now) (a .count .now))
+          (a .batch-keys .now) (a .batch-distances .now) (a .batch-confidences .now) (a .from) (p .1 .1 .0) (p .1 .1 .1) h
+          _ _ (at-fuse-sound .fuse-sound .ensures) (p .0) (c .enum-told .given .1),
     )
 
 same-length-7 : tie.Need-same-length-7
@@ -119,7 +126,7 @@ same-length-9 : tie.Need-same-length-9
 same-length-9 c = c .before .before .before .before .before .before .before .before .fuse-sound .kept .1 .1 .1 .0
 
 returns-3 : tie.Need-returns-3
-unfolding RunLeft
+unfolding RunLeft RunFar answersFar
 returns-3 c =
     let at-fuse-sound = c .before .before .before .before .before .before .before .before in
     let at-start = at-fuse-sound .before .before .before .before .before .before .before .before .before .before .before .before .before .before in
@@ -137,6 +144,9 @@ returns-3 c =
       passes-again (a .settings) (table (a .keys .now) (a .distances .now) (a .weights .now) (a .count .now))
           (a .batch-keys .now) (a .batch-distances .now) (a .batch-confidences .now) (a .from) (p .1 .1 .0) (p .1 .1 .1) h
           _ _ (at-fuse-sound .fuse-sound .ensures) (p .0),
+      near-here (a .settings) (table (a .keys .now) (a .distances .now) (a .weights .now) (a .count .now))
+          (a .batch-keys .now) (a .batch-distances .now) (a .batch-confidences .now) (a .from) (p .1 .1 .0) (p .1 .1 .1) h
+          _ _ (at-fuse-sound .fuse-sound .ensures) (p .0) (rw (c .enum-told2 .given .1)),
     )
 
 same-length-10 : tie.Need-same-length-10
@@ -149,7 +159,7 @@ same-length-12 : tie.Need-same-length-12
 same-length-12 c = c .before .before .before .before .before .before .before .before .fuse-sound .kept .1 .1 .1 .0
 
 returns-4 : tie.Need-returns-4
-unfolding RunLeft
+unfolding RunLeft RunFar answersFar
 returns-4 c =
     let at-fuse-sound = c .before .before .before .before .before .before .before .before in
     let at-start = at-fuse-sound .before .before .before .before .before .before .before .before .before .before .before .before .before .before in
@@ -167,6 +177,9 @@ returns-4 c =
       passes-again (a .settings) (table (a .keys .now) (a .distances .now) (a .weights .now) (a .count .now))
           (a .batch-keys .now) (a .batch-distances .now) (a .batch-confidences .now) (a .from) (p .1 .1 .0) (p .1 .1 .1) h
           _ _ (at-fuse-sound .fuse-sound .ensures) (p .0),
+      near-here (a .settings) (table (a .keys .now) (a .distances .now) (a .weights .now) (a .count .now))
+          (a .batch-keys .now) (a .batch-distances .now) (a .batch-confidences .now) (a .from) (p .1 .1 .0) (p .1 .1 .1) h
+          _ _ (at-fuse-sound .fuse-sound .ensures) (p .0) (rw (c .enum-told3 .given .1)),
     )
 
 pub batch-one-spec : {M : Type 1} → statement M

@@ -45,7 +45,7 @@ same-length-6 c = c .before .before .before .before .before .before .before .bef
 returns-2 : tie.Need-returns-2
 returns-2 c =
     let at-batch-run = c .before .before .before .before .before .before .before .before .before in
-    stops-too _ _ _ _ _ _ _ (at-batch-run .batch-run .ensures) _ _ (c .before .run .given .1)
+    stops-too _ _ _ _ _ _ _ (at-batch-run .batch-run .ensures) _ _ _ (c .before .run .given .1)
 
 enum-known-run-2 : tie.Need-enum-known-run-2
 enum-known-run-2 c = search needs
@@ -62,7 +62,7 @@ same-length-9 c = c .before .before .before .before .before .before .before .bef
 returns-3 : tie.Need-returns-3
 returns-3 c =
     let at-batch-run = c .before .before .before .before .before .before .before .before .before .before in
-    goes-too _ _ _ _ _ _ _ (at-batch-run .batch-run .ensures) _ (c .before .before .run2 .given .1) (c .if2 .taken)
+    goes-too _ _ _ _ _ _ _ (at-batch-run .batch-run .ensures) _ _ (c .before .before .run2 .given .1) (c .if2 .taken)
 
 batch-one-requires-2 : tie.Need-batch-one-requires-2
 batch-one-requires-2 c κs = search needs
@@ -91,8 +91,8 @@ returns-4 c =
     let at-if2 = at-batch-one2 .before .before .before .before .before in
     let at-run2 = at-if2 .before .before in
     let at-batch-run = at-run2 .before .before .before .before .before .before .before .before in
-    then-runs _ _ _ _ _ _ _ (at-batch-run .batch-run .ensures) _ (at-run2 .run2 .given .1) (at-if2 .if2 .left)
-    (run-goes _ _ _ _ _ _ _ (at-batch-run .batch-run .ensures) _ (at-run2 .run2 .given .1) .1) _ _
+    then-runs _ _ _ _ _ _ _ (at-batch-run .batch-run .ensures) _ _ (at-run2 .run2 .given .1) (at-if2 .if2 .left)
+    (run-goes _ _ _ _ _ _ _ (at-batch-run .batch-run .ensures) _ _ (at-run2 .run2 .given .1) .1) _ _
     (at-batch-one2 .batch-one2 .ensures)
 
 pub batch-step-spec : {M : Type 1} → statement M

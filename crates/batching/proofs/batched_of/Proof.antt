@@ -11,7 +11,7 @@ enum-known-ending : tie.Need-enum-known-ending
 enum-known-ending c = search needs
 
 returns : tie.Need-returns
-returns c = search needs
+returns c = rw (c .enum-told .given .1)
 
 returns-2 : tie.Need-returns-2
 returns-2 c = rw (c .before .ending .given .1)

@@ -8,7 +8,7 @@ use Rattle.table.proofs.RowLaws.{lengths-known}
 use Rattle.batching.specs.Batches.{entry}
 use Rattle.measuring.proofs.Admitting.{near-known}
 use Rattle.owning.proofs.Stepping.{numbered-place, near-left}
-use Rattle.owning.proofs.Running.{no-left, far-left}
+use Rattle.owning.proofs.Running.{no-left, far-left, no-tells, far-tells, near-tells}
 use borrow.Author.Needs.{needs}
 use Rattle.owning.proofs.fuse_own.Statement.{statement}
 use Rattle.owning.proofs.fuse_own.Tie as tie
@@ -54,11 +54,13 @@ fuse-place-requires c κs =
 
 returns : tie.Need-returns
 returns c =
-    λ t added ready room. no-left _ _ _ _ _ _ _ ready _ _ (sym (c .before .before .before .admit .ensures) ∙ c .before .why .given .1)
+    let n = sym (c .before .before .before .admit .ensures) ∙ c .before .why .given .1 in
+    ((λ t added ready room. no-left _ _ _ _ _ _ _ ready _ _ n), no-tells _ _ _ n)
 
 returns-2 : tie.Need-returns-2
 returns-2 c =
-    λ t added ready room. far-left _ _ _ _ _ _ _ ready _ (sym (c .before .before .admit .ensures) ∙ c .enum-told .given .1)
+    let n = sym (c .before .before .admit .ensures) ∙ c .enum-told .given .1 in
+    ((λ t added ready room. far-left _ _ _ _ _ _ _ ready _ n), far-tells _ _ n)
 
 same-length : tie.Need-same-length
 same-length c = search needs
@@ -73,11 +75,14 @@ returns-3 c =
     let s = at-admit .before .before .before .before in
     let o = placed s in
     let n = sym (at-admit .admit .ensures) ∙ at-near .near .given .1 in
-    λ t added ready room.
-    near-left (s .args .settings) t (s .args .own-keys .now) (s .args .own-distances .now) (s .args .own-weights .now)
-    (s .args .own) added ready _ (s .args .key) (o .1) (o .2) _ (near-known _ _ _ _ n .1)
-    (entry (s .args .key) (s .args .distance) (s .args .confidence)) refl n (s .args .spare) room _ _ _
-    (rw (c .before .before .before .before .before .before .before .averaging-of .ensures) at (c .before .before .before .before .fuse-place .ensures))
+    let r = entry (s .args .key) (s .args .distance) (s .args .confidence) in
+    let at-place = c .before .before .before .before in
+    let did = rw (at-place .before .before .before .averaging-of .ensures) at (at-place .fuse-place .ensures) in (
+      (λ t added ready room.
+          near-left (s .args .settings) t (s .args .own-keys .now) (s .args .own-distances .now) (s .args .own-weights .now)
+          (s .args .own) added ready _ (s .args .key) (o .1) (o .2) _ (near-known _ _ _ _ n .1) r refl n (s .args .spare) room _ _ _ did),
+      near-tells (s .args .settings) r _ _ _ _ _ _ _ _ _ n did,
+    )
 
 pub fuse-own-spec : {M : Type 1} → statement M
 fuse-own-spec =

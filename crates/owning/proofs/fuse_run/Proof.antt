@@ -1,24 +1,27 @@
 -- `owning::fuse_run` meets its contract: what is left of the readings ends as the whole does.
 -- Assumes nothing.
-use mathlib.Core.Path.{_≡_, refl, subst, _∙_}
-use Prim.Native.Nat.{ℕ, _≤_, _<_, _-_, _+_}
+use mathlib.Core.Path.{_≡_, refl, sym, ap, subst, _∙_}
+use mathlib.Core.List.{List, _∷_}
+use Prim.Native.Nat.{ℕ, suc, _≤_, _<_, _-_, _+_}
+use native.Mathlib.Nat.{add-zero}
 use native.Mathlib.Omega.{arith}
 use borrow.Author.Tests.{ltb-true}
 use lib.Dec.{ltb}
-use lib.ListN.{length, getD, take}
+use lib.ListN.{length, getD, take, drop}
 use lib.Ieee.{nan}
 use Rattle.lists.proofs.BesideLaws.{by-length}
-use Rattle.batching.specs.Batches.{entry, entries}
+use Rattle.batching.specs.Batches.{Entry, entry, entries}
 use Rattle.batching.proofs.Batching.{entry-at}
 use Rattle.sorting.specs.Sorting.{Numbered}
-use Rattle.owning.proofs.Running.{Running, passes-over, changes, adds, refuses, stays, ends}
+use Rattle.owning.specs.Runs.{passedFar}
+use Rattle.owning.proofs.Running.{Running, passes-over, changes, adds, refuses, stays, ends, FarRunning, one-far, one-near, reached-far, refused-far}
 use borrow.Author.Needs.{needs}
 use Rattle.owning.proofs.fuse_run.Statement.{statement}
 use Rattle.owning.proofs.fuse_run.Tie as tie
 
 abbrev Inv-loop : tie.InvT-loop
 Inv-loop settings own-keys own-distances₀ own-weights₀ own slots room batch-keys batch-distances batch-confidences from
-    to added₀ i₀ own-distances own-weights added i =
+    to added₀ far₀ i₀ own-distances own-weights added far i =
     (from ≤ i)
     × (i ≤ to)
     × (added ≤ i)
@@ -26,14 +29,35 @@ Inv-loop settings own-keys own-distances₀ own-weights₀ own slots room batch-
     × (length own-weights ≡ length own-weights₀)
     × Running settings own-keys own-distances₀ own-weights₀ own room
     (entries batch-keys batch-distances batch-confidences) from i added own-distances own-weights
+    × (far ≤ i)
+    × FarRunning settings (entries batch-keys batch-distances batch-confidences) from i far
 
 abbrev μ-loop : tie.MeasureT-loop
 μ-loop settings own-keys own-distances₀ own-weights₀ own slots room batch-keys batch-distances batch-confidences from to
-    added₀ i₀ own-distances own-weights added i = to - i
+    added₀ far₀ i₀ own-distances own-weights added far i = to - i
 
 loop-holds : tie.Need-loop-holds Inv-loop μ-loop
 loop-holds c =
-    (search needs, search needs, search needs, refl, refl, (λ t h l. (refl, h)))
+    (search needs, search needs, search needs, refl, refl, (λ t h l. (refl, h)), search needs, sym (add-zero _))
+
+-- the readings, the one of this turn, and that it stands there
+abbrev readings : (s : tie.Start Inv-loop μ-loop) → List Entry
+readings s = entries (s .args .batch-keys .now) (s .args .batch-distances .now) (s .args .batch-confidences .now)
+
+abbrev this : (c : tie.In-loop Inv-loop μ-loop) → Entry
+this c =
+    let s = c .before .before .before .before .before .before .before .before .before in
+    let i = c .before .loop .i in
+    entry (getD (s .args .batch-keys .now) i 0) (getD (s .args .batch-distances .now) i nan) (getD (s .args .batch-confidences .now) i nan)
+
+stands :
+    (c : tie.In-loop Inv-loop μ-loop)
+    → drop (c .before .loop .i) (readings (c .before .before .before .before .before .before .before .before .before))
+    ≡ this c ∷ drop (suc (c .before .loop .i)) (readings (c .before .before .before .before .before .before .before .before .before))
+stands c =
+    let s = c .before .before .before .before .before .before .before .before .before in
+    entry-at (s .args .batch-keys .now) (s .args .batch-distances .now) (s .args .batch-confidences .now) (c .before .loop .i)
+    (s .pre .1 .1 .1 .0 .0) (s .pre .1 .1 .1 .0 .1) (omega (arith, c .loop-test .taken))
 
 sub-offset : tie.Need-sub-offset Inv-loop μ-loop
 sub-offset c =
@@ -91,6 +115,10 @@ fuse-own-requires c κs =
 enum-told : tie.Need-enum-told Inv-loop μ-loop
 enum-told c = search needs
 
+add-far : tie.Need-add-far Inv-loop μ-loop
+add-far c =
+    omega arith
+
 add-i : tie.Need-add-i Inv-loop μ-loop
 add-i c =
     omega arith
@@ -105,8 +133,7 @@ loop-again c =
     let at-loop-test = at-fuse-own .before .before .before .before .before .before .before in
     let at-loop = at-loop-test .before in
     let s = at-loop .before .before .before .before .before .before .before .before in
-    let l = at-loop .loop in
-    let h : l .i < length (s .args .batch-keys .now) = omega (arith, at-loop-test .loop-test .taken) in (
+    let l = at-loop .loop in (
       omega arith,
       omega (arith, at-loop-test .loop-test .taken),
       omega arith,
@@ -114,14 +141,14 @@ loop-again c =
       at-fuse-own .fuse-own .kept .1 .1 .1 .0 ∙ l .inv .4,
       passes-over (s .args .settings) (s .args .own-keys .now) (s .args .own-distances .now) (s .args .own-weights .now)
           (s .args .own) (s .args .room)
-          (entries (s .args .batch-keys .now) (s .args .batch-distances .now) (s .args .batch-confidences .now))
+          (readings s)
           (s .args .from) (l .i) (l .added) (l .own-distances) (l .own-weights) (l .inv .5)
-          (entry (getD (s .args .batch-keys .now) (l .i) 0) (getD (s .args .batch-distances .now) (l .i) nan)
-          (getD (s .args .batch-confidences .now) (l .i) nan))
-          (entry-at (s .args .batch-keys .now) (s .args .batch-distances .now) (s .args .batch-confidences .now) (l .i)
-          (s .pre .1 .1 .1 .0 .0) (s .pre .1 .1 .1 .0 .1) h) (ltb (l .added) (s .args .room))
+          (this at-loop-test) (stands at-loop-test) (ltb (l .added) (s .args .room))
           (λ b. ltb-true (l .added) (s .args .room) b) _ _
-          (rw (c .enum-told .given .1) at (at-fuse-own .fuse-own .ensures)),
+          (rw (c .enum-told .given .1) at (at-fuse-own .fuse-own .ensures .0)),
+      omega arith,
+      one-far (s .args .settings) (readings s) (s .args .from) (l .i) (l .far) (l .inv .7) (this at-loop-test) (stands at-loop-test)
+          (at-fuse-own .fuse-own .result) (at-fuse-own .fuse-own .ensures .1) (c .enum-told .given .1),
     )
 
 enum-told-2 : tie.Need-enum-told-2 Inv-loop μ-loop
@@ -136,13 +163,13 @@ loop-less-2 c =
     omega arith
 
 loop-again-2 : tie.Need-loop-again-2 Inv-loop μ-loop
+unfolding passedFar
 loop-again-2 c =
     let at-fuse-own = c .before .before .before .before .before .before in
     let at-loop-test = at-fuse-own .before .before .before .before .before .before .before in
     let at-loop = at-loop-test .before in
     let s = at-loop .before .before .before .before .before .before .before .before in
-    let l = at-loop .loop in
-    let h : l .i < length (s .args .batch-keys .now) = omega (arith, at-loop-test .loop-test .taken) in (
+    let l = at-loop .loop in (
       omega arith,
       omega (arith, at-loop-test .loop-test .taken),
       omega arith,
@@ -150,14 +177,14 @@ loop-again-2 c =
       at-fuse-own .fuse-own .kept .1 .1 .1 .0 ∙ l .inv .4,
       changes (s .args .settings) (s .args .own-keys .now) (s .args .own-distances .now) (s .args .own-weights .now)
           (s .args .own) (s .args .room)
-          (entries (s .args .batch-keys .now) (s .args .batch-distances .now) (s .args .batch-confidences .now))
+          (readings s)
           (s .args .from) (l .i) (l .added) (l .own-distances) (l .own-weights) (l .inv .5)
-          (entry (getD (s .args .batch-keys .now) (l .i) 0) (getD (s .args .batch-distances .now) (l .i) nan)
-          (getD (s .args .batch-confidences .now) (l .i) nan))
-          (entry-at (s .args .batch-keys .now) (s .args .batch-distances .now) (s .args .batch-confidences .now) (l .i)
-          (s .pre .1 .1 .1 .0 .0) (s .pre .1 .1 .1 .0 .1) h) (ltb (l .added) (s .args .room))
+          (this at-loop-test) (stands at-loop-test) (ltb (l .added) (s .args .room))
           (λ b. ltb-true (l .added) (s .args .room) b) _ _
-          (rw (c .enum-told2 .given .1) at (at-fuse-own .fuse-own .ensures)),
+          (rw (c .enum-told2 .given .1) at (at-fuse-own .fuse-own .ensures .0)),
+      omega arith,
+      one-near (s .args .settings) (readings s) (s .args .from) (l .i) (l .far) (l .inv .7) (this at-loop-test) (stands at-loop-test)
+          (at-fuse-own .fuse-own .result) (at-fuse-own .fuse-own .ensures .1) (ap passedFar (c .enum-told2 .given .1)),
     )
 
 enum-told-3 : tie.Need-enum-told-3 Inv-loop μ-loop
@@ -176,13 +203,13 @@ loop-less-3 c =
     omega arith
 
 loop-again-3 : tie.Need-loop-again-3 Inv-loop μ-loop
+unfolding passedFar
 loop-again-3 c =
     let at-fuse-own = c .before .before .before .before .before .before in
     let at-loop-test = at-fuse-own .before .before .before .before .before .before .before in
     let at-loop = at-loop-test .before in
     let s = at-loop .before .before .before .before .before .before .before .before in
-    let l = at-loop .loop in
-    let h : l .i < length (s .args .batch-keys .now) = omega (arith, at-loop-test .loop-test .taken) in (
+    let l = at-loop .loop in (
       omega arith,
       omega (arith, at-loop-test .loop-test .taken),
       omega arith,
@@ -190,14 +217,14 @@ loop-again-3 c =
       at-fuse-own .fuse-own .kept .1 .1 .1 .0 ∙ l .inv .4,
       adds (s .args .settings) (s .args .own-keys .now) (s .args .own-distances .now) (s .args .own-weights .now)
           (s .args .own) (s .args .room)
-          (entries (s .args .batch-keys .now) (s .args .batch-distances .now) (s .args .batch-confidences .now))
+          (readings s)
           (s .args .from) (l .i) (l .added) (l .own-distances) (l .own-weights) (l .inv .5)
-          (entry (getD (s .args .batch-keys .now) (l .i) 0) (getD (s .args .batch-distances .now) (l .i) nan)
-          (getD (s .args .batch-confidences .now) (l .i) nan))
-          (entry-at (s .args .batch-keys .now) (s .args .batch-distances .now) (s .args .batch-confidences .now) (l .i)
-          (s .pre .1 .1 .1 .0 .0) (s .pre .1 .1 .1 .0 .1) h) (ltb (l .added) (s .args .room))
+          (this at-loop-test) (stands at-loop-test) (ltb (l .added) (s .args .room))
           (λ b. ltb-true (l .added) (s .args .room) b) _ _
-          (rw (c .enum-told3 .given .1) at (at-fuse-own .fuse-own .ensures)),
+          (rw (c .enum-told3 .given .1) at (at-fuse-own .fuse-own .ensures .0)),
+      omega arith,
+      one-near (s .args .settings) (readings s) (s .args .from) (l .i) (l .far) (l .inv .7) (this at-loop-test) (stands at-loop-test)
+          (at-fuse-own .fuse-own .result) (at-fuse-own .fuse-own .ensures .1) (ap passedFar (c .enum-told3 .given .1)),
     )
 
 enum-told-4 : tie.Need-enum-told-4 Inv-loop μ-loop
@@ -223,20 +250,18 @@ returns c =
     let at-loop-test = at-fuse-own .before .before .before .before .before .before .before in
     let at-loop = at-loop-test .before in
     let s = at-loop .before .before .before .before .before .before .before .before in
-    let l = at-loop .loop in
-    let h : l .i < length (s .args .batch-keys .now) = omega (arith, at-loop-test .loop-test .taken) in
-    stays (s .args .settings) (s .args .own-keys .now) (s .args .own-distances .now) (s .args .own-weights .now)
-    (s .args .own) (s .args .room)
-    (entries (s .args .batch-keys .now) (s .args .batch-distances .now) (s .args .batch-confidences .now))
-    (s .args .from) (l .i) (l .added) (l .own-distances) (l .own-weights) (l .inv .5)
-    (entry (getD (s .args .batch-keys .now) (l .i) 0) (getD (s .args .batch-distances .now) (l .i) nan)
-    (getD (s .args .batch-confidences .now) (l .i) nan))
-    (entry-at (s .args .batch-keys .now) (s .args .batch-distances .now) (s .args .batch-confidences .now) (l .i)
-    (s .pre .1 .1 .1 .0 .0) (s .pre .1 .1 .1 .0 .1) h) (ltb (l .added) (s .args .room))
-    (λ b. ltb-true (l .added) (s .args .room) b) _ _ (omega arith)
-    (rw (by-length entry (s .args .batch-keys .now) (s .args .batch-distances .now) (s .args .batch-confidences .now)
-    (s .pre .1 .1 .1 .0 .0) (s .pre .1 .1 .1 .0 .1)) (omega arith))
-    (rw (c .enum-told4 .given .1) at (at-fuse-own .fuse-own .ensures))
+    let l = at-loop .loop in (
+      stays (s .args .settings) (s .args .own-keys .now) (s .args .own-distances .now) (s .args .own-weights .now)
+          (s .args .own) (s .args .room)
+          (readings s)
+          (s .args .from) (l .i) (l .added) (l .own-distances) (l .own-weights) (l .inv .5)
+          (this at-loop-test) (stands at-loop-test) (ltb (l .added) (s .args .room))
+          (λ b. ltb-true (l .added) (s .args .room) b) _ _ (omega arith)
+          (rw (by-length entry (s .args .batch-keys .now) (s .args .batch-distances .now) (s .args .batch-confidences .now)
+          (s .pre .1 .1 .1 .0 .0) (s .pre .1 .1 .1 .0 .1)) (omega arith))
+          (rw (c .enum-told4 .given .1) at (at-fuse-own .fuse-own .ensures .0)) (l .far),
+      reached-far (s .args .settings) (readings s) (s .args .from) (l .i) (l .far) (l .inv .7),
+    )
 
 enum-known-step : tie.Need-enum-known-step Inv-loop μ-loop
 enum-known-step c = search needs
@@ -261,18 +286,16 @@ returns-2 c =
     let at-loop-test = at-fuse-own .before .before .before .before .before .before .before in
     let at-loop = at-loop-test .before in
     let s = at-loop .before .before .before .before .before .before .before .before in
-    let l = at-loop .loop in
-    let h : l .i < length (s .args .batch-keys .now) = omega (arith, at-loop-test .loop-test .taken) in
-    refuses (s .args .settings) (s .args .own-keys .now) (s .args .own-distances .now) (s .args .own-weights .now)
-    (s .args .own) (s .args .room)
-    (entries (s .args .batch-keys .now) (s .args .batch-distances .now) (s .args .batch-confidences .now))
-    (s .args .from) (l .i) (l .added) (l .own-distances) (l .own-weights) (l .inv .5)
-    (entry (getD (s .args .batch-keys .now) (l .i) 0) (getD (s .args .batch-distances .now) (l .i) nan)
-    (getD (s .args .batch-confidences .now) (l .i) nan))
-    (entry-at (s .args .batch-keys .now) (s .args .batch-distances .now) (s .args .batch-confidences .now) (l .i)
-    (s .pre .1 .1 .1 .0 .0) (s .pre .1 .1 .1 .0 .1) h) (ltb (l .added) (s .args .room))
-    (λ b. ltb-true (l .added) (s .args .room) b) _ _ _
-    (rw (c .before .step .given .1) at (at-fuse-own .fuse-own .ensures))
+    let l = at-loop .loop in (
+      refuses (s .args .settings) (s .args .own-keys .now) (s .args .own-distances .now) (s .args .own-weights .now)
+          (s .args .own) (s .args .room)
+          (readings s)
+          (s .args .from) (l .i) (l .added) (l .own-distances) (l .own-weights) (l .inv .5)
+          (this at-loop-test) (stands at-loop-test) (ltb (l .added) (s .args .room))
+          (λ b. ltb-true (l .added) (s .args .room) b) _ _ _
+          (rw (c .before .step .given .1) at (at-fuse-own .fuse-own .ensures .0)) (l .far),
+      refused-far (s .args .settings) (readings s) (s .args .from) (l .i) (l .far) (l .inv .7) _,
+    )
 
 same-length-5 : tie.Need-same-length-5 Inv-loop μ-loop
 same-length-5 c =
@@ -285,13 +308,15 @@ same-length-6 c =
 returns-3 : tie.Need-returns-3 Inv-loop μ-loop
 returns-3 c =
     let s = c .before .before .before .before .before .before .before .before .before in
-    let l = c .before .loop in
-    ends (s .args .settings) (s .args .own-keys .now) (s .args .own-distances .now) (s .args .own-weights .now)
-    (s .args .own) (s .args .room)
-    (entries (s .args .batch-keys .now) (s .args .batch-distances .now) (s .args .batch-confidences .now))
-    (s .args .from) (l .i) (l .added) (l .own-distances) (l .own-weights) (l .inv .5) (omega arith)
-    (rw (by-length entry (s .args .batch-keys .now) (s .args .batch-distances .now) (s .args .batch-confidences .now)
-    (s .pre .1 .1 .1 .0 .0) (s .pre .1 .1 .1 .0 .1)) (omega arith))
+    let l = c .before .loop in (
+      ends (s .args .settings) (s .args .own-keys .now) (s .args .own-distances .now) (s .args .own-weights .now)
+          (s .args .own) (s .args .room)
+          (readings s)
+          (s .args .from) (l .i) (l .added) (l .own-distances) (l .own-weights) (l .inv .5) (omega arith)
+          (rw (by-length entry (s .args .batch-keys .now) (s .args .batch-distances .now) (s .args .batch-confidences .now)
+          (s .pre .1 .1 .1 .0 .0) (s .pre .1 .1 .1 .0 .1)) (omega arith)) (l .far),
+      reached-far (s .args .settings) (readings s) (s .args .from) (l .i) (l .far) (l .inv .7),
+    )
 
 pub fuse-run-spec : {M : Type 1} → statement M
 fuse-run-spec =
@@ -311,6 +336,7 @@ fuse-run-spec =
     shared-slice-read-fuse-own-4
     fuse-own-requires
     enum-told
+    add-far
     add-i
     loop-less
     loop-again

@@ -24,10 +24,11 @@ same-length-3 c = search needs
 
 returns : tie.Need-returns
 returns c =
-    let at-batch-update = c .before .before .before .before .before .before .before in
+    let at-batch-back = c .before in
+    let at-batch-update = at-batch-back .before .before .before .before .before .before .before in
     batch-back
     (rw (at-batch-update .before .before .before .before .before .settings-of .ensures) at
-    (at-batch-update .batch-update .ensures)) (c .batch-back .ensures)
+    (at-batch-update .batch-update .ensures)) (at-batch-back .batch-back .ensures)
 
 pub akf-batch-update-spec : {M : Type 1} → statement M
 akf-batch-update-spec = tie.close (tie.spec settings-of-requires batch-update-requires batch-back-requires same-length same-length-2 same-length-3 returns)
