@@ -1,5 +1,7 @@
 // What an answer is towards C: the settings that a host's four numbers make, and what is read off each answer, its number and what is handed
 // back. A number handed back is 0 unless the answer is 0, but for what a batch counts and names.
+#![tactic(auto)]
+
 pub mod keys;
 pub mod questions;
 pub mod readings;

@@ -1,4 +1,6 @@
 // A batch of readings, fused in turn (src/layers/tsdf.rs: batch_update): many at a time through own rows, few one by one.
+#![tactic(auto)]
+
 ghost use Rattle.std.specs.Prelude.{◌≡◌, ◌+◌, ◌-◌, ◌<◌, ◌≤◌, length};
 ghost use Rattle.table.specs.Table.{table, table_check};
 ghost use Rattle.batching.specs.Batches.{batch_outcome, batch_end, readings_taken, entries, batch_from, counts, batch};

@@ -1,4 +1,6 @@
 // A batch of readings, each fused in turn: its definition and laws.
+#![tactic(auto)]
+
 ghost use Rattle.std.specs.Prelude.{◌≡◌};
 ghost use Rattle.batching.specs.Batches.{readings_taken, batched_of};
 

@@ -1,4 +1,6 @@
 // Snapping to the lattice, whose points have three even or three odd coordinates (src/layers/bcc_utils.rs).
+#![tactic(auto)]
+
 ghost use Rattle.std.specs.Prelude.{◌≡◌};
 ghost use Rattle.bcc_utils.specs.Snapping.{even, on_lattice, is_end, has_end};
 ghost use Rattle.bcc_utils.specs.Snapping.{even_down, odd_up, nearest_candidate, placed, snapped};

@@ -1,4 +1,6 @@
 // The tests of a mesh's corners: lent lists side by side, vertices in range, triangles that name vertices (src/layers/mesh.rs).
+#![tactic(auto)]
+
 ghost use Rattle.std.specs.Prelude.{◌≡◌, true, ◌<◌};
 ghost use Rattle.corners.specs.Corners.{set_ok, every, vertex, vertices_in, vertex_ok, triangle, triangles_in, triangle_ok};
 ghost use Rattle.corners.specs.Steps.{Lent};

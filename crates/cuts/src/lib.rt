@@ -1,4 +1,6 @@
 // A tetrahedron cut (document 02, No. 14): by its four ascending keys and their sides into no triangle, one or two, by the numbers of their vertices.
+#![tactic(auto)]
+
 ghost use Rattle.std.specs.Prelude.{◌≡◌, true, false};
 ghost use Rattle.tetrahedra.specs.ClosedTriangles.{rising};
 ghost use Rattle.cuts.specs.declared.Cut.TheVariants.{Two};

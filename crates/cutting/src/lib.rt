@@ -1,4 +1,6 @@
 // The triangles of the closed mesh (document 02, No. 14): each tetrahedron is found at its smallest key, from that row's higher neighbours, and cut.
+#![tactic(auto)]
+
 ghost use Rattle.std.specs.Prelude.{◌≡◌, ◌+◌, ◌≤◌, ◌<◌, true, length, get_or, set, take, drop};
 ghost use Rattle.search.specs.Keys.{place_of};
 ghost use Rattle.lists.specs.declared.Listed.TheVariants.{Count};

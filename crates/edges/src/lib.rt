@@ -1,4 +1,6 @@
 // The edges of the surface (src/layers/tsdf.rs, get_zero_crossing_edges).
+#![tactic(auto)]
+
 ghost use Rattle.std.specs.Prelude.{◌≡◌, ◌+◌, ◌*◌, ◌<◌, ◌≤◌, true, length, get_or, set, take};
 ghost use Rattle.lists.specs.Listing.{count_of, held_for};
 ghost use Rattle.lists.specs.Places.{cleared_from};

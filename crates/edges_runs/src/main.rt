@@ -1,5 +1,7 @@
 // Counts the edges of the samples of document 01 that are run: (10, 10, 10) with its 14 neighbours of the other sign,
 // in rooms of 14 and 13, and the empty table.
+#![tactic(auto)]
+
 use lists::Listed;
 use table::{Settings, settings_of};
 

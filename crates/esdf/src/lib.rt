@@ -1,4 +1,6 @@
 // The march: distances carried outwards from the surface (src/layers/esdf.rs). The tests of the call, then the march of racing, and its answer.
+#![tactic(auto)]
+
 ghost use Rattle.std.specs.Prelude.{◌≡◌, length};
 ghost use Rattle.floats.specs.Floats.{zero32};
 ghost use Rattle.lists.specs.Places.{filled};

@@ -1,4 +1,6 @@
 // Questions about a cell of a marched table: its distance, whether it is free, its gradient (src/layers/esdf.rs).
+#![tactic(auto)]
+
 ghost use Rattle.std.specs.Prelude.{◌≡◌, ◌<◌, length};
 ghost use Rattle.std.proofs.Math.Option.{some};
 ghost use Rattle.marching.specs.March.{distance_of};

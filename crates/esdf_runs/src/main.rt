@@ -1,5 +1,7 @@
 // Marches the samples of document 01 that are run: the empty table, and one seed at (10, 10, 10) in enough room, a row too few
 // and a waiting place too few.
+#![tactic(auto)]
+
 use esdf::Marched;
 use table::{Settings, settings_of};
 

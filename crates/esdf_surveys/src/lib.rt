@@ -1,4 +1,6 @@
 // The cells of a marched table within a distance, and its statistics (src/layers/esdf.rs: get_voxels_within_distance, stats).
+#![tactic(auto)]
+
 ghost use Rattle.std.specs.Prelude.{◌≡◌, ◌≤◌, ◌<◌, ◌^◌, length, set};
 ghost use Rattle.lists.specs.Listing.{room_for};
 ghost use Rattle.marching.specs.March.{marched_row};

@@ -1,5 +1,7 @@
 // Replays the Rust's answers of the file stdin about fusing, statistics, cells near the surface and edges, and counts those that come out again, bit
 // for bit.
+#![tactic(auto)]
+
 mod questions;
 mod readings;
 

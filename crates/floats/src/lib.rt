@@ -1,4 +1,6 @@
 // Small functions on f32 and tests of it, each defined for every input, a NaN included.
+#![tactic(auto)]
+
 ghost use Rattle.std.specs.Prelude.{◌≡◌, true};
 ghost use Rattle.std.specs.Float.Ieee.{lt};
 ghost use Rattle.floats.specs.Floats.{size_of, smaller_of, larger_of, clamp_of, sign_of, is_finite, between, within, beyond, positive_to, signed, whole_of};

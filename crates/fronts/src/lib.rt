@@ -2,6 +2,8 @@
 // distance, a waiting one's is +infinity.
 // A lean march has no marks of waiting cells, and so a place for every row that may be stored; who waits it reads off the stored neighbours that have
 // spread. Its steps take longer, and are taken where marks of waiting cells would outgrow the lists.
+#![tactic(auto)]
+
 ghost use Rattle.std.specs.Prelude.{◌≡◌, true, false, List, [], ◌∷◌, ℕ, ◌+◌, ◌≤◌, ◌<◌, length, get_or};
 ghost use Rattle.std.specs.Float.Ieee.{eq};
 ghost use Rattle.floats.specs.Floats.{is_finite};

@@ -1,4 +1,6 @@
 // Fusing one reading into the table (src/layers/tsdf.rs: update_from_depth, update_from_depth_ray).
+#![tactic(auto)]
+
 ghost use Rattle.std.specs.Prelude.{◌≡◌, true, length, take};
 ghost use Rattle.search.specs.Keys.{find, ascending};
 ghost use Rattle.table.specs.Table.{table, lengths_ok, table_check};

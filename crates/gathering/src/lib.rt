@@ -3,6 +3,8 @@
 // wait, and are never settled. A further column takes one call of `load_` for its type of element, a line each in `slide` and
 // `seat_row` and a clause in their contracts and in that of `settle`, by the same laws; one row alone is put into it by `set` or
 // `inserted` (table/proofs/Laying: laid_set, laid_open).
+#![tactic(auto)]
+
 ghost use Rattle.std.specs.Prelude.{◌+◌, ◌≤◌, ◌<◌, ◌≡◌, true, cond, ltb, length, take};
 ghost use Rattle.search.specs.Keys.{ascending, place_of};
 ghost use Rattle.gathering.specs.Gathering.{below, above, seat_of, seats_of, value_at, loaded, held_back, Within, InOrder, Settles, settled_in};

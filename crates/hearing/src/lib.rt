@@ -1,5 +1,7 @@
 // What the marks of a march say: a cell's distance where it is stored, the distance that a cell gets from its stored neighbours, and whether one of
 // them has spread. A stored cell's mark is its distance, a waiting one's is +infinity.
+#![tactic(auto)]
+
 ghost use Rattle.std.specs.Prelude.{◌≡◌, true, not, ◌&&◌, List, ℕ, eqb, length};
 ghost use Rattle.std.proofs.Math.Option.{some};
 ghost use Rattle.ids.specs.Key.{on_lattice};

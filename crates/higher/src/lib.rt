@@ -1,4 +1,6 @@
 // The neighbours of a row with larger keys and weight above 0, ascending, and which of them are inside (document 02, No. 14).
+#![tactic(auto)]
+
 ghost use Rattle.std.specs.Prelude.{◌≡◌, ◌≤◌, ◌<◌, false, map, length, take};
 ghost use Rattle.lists.specs.Padding.{padded};
 ghost use Rattle.handful.specs.Handfuls.{held, numbers_of, Roomy};

@@ -1,4 +1,6 @@
 // Keys of 64 bits: a head of 16 bits over the Morton number of three coordinates (src/ids.rs, Index64).
+#![tactic(auto)]
+
 ghost use Rattle.std.specs.Prelude.{◌≡◌, ◌+◌, ◌^◌, ◌<◌};
 ghost use Rattle.ids.specs.Morton.{spread, gather, morton};
 ghost use Rattle.ids.specs.Key.{head_of, morton_of, tier_of, frame_of, lod_of, x_of, y_of, z_of, on_lattice, made_of, decoded_of};

@@ -1,4 +1,6 @@
 // Replays the Rust's answers of the file stdin about keys, neighbours, the root and snapping, and counts those that come out again, bit for bit.
+#![tactic(auto)]
+
 mod leaves;
 
 use vectors::Score;

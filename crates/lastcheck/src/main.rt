@@ -1,4 +1,6 @@
 // lastcheck: reads lines of settings, readings and meshes, and prints counts and vertices (document 01, `lastcheck`).
+#![tactic(auto)]
+
 ghost use Rattle.std.specs.Prelude.{◌≡◌, true, false, ◌<◌, ◌≤◌, length};
 ghost use Rattle.table.specs.Table.{Table, table};
 ghost use Rattle.lastlines.specs.Lastcheck.{unset};

@@ -1,4 +1,6 @@
 // What one line does: the program `lastcheck` but for its reading and writing (document 01, `lastcheck`).
+#![tactic(auto)]
+
 ghost use Rattle.std.specs.Prelude.{◌≡◌, false, ◌≤◌, length};
 ghost use Rattle.std.proofs.lemmas.List.Edits.{sets};
 ghost use Rattle.table.specs.Table.{Table, table};

@@ -1,4 +1,6 @@
 // The lines that `lastcheck` reads: their shape, from the bytes without the newline (document 01, `lastcheck`).
+#![tactic(auto)]
+
 ghost use Rattle.std.specs.Prelude.{◌≡◌, ◌+◌, ◌≤◌, ◌<◌, get_or};
 ghost use Rattle.lines.specs.Lines.{digit_value, hex_value, hex_from, word_at, digits_from, number_at, settings_line, reading_line, line_of};
 ghost use Rattle.lines.specs.Steps.{end_of};

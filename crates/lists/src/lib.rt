@@ -1,5 +1,7 @@
 // Lists of places that a caller lends: cleared, a value put in, the first one dropped. One function for each
 // element type in use; their proofs share one law over the type.
+#![tactic(auto)]
+
 ghost use Rattle.std.specs.Prelude.{◌≡◌};
 ghost use Rattle.lists.specs.Places.{zero_f, filled, cleared_from, inserted, first_dropped};
 ghost use Rattle.lists.specs.Listing.{room_for, count_of};

@@ -1,5 +1,7 @@
 // Replays the Rust's answers of the file stdin about the march, and counts those that come out again, bit for bit. Lines: M a march, m each of its
 // rows; B a gradient; X the statistics of a marched table.
+#![tactic(auto)]
+
 use esdf::Marched;
 use esdf_questions::Gradient;
 use esdf_surveys::Statistics;

@@ -1,4 +1,6 @@
 // The rules of a marched table, two lent lists whose first `count` places are rows, ascending by key, and its lookup (src/layers/esdf.rs).
+#![tactic(auto)]
+
 ghost use Rattle.std.specs.Prelude.{◌≡◌, ◌≤◌, ◌<◌, length};
 ghost use Rattle.marching.specs.March.{distance_of};
 ghost use Rattle.marched.specs.Marched.{marched_table, marched_rows_of, pair_ok, marched_lengths_ok, marched_row_ok, marched_rows_ok, marched_ok, marched_check, key_check, free_check, list_check};

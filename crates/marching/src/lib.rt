@@ -1,5 +1,7 @@
 // The march: its definition, step by step (specs/), and its theorems (proofs/); here what a step works out of numbers alone. The code over lists is
 // that of fronts.
+#![tactic(auto)]
+
 ghost use Rattle.std.specs.Prelude.{◌≡◌, ◌≤◌, ◌<◌, ◌^◌};
 ghost use Rattle.std.specs.Float.Ieee.{neg, le};
 ghost use Rattle.floats.specs.Floats.{clamp_of};

@@ -1,5 +1,7 @@
 // Marks: a lent list of keys as a table with open addressing, its values in a list beside it. Key 0 stands there as 1, which is no key of the lattice;
 // a place that holds 0 is empty. OnWay a key stand only larger ones on its path, so a search ends at the first that is not larger.
+#![tactic(auto)]
+
 ghost use Rattle.std.specs.Prelude.{◌≡◌, ◌≤◌, ◌<◌, ◌-◌, length};
 ghost use Rattle.marks.specs.Marks.{label, home, seek, halt, spot_of, following, comes_first, Enters, Leaves};
 

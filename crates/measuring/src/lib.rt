@@ -1,4 +1,6 @@
 // What a reading says of a cell, direct or a ray, and whether it is taken (src/layers/tsdf.rs: update_from_depth, update_from_depth_ray).
+#![tactic(auto)]
+
 ghost use Rattle.std.specs.Prelude.{◌≡◌, true, length};
 ghost use Rattle.floats.specs.Floats.{thousand, positive_to};
 ghost use Rattle.table.specs.Table.{settings_ok};

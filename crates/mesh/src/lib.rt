@@ -1,4 +1,6 @@
 // The mesh of a table (src/layers/mesh.rs, extract_mesh_from_tsdf): edges, vertices with normals, groups and triangles.
+#![tactic(auto)]
+
 ghost use Rattle.std.specs.Prelude.{◌≡◌, length};
 ghost use Rattle.lists.specs.Places.{zero_f, cleared_from};
 ghost use Rattle.table.specs.Table.{table};

@@ -1,5 +1,7 @@
 // Meshes the samples of document 01 that are run: (10, 10, 10) with its 14 neighbours of the other sign, in rooms that hold it and in rooms one place
 // too small for the triangles and for the groups, and the empty table.
+#![tactic(auto)]
+
 use mesh::Meshed;
 use table::{Settings, settings_of};
 

@@ -1,5 +1,7 @@
 // Replays the Rust's answers of the file stdin about meshes, and counts those that come out again, bit for bit. Lines: H a mesh, V each vertex with
 // its normal, K each triangle; O the area; W the box.
+#![tactic(auto)]
+
 use mesh::Meshed;
 use surfaces::{Area, Bounds};
 use vectors::{Field, Line, Score, float, same};

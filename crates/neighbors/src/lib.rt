@@ -1,4 +1,6 @@
 // The neighbours of a key (src/neighbors.rs, neighbors_index64; src/lattice.rs, BCC_NEIGHBORS_14).
+#![tactic(auto)]
+
 ghost use Rattle.std.specs.Prelude.{◌≡◌, ◌<◌, ◌≤◌, ◌^◌, map, length, take};
 ghost use Rattle.ids.specs.Morton.{gather};
 ghost use Rattle.lists.specs.Padding.{padded};

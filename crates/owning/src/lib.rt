@@ -1,4 +1,6 @@
 // A part of a batch: up to 4,096 readings are fused into own rows, which are settled into the table column by column.
+#![tactic(auto)]
+
 ghost use Rattle.std.specs.Prelude.{◌≡◌, true, ◌+◌, ◌<◌, ◌≤◌, length, take};
 ghost use Rattle.search.specs.Keys.{ascending};
 ghost use Rattle.table.specs.Table.{table, rows_of, lengths_ok, settings_ok, table_check, relaid};

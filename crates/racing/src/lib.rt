@@ -1,5 +1,7 @@
 // The whole march over lent lists: the seeds, the takings until no cell waits, then the rows by key. It begins with marks of waiting cells, and goes on
 // lean from where on these would outgrow the lists.
+#![tactic(auto)]
+
 ghost use Rattle.std.specs.Prelude.{◌≡◌, true, false, suc, ◌≤◌, ◌<◌, length, get_or};
 ghost use Rattle.floats.specs.Floats.{zero32, is_finite};
 ghost use Rattle.ids.specs.Key.{on_lattice};

@@ -1,4 +1,6 @@
 // Why a call refuses: document 01, "Refusal numbers", and document 02's additions.
+#![tactic(auto)]
+
 ghost use Rattle.std.specs.Prelude.{◌≡◌};
 ghost use Rattle.refusals.specs.Refusals.{number_of};
 

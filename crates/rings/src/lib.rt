@@ -1,4 +1,6 @@
 // Whether a tetrahedron of stored cells with weight above 0 lies around a pair of cells (document 02, No. 14).
+#![tactic(auto)]
+
 ghost use Rattle.std.specs.Prelude.{◌≡◌, ◌≤◌, length, take};
 ghost use Rattle.rings.specs.Sides.{opposed};
 ghost use Rattle.rings.specs.Rings.{any, weighted_by, beside_both, completed, joint_by};

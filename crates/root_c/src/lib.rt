@@ -1,4 +1,6 @@
 // The root for C to call, for the comparison and the benchmark in bench/root.
+#![tactic(auto)]
+
 ghost use Rattle.std.specs.Prelude.{◌≡◌};
 ghost use Rattle.root.specs.Root.{root_answer};
 ghost use Rattle.root_c.specs.Answers.{root_or};

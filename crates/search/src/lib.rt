@@ -1,4 +1,6 @@
 // Ascending keys: whether they ascend, and where one stands, looked up by halves or from a place upwards.
+#![tactic(auto)]
+
 ghost use Rattle.std.specs.Prelude.{◌≡◌, ◌≤◌, min, length, take};
 ghost use Rattle.search.specs.Keys.{ascending, halving, halved, find_by};
 ghost use Rattle.search.specs.Nearby.{nearer as nearer_end, end_above, find_above, behind as behind_start, start_near, place_near, find_near};

@@ -1,4 +1,6 @@
 // A vertex between two cells, and the normal at a cell, as values (src/layers/mesh.rs).
+#![tactic(auto)]
+
 ghost use Rattle.std.specs.Prelude.{◌≡◌, ◌<◌};
 ghost use Rattle.bcc_utils.specs.Metres.{metres_of};
 ghost use Rattle.slopes.specs.Stored.{distance_by, or_zero};

@@ -1,4 +1,6 @@
 // Binary STL read.
+#![tactic(auto)]
+
 mod reading;
 
 ghost use Rattle.std.specs.Prelude.{◌≡◌, length};

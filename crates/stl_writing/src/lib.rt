@@ -1,4 +1,6 @@
 // A mesh written as binary STL.
+#![tactic(auto)]
+
 mod writing;
 
 ghost use Rattle.std.specs.Prelude.{◌≡◌, length};

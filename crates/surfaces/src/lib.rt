@@ -1,4 +1,6 @@
 // Area, box and statistics of a mesh (src/layers/mesh.rs).
+#![tactic(auto)]
+
 ghost use Rattle.std.specs.Prelude.{◌≡◌, true, ◌<◌, length, get_or};
 ghost use Rattle.std.specs.Float.{nan};
 ghost use Rattle.floats.specs.Floats.{zero32};

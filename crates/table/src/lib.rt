@@ -1,4 +1,6 @@
 // The table: three lent lists whose first `count` places are rows, ascending by key (src/layers/tsdf.rs, the map).
+#![tactic(auto)]
+
 ghost use Rattle.std.specs.Prelude.{◌≡◌, ◌≤◌, length};
 ghost use Rattle.table.specs.Table.{settings_of, defaults, table, rows_of, farthest_ok, settings_ok, lengths_ok, row_ok, rows_ok, need, check_with, table_check, then_test};
 

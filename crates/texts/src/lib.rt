@@ -1,4 +1,6 @@
 // The lines that `lastcheck` prints, written into a lent list of bytes; what has no place is left out (document 01, `lastcheck`).
+#![tactic(auto)]
+
 ghost use Rattle.std.specs.Prelude.{◌≡◌, ◌+◌, ◌≤◌, ◌<◌, ◌^◌, [], ◌∷◌, length};
 ghost use Rattle.std.proofs.lemmas.List.Edits.{sets};
 ghost use Rattle.std.specs.Float.Ieee.{to_bits};

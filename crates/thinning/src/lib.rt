@@ -1,4 +1,6 @@
 // A march goes on lean where marks of waiting cells would outgrow the lists: theirs are taken out, and those of stored cells stay.
+#![tactic(auto)]
+
 ghost use Rattle.std.specs.Prelude.{◌≡◌, List, ℕ, ◌+◌, ◌<◌, ◌≤◌, length};
 ghost use Rattle.marching.specs.March.{MarchedRow};
 ghost use Rattle.hearing.specs.Hearing.{Marked};

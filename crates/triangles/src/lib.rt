@@ -1,4 +1,6 @@
 // The triangles of the surface (src/layers/mesh.rs, build_triangles_naive): every three edges that meet in a cell.
+#![tactic(auto)]
+
 ghost use Rattle.std.specs.Prelude.{◌≡◌, cond, ◌≤◌, length, take};
 ghost use Rattle.std.proofs.lemmas.List.Edits.{sets};
 ghost use Rattle.lists.specs.Threes.{threes, threes_of, column0, column1, column2};

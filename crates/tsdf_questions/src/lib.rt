@@ -1,4 +1,6 @@
 // Questions about a cell of the table (src/layers/tsdf.rs: get_distance, get_weight, is_surface_voxel).
+#![tactic(auto)]
+
 ghost use Rattle.std.specs.Prelude.{◌≡◌, ◌<◌};
 ghost use Rattle.floats.specs.Floats.{is_finite};
 ghost use Rattle.table.specs.Table.{table};

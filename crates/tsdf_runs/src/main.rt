@@ -1,5 +1,7 @@
 // Runs of fusing: document 01's sample of a weight so small that the mean outgrows the range, a batch that stops at its second reading, and a ray;
 // and what is counted, of few readings and of many.
+#![tactic(auto)]
+
 use batching::{Batched, Counts};
 use floats::Metres;
 use fusing::Fused;

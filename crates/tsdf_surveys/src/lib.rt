@@ -1,4 +1,6 @@
 // The cells of the table near its surface, and its statistics (src/layers/tsdf.rs: get_surface_voxels, stats).
+#![tactic(auto)]
+
 ghost use Rattle.std.specs.Prelude.{◌≡◌, cond, ◌+◌, ◌≤◌, ◌<◌, length, set};
 ghost use Rattle.std.proofs.lemmas.List.Edits.{sets};
 ghost use Rattle.lists.specs.Listing.{count_of, held_for};

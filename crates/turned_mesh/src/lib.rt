@@ -1,4 +1,6 @@
 // The closed mesh of a table with its triangles turned outwards, in one call.
+#![tactic(auto)]
+
 ghost use Rattle.std.specs.Prelude.{◌≡◌, length};
 ghost use Rattle.lists.specs.Threes.{column1, column2};
 ghost use Rattle.table.specs.Table.{table, rows_of};

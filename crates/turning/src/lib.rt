@@ -1,4 +1,6 @@
 // The triangles of the closed mesh turned outwards: each that looks inwards has its last two vertices swapped.
+#![tactic(auto)]
+
 ghost use Rattle.std.specs.Prelude.{◌≡◌, cond, ◌++◌, set, drop};
 ghost use Rattle.lists.specs.Threes.{three, column1, column2};
 ghost use Rattle.table.specs.Table.{rows_of};

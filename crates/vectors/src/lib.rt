@@ -1,5 +1,7 @@
 // Stored answers of the Rust, as lines of text: a letter, then words in hexadecimal, a space before each (compare/VECTORS.md).
 // What the programs that replay them share: a line out of the bytes, a field out of lines, and the score.
+#![tactic(auto)]
+
 ghost use Rattle.std.specs.Prelude.{◌≡◌, ◌<◌, ◌≤◌, false, length, pos, neg_ℤ};
 ghost use Rattle.floats.specs.Floats.{f32};
 ghost use Rattle.vectors.specs.Vectors.{digit_of, blank_line, with_word, with_digit, longer_line, taken_from};

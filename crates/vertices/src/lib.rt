@@ -1,4 +1,6 @@
 // A vertex for each edge of the surface, and its normal (src/layers/mesh.rs).
+#![tactic(auto)]
+
 ghost use Rattle.std.specs.Prelude.{◌≡◌, ◌<◌, min, set, take};
 ghost use Rattle.std.proofs.lemmas.List.Edits.{sets};
 ghost use Rattle.slopes.specs.Stored.{distance_by};

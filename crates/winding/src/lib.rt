@@ -1,4 +1,6 @@
 // One winding of the closed mesh: its definition and theorem, and whether a cell lies in front of three points that lie halfway between cells.
+#![tactic(auto)]
+
 ghost use Rattle.std.specs.Prelude.{◌≡◌, ◌*◌, ◌≤◌};
 ghost use Rattle.winding.specs.Spots.{halfway, triple, plus_terms, in_front};
 ghost use Rattle.winding.specs.Steps.{Small};

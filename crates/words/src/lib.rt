@@ -1,4 +1,6 @@
 // Words of four bytes in a list of bytes, the least byte first (document 02, No. 1).
+#![tactic(auto)]
+
 ghost use Rattle.std.specs.Prelude.{◌≡◌, ◌+◌, ◌≤◌, ◌<◌, length, get_or};
 ghost use Rattle.std.proofs.lemmas.List.Edits.{sets};
 ghost use Rattle.floats.specs.Floats.{f32};
