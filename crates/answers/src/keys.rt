@@ -37,7 +37,7 @@ pub fn list_back(listed: Listed) -> CountBack
 }
 
 // The number of an answer, and a key.
-#[derive(Drop)]
+#[derive(Clone, Copy)]
 pub struct KeyBack {
     pub number: u32,
     pub key: u64,
@@ -57,7 +57,7 @@ pub fn key_back(made: Made) -> KeyBack
 }
 
 // The number of an answer, and coordinates.
-#[derive(Drop)]
+#[derive(Clone, Copy)]
 pub struct PlaceBack {
     pub number: u32,
     pub x: u16,

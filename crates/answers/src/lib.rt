@@ -21,25 +21,25 @@ pub const CHANGED: u32 = 103;
 pub const NOTHING: f32 = 0.0;
 
 // What calls hand back: the answer's number, and a length, yes or no as 1 or 0, a count, or two.
-#[derive(Drop)]
+#[derive(Clone, Copy)]
 pub struct LengthBack {
     pub number: u32,
     pub value: f32,
 }
 
-#[derive(Drop)]
+#[derive(Clone, Copy)]
 pub struct YesBack {
     pub number: u32,
     pub yes: u32,
 }
 
-#[derive(Drop)]
+#[derive(Clone, Copy)]
 pub struct CountBack {
     pub number: u32,
     pub count: usize,
 }
 
-#[derive(Drop)]
+#[derive(Clone, Copy)]
 pub struct CountsBack {
     pub number: u32,
     pub first: usize,

@@ -8,7 +8,7 @@ use batching::{Batched, Counts};
 use fusing::Fused;
 
 // What a batch hands back: the answer's number, the counts of its readings, and the one that a refusal names.
-#[derive(Drop)]
+#[derive(Clone, Copy)]
 pub struct ReadingsBack {
     pub number: u32,
     pub counts: Counts,

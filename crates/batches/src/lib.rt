@@ -15,7 +15,7 @@ use owning::{Run, batch_run};
 use table::{Checked, Settings, check_with, lengths_ok};
 
 // How the readings of a batch ended, and how many of those that were taken were far.
-#[derive(Drop)]
+#[derive(Clone, Copy)]
 struct Went {
     ending: Ending,
     far: usize,

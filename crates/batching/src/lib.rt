@@ -7,7 +7,7 @@ ghost use Rattle.batching.specs.Batches.{readings_taken, batched_of};
 use refusals::Refusal;
 
 // How many readings of a batch added a row, changed one, and were far.
-#[derive(Drop)]
+#[derive(Clone, Copy)]
 pub struct Counts {
     pub added: usize,
     pub changed: usize,
@@ -16,14 +16,14 @@ pub struct Counts {
 
 // What a batch answers: the counts of its readings; a refused one names the reading, counted from 0, and has the counts
 // of those before it.
-#[derive(Drop)]
+#[derive(Clone, Copy)]
 pub enum Batched {
     Done(Counts),
     Refused(Refusal, usize, Counts),
 }
 
 // How the readings of a batch end: all are taken, or one, counted from 0, is refused.
-#[derive(Drop)]
+#[derive(Clone, Copy)]
 pub enum Ending {
     Taken,
     Refused(Refusal, usize),

@@ -12,11 +12,11 @@ use ids::Cells;
 use refusals::Refusal;
 
 // A whole number of cells along an axis, either way from the origin.
-#[derive(Drop)]
+#[derive(Clone, Copy)]
 pub struct WideCells(pub i32);
 
 // Where a point goes.
-#[derive(Drop)]
+#[derive(Clone, Copy)]
 pub enum Snapped {
     At(WideCells, WideCells, WideCells),
     Refused(Refusal),

@@ -12,7 +12,7 @@ use lists::LONGEST_LIST;
 use search::Found;
 
 // Four keys, ascending.
-#[derive(Drop)]
+#[derive(Clone, Copy)]
 pub struct Corners {
     pub a: u64,
     pub b: u64,
@@ -21,7 +21,7 @@ pub struct Corners {
 }
 
 // Which of four corners are inside.
-#[derive(Drop)]
+#[derive(Clone, Copy)]
 pub struct Sides {
     pub a: bool,
     pub b: bool,
@@ -30,7 +30,7 @@ pub struct Sides {
 }
 
 // How a tetrahedron is cut: one corner against three others, or two inside against two outside.
-#[derive(Drop)]
+#[derive(Clone, Copy)]
 pub enum Cut {
     Nothing,
     One(u64, u64, u64, u64),
@@ -38,7 +38,7 @@ pub enum Cut {
 }
 
 // Three vertices.
-#[derive(Drop)]
+#[derive(Clone, Copy)]
 pub struct Triangle {
     pub a: u32,
     pub b: u32,
@@ -46,7 +46,7 @@ pub struct Triangle {
 }
 
 // The surface within a tetrahedron.
-#[derive(Drop)]
+#[derive(Clone, Copy)]
 pub enum Patch {
     Empty,
     Single(Triangle),

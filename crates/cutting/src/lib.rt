@@ -24,7 +24,7 @@ use refusals::Refusal;
 use table::Checked;
 
 // What is answered to the closed mesh's edges, and to its triangles.
-#[derive(Drop)]
+#[derive(Clone, Copy)]
 pub struct ClosedListed {
     pub edges: Listed,
     pub triangles: Listed,

@@ -20,7 +20,7 @@ use table::{Checked, Settings};
 
 // Which surface is asked for: document 01's, whose edges are the zero crossings; or the one that closes (document 02, No. 14), whose edges are the
 // crossed edges of tetrahedra.
-#[derive(Drop)]
+#[derive(Clone, Copy)]
 pub enum Surface {
     Open,
     Closed,

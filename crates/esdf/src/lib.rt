@@ -18,7 +18,7 @@ use refusals::Refusal;
 use table::{Checked, Settings, check_with, then_test};
 
 // A march's answer: how many rows and how many takings.
-#[derive(Drop)]
+#[derive(Clone, Copy)]
 pub enum Marched {
     Done(usize, usize),
     Refused(Refusal),

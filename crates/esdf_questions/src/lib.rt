@@ -17,7 +17,7 @@ use root::Rooted;
 use table::Checked;
 
 // A cell's distance.
-#[derive(Drop)]
+#[derive(Clone, Copy)]
 pub enum Distance {
     Of(f32),
     Absent,
@@ -25,14 +25,14 @@ pub enum Distance {
 }
 
 // Whether a cell is free.
-#[derive(Drop)]
+#[derive(Clone, Copy)]
 pub enum Free {
     Answer(bool),
     Refused(Refusal),
 }
 
 // The gradient at a cell, as long as 1.
-#[derive(Drop)]
+#[derive(Clone, Copy)]
 pub enum Gradient {
     Of(f32, f32, f32),
     Absent,
@@ -40,7 +40,7 @@ pub enum Gradient {
 }
 
 // Sums along the axes, and over how many neighbours.
-#[derive(Drop)]
+#[derive(Clone, Copy)]
 struct Slopes {
     x: f32,
     y: f32,

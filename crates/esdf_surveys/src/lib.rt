@@ -17,7 +17,7 @@ use refusals::Refusal;
 use table::Checked;
 
 // How many rows there are, below zero and not, and the ends of their distances.
-#[derive(Drop)]
+#[derive(Clone, Copy)]
 pub struct EsdfStats {
     pub voxel_count: usize,
     pub obstacle_voxel_count: usize,
@@ -26,14 +26,14 @@ pub struct EsdfStats {
     pub max_distance: f32,
 }
 
-#[derive(Drop)]
+#[derive(Clone, Copy)]
 pub enum Statistics {
     Of(EsdfStats),
     Refused(Refusal),
 }
 
 // What is counted over rows.
-#[derive(Drop)]
+#[derive(Clone, Copy)]
 struct Tally {
     obstacles: usize,
     free: usize,

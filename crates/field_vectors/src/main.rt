@@ -9,7 +9,7 @@ use crate::questions::Given;
 use vectors::{Field, Line, Score};
 
 // How far the replay has come: the field and the lists that the lines so far made, and the score.
-#[derive(Drop)]
+#[derive(Clone, Copy)]
 struct Replay {
     field: Field,
     given: Given,

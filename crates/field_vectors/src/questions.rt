@@ -5,7 +5,7 @@ use tsdf_surveys::Statistics;
 use vectors::{Field, Line, float, same};
 
 // The lists that a line asked for, the next place of them to compare, and whether the last line's answer came out again.
-#[derive(Drop)]
+#[derive(Clone, Copy)]
 pub struct Given {
     pub first: [u64; 64],
     pub second: [u64; 64],

@@ -5,7 +5,7 @@ use search::Found;
 use vectors::{Field, Line, float, same};
 
 // A field, and whether the line's answer and row came out again.
-#[derive(Drop)]
+#[derive(Clone, Copy)]
 pub struct Fed {
     pub field: Field,
     pub agrees: bool,

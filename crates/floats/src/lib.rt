@@ -9,11 +9,11 @@ ghost use Rattle.floats.specs.Steps.{too_large_lem, size_up};
 use refusals::Refusal;
 
 // A length in metres.
-#[derive(Drop)]
+#[derive(Clone, Copy)]
 pub struct Metres(pub f32);
 
 // What rounding to a whole number finds: it, or that no i32 is it (OutOfRange).
-#[derive(Drop)]
+#[derive(Clone, Copy)]
 pub enum Nearest {
     Whole(i32),
     Refused(Refusal),

@@ -25,21 +25,21 @@ use marching::{Course, onward, spreads};
 use marks::{Spot, enter, find};
 
 // Why a march stopped: no place for a row, or none for a waiting cell.
-#[derive(Drop)]
+#[derive(Clone, Copy)]
 pub enum Stop {
     NoRow,
     NoCell,
 }
 
 // How many there are now.
-#[derive(Drop)]
+#[derive(Clone, Copy)]
 enum Placed {
     Now(usize),
     Not(Stop),
 }
 
 // How many rows and waiting cells there are now.
-#[derive(Drop)]
+#[derive(Clone, Copy)]
 pub enum Step {
     On(usize, usize),
     Not(Stop),

@@ -14,7 +14,7 @@ use search::{Found, find_row, place_of};
 use table::{Checked, Settings, check_table};
 
 // What a fuse answers: a row is new, a stored one is changed, the reading is far, or why it is refused.
-#[derive(Drop)]
+#[derive(Clone, Copy)]
 pub enum Fused {
     New,
     Changed,
@@ -23,7 +23,7 @@ pub enum Fused {
 }
 
 // What a reading does to a table: nothing where it is far; a row is added or changed, at its place; or why it is refused.
-#[derive(Drop)]
+#[derive(Clone, Copy)]
 pub enum Step {
     Far,
     Added(usize),
@@ -32,13 +32,13 @@ pub enum Step {
 }
 
 // How readings are averaged: the most that a row weighs.
-#[derive(Drop)]
+#[derive(Clone, Copy)]
 pub struct Averaging {
     pub most: f32,
 }
 
 // A row's distance and weight.
-#[derive(Drop)]
+#[derive(Clone, Copy)]
 pub struct Voxel {
     pub distance: f32,
     pub weight: f32,

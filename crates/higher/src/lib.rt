@@ -12,7 +12,7 @@ use handful::Handful;
 use search::Found;
 
 // Keys in a room of 14, which of them are inside, and how many there are.
-#[derive(Drop)]
+#[derive(Clone, Copy)]
 pub struct Higher {
     pub keys: [u64; 14],
     pub inside: [bool; 14],

@@ -8,11 +8,11 @@ ghost use Rattle.ids.specs.Key.{head_of, morton_of, tier_of, frame_of, lod_of, x
 use refusals::Refusal;
 
 // A key's coordinate: a whole number of cells along an axis.
-#[derive(Drop)]
+#[derive(Clone, Copy)]
 pub struct Cells(pub u16);
 
 // The three coordinates of a Morton number.
-#[derive(Drop)]
+#[derive(Clone, Copy)]
 pub struct Coords {
     pub x: u16,
     pub y: u16,
@@ -20,14 +20,14 @@ pub struct Coords {
 }
 
 // What the constructor answers.
-#[derive(Drop)]
+#[derive(Clone, Copy)]
 pub enum Made {
     Key(u64),
     Refused(Refusal),
 }
 
 // What decoding answers.
-#[derive(Drop)]
+#[derive(Clone, Copy)]
 pub enum Decoded {
     At(Cells, Cells, Cells),
     Refused(Refusal),

@@ -12,7 +12,7 @@ use table::{Settings, settings_of};
 
 // Where a run stands: how many bytes of the present line are kept, its number, whether P came, its settings, whether
 // the run goes on, and how many bytes are to be printed.
-#[derive(Drop)]
+#[derive(Clone, Copy)]
 struct Run {
     kept: usize,
     number: u64,

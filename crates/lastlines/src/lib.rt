@@ -18,7 +18,7 @@ use refusals::Refusal;
 use table::{Settings, settings_of};
 
 // Where the run stands after a line: whether P came, its settings, how many bytes the line prints, and whether the run goes on.
-#[derive(Drop)]
+#[derive(Clone, Copy)]
 pub struct Stepped {
     pub started: bool,
     pub settings: Settings,
@@ -27,21 +27,21 @@ pub struct Stepped {
 }
 
 // What 32 bits are as a float.
-#[derive(Drop)]
+#[derive(Clone, Copy)]
 enum Given {
     Number(f32),
     NotNumber,
 }
 
 // What D reads.
-#[derive(Drop)]
+#[derive(Clone, Copy)]
 enum Taken {
     Direct(u64, f32, f32),
     Refused(Refusal),
 }
 
 // What P answers.
-#[derive(Drop)]
+#[derive(Clone, Copy)]
 enum Setup {
     Ready(Settings),
     Refused(Refusal),

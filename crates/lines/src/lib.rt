@@ -6,7 +6,7 @@ ghost use Rattle.lines.specs.Lines.{digit_value, hex_value, hex_from, word_at, d
 ghost use Rattle.lines.specs.Steps.{end_of};
 
 // What a line is: P with three words of 32 bits, D with three coordinates and two words, M, or none of these.
-#[derive(Drop)]
+#[derive(Clone, Copy)]
 pub enum Line {
     Settings(u32, u32, u32),
     Reading(u16, u16, u16, u32, u32),
@@ -15,21 +15,21 @@ pub enum Line {
 }
 
 // Eight lowercase hex digits after a space.
-#[derive(Drop)]
+#[derive(Clone, Copy)]
 enum Word {
     Bits(u32),
     Missing,
 }
 
 // A coordinate after a space, and the place after it.
-#[derive(Drop)]
+#[derive(Clone, Copy)]
 enum Number {
     Read(u16, usize),
     Missing,
 }
 
 // The value of decimal digits, and the place after them.
-#[derive(Drop)]
+#[derive(Clone, Copy)]
 struct Digits {
     value: u32,
     next: usize,

@@ -12,7 +12,7 @@ use refusals::Refusal;
 pub const LONGEST_LIST: usize = 1_048_576;
 
 // What is answered to a list: how many it holds, or why it is refused.
-#[derive(Drop)]
+#[derive(Clone, Copy)]
 pub enum Listed {
     Count(usize),
     Refused(Refusal),

@@ -8,7 +8,7 @@ use esdf_surveys::Statistics;
 use vectors::{Field, Line, Score, float, same};
 
 // The rows that a march gave, the next of them to compare, and whether the last line's answer came out again.
-#[derive(Drop)]
+#[derive(Clone, Copy)]
 struct Given {
     keys: [u64; 64],
     distances: [f32; 64],
@@ -17,7 +17,7 @@ struct Given {
 }
 
 // How far the replay has come: the field and the march that the lines so far made, and the score.
-#[derive(Drop)]
+#[derive(Clone, Copy)]
 struct Replay {
     field: Field,
     given: Given,

@@ -14,7 +14,7 @@ use search::{Found, find_row, keys_ascend};
 use table::Checked;
 
 // What is stored of a cell.
-#[derive(Drop)]
+#[derive(Clone, Copy)]
 pub enum Stored {
     At(f32),
     Absent,

@@ -13,7 +13,7 @@ ghost use Rattle.marching.specs.Crowding.{surely_full};
 use floats::{clamp, sign, size};
 
 // What a march goes by: the voxel size and the maximum distance.
-#[derive(Drop)]
+#[derive(Clone, Copy)]
 pub struct Course {
     pub size: f32,
     pub most: f32,

@@ -9,7 +9,7 @@ ghost use Rattle.marks.specs.Marks.{label, home, seek, halt, spot_of, following,
 const NARROW: u64 = 0x1_0000_0000;
 
 // Where a key stands; or that it is absent, and where its search ended.
-#[derive(Drop)]
+#[derive(Clone, Copy)]
 pub enum Spot {
     At(usize),
     Absent(usize),

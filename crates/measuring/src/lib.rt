@@ -14,7 +14,7 @@ use root::Rooted;
 use table::Settings;
 
 // A reading of one cell: its signed distance, or how deep a sensor saw along a ray.
-#[derive(Drop)]
+#[derive(Clone, Copy)]
 pub enum Reading {
     Direct {
         distance: Metres,
@@ -30,14 +30,14 @@ pub enum Reading {
 }
 
 // What a reading says of a cell.
-#[derive(Drop)]
+#[derive(Clone, Copy)]
 pub struct Measured {
     pub distance: f32,
     pub confidence: f32,
 }
 
 // What the tests of a reading find.
-#[derive(Drop)]
+#[derive(Clone, Copy)]
 pub enum Admitted {
     Near(Measured),
     Far,

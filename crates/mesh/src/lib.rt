@@ -16,14 +16,14 @@ use refusals::Refusal;
 use table::{Checked, Settings};
 
 // What is answered to a mesh: how many edges, which are as many vertices, and how many triangles; or why it is refused.
-#[derive(Drop)]
+#[derive(Clone, Copy)]
 pub enum Meshed {
     Done(usize, usize),
     Refused(Refusal),
 }
 
 // The lengths of the twelve lists.
-#[derive(Drop)]
+#[derive(Clone, Copy)]
 pub struct Rooms {
     pub first: usize,
     pub second: usize,
@@ -40,7 +40,7 @@ pub struct Rooms {
 }
 
 // What is answered to a surface's edges, and to its groups and triangles.
-#[derive(Drop)]
+#[derive(Clone, Copy)]
 struct Drawn {
     edges: Listed,
     built: Listed,

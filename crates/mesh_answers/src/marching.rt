@@ -69,7 +69,7 @@ pub fn free_back(free: Free) -> YesBack
 }
 
 // The number of an answer, and a direction.
-#[derive(Drop)]
+#[derive(Clone, Copy)]
 pub struct SlopeBack {
     pub number: u32,
     pub x: f32,

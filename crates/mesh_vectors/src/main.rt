@@ -7,7 +7,7 @@ use surfaces::{Area, Bounds};
 use vectors::{Field, Line, Score, float, same};
 
 // Three lists of numbers, and how many of their places are filled.
-#[derive(Drop)]
+#[derive(Clone, Copy)]
 struct Triples {
     x: [f32; 16],
     y: [f32; 16],
@@ -16,7 +16,7 @@ struct Triples {
 }
 
 // A mesh's triangles.
-#[derive(Drop)]
+#[derive(Clone, Copy)]
 struct Corners {
     first: [u32; 64],
     second: [u32; 64],
@@ -25,7 +25,7 @@ struct Corners {
 }
 
 // A mesh, its next vertex and triangle to compare, and whether the last line's answer came out again.
-#[derive(Drop)]
+#[derive(Clone, Copy)]
 struct Given {
     places: Triples,
     normals: Triples,
@@ -36,7 +36,7 @@ struct Given {
 }
 
 // How far the replay has come: the field and the mesh that the lines so far made, and the score.
-#[derive(Drop)]
+#[derive(Clone, Copy)]
 struct Replay {
     field: Field,
     given: Given,

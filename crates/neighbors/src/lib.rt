@@ -19,7 +19,7 @@ const AXIS: u64 = 0x2492_4924_9249;
 const WIDER: u64 = 0x1_2492_4924_9249;
 
 // Where the five steps lead along an axis: 17 bits, three apart, the last of them set outside.
-#[derive(Drop)]
+#[derive(Clone, Copy)]
 struct Along {
     down2: u64,
     down1: u64,
@@ -29,14 +29,14 @@ struct Along {
 }
 
 // The cell that an offset leads to.
-#[derive(Drop)]
+#[derive(Clone, Copy)]
 enum Cell {
     At(u64),
     Outside,
 }
 
 // The neighbours by value: a room of 14, and how many there are.
-#[derive(Drop)]
+#[derive(Clone, Copy)]
 pub struct Near {
     pub keys: [u64; 14],
     pub count: usize,

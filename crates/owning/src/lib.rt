@@ -20,7 +20,7 @@ use table::{Checked, Settings};
 
 // What a reading does to the own rows of a batch: nothing where it is far; a row is added or changed; it is left to
 // others where its row has no place in the table; or why it is refused.
-#[derive(Drop)]
+#[derive(Clone, Copy)]
 enum Owned {
     Far,
     Added,
@@ -30,14 +30,14 @@ enum Owned {
 }
 
 // How far a part of a batch went, or where it was refused; and how many of its readings were far.
-#[derive(Drop)]
+#[derive(Clone, Copy)]
 pub enum Run {
     Reached(usize, usize),
     Refused(Refusal, usize, usize),
 }
 
 // How many rows a part of a batch adds, and how far it went.
-#[derive(Drop)]
+#[derive(Clone, Copy)]
 struct Ran {
     added: usize,
     run: Run,

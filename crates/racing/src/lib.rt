@@ -23,14 +23,14 @@ use marching::{Course, is_seed, surely_full};
 use thinning::lighten;
 
 // A march's answer: how many rows and how many takings.
-#[derive(Drop)]
+#[derive(Clone, Copy)]
 pub enum Raced {
     Done(usize, usize),
     Not(Stop),
 }
 
 // How many rows and waiting cells there are now, and whether the march is lean.
-#[derive(Drop)]
+#[derive(Clone, Copy)]
 enum Went {
     On(usize, usize, bool),
     Not(Stop),

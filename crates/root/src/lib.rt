@@ -12,21 +12,21 @@ ghost use Rattle.root.specs.Steps.{units_of_one, units_of, Near, LeadOf, ScaledO
 use refusals::Refusal;
 
 // The root, or that the argument is not taken (BadReading).
-#[derive(Drop)]
+#[derive(Clone, Copy)]
 pub enum Rooted {
     Root(f32),
     Refused(Refusal),
 }
 
 // A number of units as n * 2 ^ j units, n having 24 digits.
-#[derive(Drop)]
+#[derive(Clone, Copy)]
 struct Lead {
     n: u32,
     j: u32,
 }
 
 // A number of units times 2 ^ 149 as m * 4 ^ k, m having 47 or 48 digits, and a hint: the 24 leading ones.
-#[derive(Drop)]
+#[derive(Clone, Copy)]
 struct Scaled {
     m: u64,
     k: u32,

@@ -6,7 +6,7 @@ ghost use Rattle.search.specs.Keys.{ascending, halving, halved, find_by};
 ghost use Rattle.search.specs.Nearby.{nearer as nearer_end, end_above, find_above, behind as behind_start, start_near, place_near, find_near};
 
 // Where a key stands.
-#[derive(Drop)]
+#[derive(Clone, Copy)]
 pub enum Found {
     At(usize),
     Absent,

@@ -13,14 +13,14 @@ use root::Rooted;
 use search::Found;
 
 // What is stored of a cell.
-#[derive(Drop)]
+#[derive(Clone, Copy)]
 pub enum Stored {
     Distance(f32),
     Absent,
 }
 
 // A vertex's place.
-#[derive(Drop)]
+#[derive(Clone, Copy)]
 pub struct Vertex {
     pub x: Metres,
     pub y: Metres,
@@ -28,7 +28,7 @@ pub struct Vertex {
 }
 
 // A vertex's normal: of length 1, or three zeros where there is none.
-#[derive(Drop)]
+#[derive(Clone, Copy)]
 pub struct Normal {
     pub x: f32,
     pub y: f32,
@@ -36,7 +36,7 @@ pub struct Normal {
 }
 
 // The slopes towards some neighbours, added up along each axis, and how many they are.
-#[derive(Drop)]
+#[derive(Clone, Copy)]
 struct Slopes {
     x: f32,
     y: f32,

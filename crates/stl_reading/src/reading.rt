@@ -13,7 +13,7 @@ use refusals::Refusal;
 use words::{LONGEST_FILE, float_of_pattern, read_word};
 
 // The patterns of a vertex's three floats.
-#[derive(Drop)]
+#[derive(Clone, Copy)]
 struct Patterns {
     x: u32,
     y: u32,

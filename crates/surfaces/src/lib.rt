@@ -17,7 +17,7 @@ use refusals::Refusal;
 use slopes::Vertex;
 
 // From one vertex to another.
-#[derive(Drop)]
+#[derive(Clone, Copy)]
 struct Arrow {
     x: f32,
     y: f32,
@@ -25,14 +25,14 @@ struct Arrow {
 }
 
 // A mesh's area, in square metres.
-#[derive(Drop)]
+#[derive(Clone, Copy)]
 pub enum Area {
     Square(f32),
     Refused(Refusal),
 }
 
 // The lowest and the highest corner of the box around a mesh; none around no vertices.
-#[derive(Drop)]
+#[derive(Clone, Copy)]
 pub enum Bounds {
     Corners(Vertex, Vertex),
     Absent,
@@ -40,7 +40,7 @@ pub enum Bounds {
 }
 
 // A mesh's statistics.
-#[derive(Drop)]
+#[derive(Clone, Copy)]
 pub enum MeshStats {
     HasNormals(bool),
     Refused(Refusal),

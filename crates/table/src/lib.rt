@@ -12,7 +12,7 @@ use search::keys_ascend;
 pub const LONGEST_TABLE: usize = 65536;
 
 // The four settings.
-#[derive(Drop)]
+#[derive(Clone, Copy)]
 pub struct Settings {
     pub truncation: Metres,
     pub max_weight: f32,
@@ -42,7 +42,7 @@ impl Settings {
 }
 
 // What the tests of a table find.
-#[derive(Drop)]
+#[derive(Clone, Copy)]
 pub enum Checked {
     Passed,
     Refused(Refusal),

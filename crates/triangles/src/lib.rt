@@ -15,7 +15,7 @@ use table::LONGEST_TABLE;
 const THREES: [usize; 15] = [0, 0, 0, 1, 4, 10, 20, 35, 56, 84, 120, 165, 220, 286, 364];
 
 // How many numbers of groups and how many triangles there are.
-#[derive(Drop)]
+#[derive(Clone, Copy)]
 struct Filled {
     groups: usize,
     triangles: usize,

@@ -13,7 +13,7 @@ use search::{Found, find_row};
 use table::{Checked, Settings, check_table};
 
 // A cell's distance.
-#[derive(Drop)]
+#[derive(Clone, Copy)]
 pub enum Distance {
     Of(Metres),
     Absent,
@@ -21,7 +21,7 @@ pub enum Distance {
 }
 
 // A cell's weight.
-#[derive(Drop)]
+#[derive(Clone, Copy)]
 pub enum Weight {
     Of(f32),
     Absent,
@@ -29,14 +29,14 @@ pub enum Weight {
 }
 
 // Whether a cell is near the surface.
-#[derive(Drop)]
+#[derive(Clone, Copy)]
 pub enum Surface {
     Answer(bool),
     Refused(Refusal),
 }
 
 // A cell's row.
-#[derive(Drop)]
+#[derive(Clone, Copy)]
 enum Looked {
     Row { distance: f32, weight: f32 },
     Absent,

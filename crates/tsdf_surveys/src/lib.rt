@@ -16,7 +16,7 @@ use refusals::Refusal;
 use table::{Checked, Settings, check_table, check_with, then_test};
 
 // How many rows there are and lie near the surface, the ends of their distances, and their mean weight.
-#[derive(Drop)]
+#[derive(Clone, Copy)]
 pub struct TsdfStats {
     pub voxel_count: usize,
     pub surface_voxel_count: usize,
@@ -25,14 +25,14 @@ pub struct TsdfStats {
     pub average_weight: f32,
 }
 
-#[derive(Drop)]
+#[derive(Clone, Copy)]
 pub enum Statistics {
     Of(TsdfStats),
     Refused(Refusal),
 }
 
 // What is counted over rows.
-#[derive(Drop)]
+#[derive(Clone, Copy)]
 struct Tally {
     near: usize,
     low: f32,

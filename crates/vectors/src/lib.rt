@@ -11,7 +11,7 @@ ghost use Rattle.vectors.specs.Vectors.{empty_field, with_row, field_after, no_s
 use table::{Settings, settings_of};
 
 // A line as far as it was read: its letter, 0 before it, and its words.
-#[derive(Drop)]
+#[derive(Clone, Copy)]
 pub struct Line {
     pub letter: u8,
     pub words: [u64; 16],
@@ -19,14 +19,14 @@ pub struct Line {
 }
 
 // A line, and the place where the next one begins.
-#[derive(Drop)]
+#[derive(Clone, Copy)]
 pub struct Taken {
     pub line: Line,
     pub next: usize,
 }
 
 // A fused table or a marched one, under its settings.
-#[derive(Drop)]
+#[derive(Clone, Copy)]
 pub struct Field {
     pub settings: Settings,
     pub keys: [u64; 32],
@@ -37,7 +37,7 @@ pub struct Field {
 
 // How many answers were asked for and how many came out again; how many were changed by a bit on purpose and how many of these did not come out;
 // and whether the next one is changed.
-#[derive(Drop)]
+#[derive(Clone, Copy)]
 pub struct Score {
     pub asked: u64,
     pub again: u64,

@@ -6,7 +6,7 @@ ghost use Rattle.winding.specs.Spots.{halfway, triple, plus_terms, in_front};
 ghost use Rattle.winding.specs.Steps.{Small};
 
 // A point by whole numbers, in doubled coordinates, so that what lies halfway between two cells is one too.
-#[derive(Drop)]
+#[derive(Clone, Copy)]
 pub struct Spot {
     pub x: u64,
     pub y: u64,
