@@ -1,0 +1,18 @@
+-- What is handed back is read off what the call below answers. Assumes nothing.
+use mathlib.Core.Path.{◌∙◌, ap}
+use Rattle.lists.specs.Listing.{count_of, listed_number}
+use Rattle.akfelzun.proofs.questions.akf_get_surface_voxels.Goals as goal
+
+pub returns : goal.returns
+returns c =
+    record {
+      value = (let e = rw c.settings_of-settings.ensures at c.get_surface_voxels-answer.ensures in
+          let b = c.List-back.ensures in
+          (b.0 ∙ ap listed_number e.0, (e.1, b.1 ∙ ap count_of e.0))).0;
+      out_after = (let e = rw c.settings_of-settings.ensures at c.get_surface_voxels-answer.ensures in
+          let b = c.List-back.ensures in
+          (b.0 ∙ ap listed_number e.0, (e.1, b.1 ∙ ap count_of e.0))).1;
+      listed_after = (let e = rw c.settings_of-settings.ensures at c.get_surface_voxels-answer.ensures in
+          let b = c.List-back.ensures in
+          (b.0 ∙ ap listed_number e.0, (e.1, b.1 ∙ ap count_of e.0))).2;
+    }

@@ -1,0 +1,7 @@
+-- Each case is the definition's. Assumes nothing.
+use mathlib.Core.Path.{ap, sym}
+use Rattle.answers.specs.Questions.{stats_found}
+use Rattle.answers.proofs.questions.stats_found.Goals as goal
+
+pub returns-in-Refused : goal.returns-in-Refused
+returns-in-Refused c = ap stats_found (sym c.in-Refused.is)

@@ -1,0 +1,9 @@
+-- Each part of each case is the definition's. Assumes nothing.
+use mathlib.Core.Path.{refl}
+use Rattle.answers.proofs.readings.batch_back.Goals as goal
+
+pub returns-in-Done : goal.returns-in-Done
+returns-in-Done c = record { number_value = (rw c.in-Done.is (refl, (refl, refl))).0; counts_value = (rw c.in-Done.is (refl, (refl, refl))).1; at_value = (rw c.in-Done.is (refl, (refl, refl))).2 }
+
+pub returns-in-Refused : goal.returns-in-Refused
+returns-in-Refused c = record { number_value = (rw c.in-Refused.is (c.number.ensures, (refl, refl))).0; counts_value = (rw c.in-Refused.is (c.number.ensures, (refl, refl))).1; at_value = (rw c.in-Refused.is (c.number.ensures, (refl, refl))).2 }

@@ -1,0 +1,95 @@
+-- `batches::batch_one` meets its contract: it ends the batch or leaves the rest to the table that it left, and tells whether it is far.
+-- Assumes nothing.
+use mathlib.Core.Path.{sym}
+use Prim.Native.Nat.{◌<◌}
+use native.Mathlib.Nat.{add-zero}
+use native.Mathlib.Omega.{arith}
+use lib.ListN.{length}
+use Rattle.lists.proofs.BesideLaws.{by_length}
+use Rattle.batching.specs.Batches.{entry}
+use Rattle.table.specs.Table.{table}
+use Rattle.fusing.specs.Steps.{answers_far}
+use Rattle.owning.specs.Runs.{RunLeft, RunFar}
+use Rattle.batching.proofs.Batching.{stops, goes_on_far, goes_on_added, goes_on_changed, far_here, near_here, passes_again}
+use Rattle.batches.proofs.batch_one.Goals as goal
+
+pub returns-in-Refused : goal.returns-in-Refused
+unfolding RunLeft RunFar
+returns-in-Refused c =
+    let a = c.args in
+    let p = c.requires in
+    let h : a.from < length a.batch-keys.now = p.1.0 in (
+      stops a.settings (table a.keys.now a.distances.now a.weights.now a.count.now)
+          a.batch-keys.now a.batch-distances.now a.batch-confidences.now a.from p.1.1.0 p.1.1.1 h
+          _ _ c.fuse_sound-step.ensures _ c.in-Refused.is,
+      passes_again a.settings (table a.keys.now a.distances.now a.weights.now a.count.now)
+          a.batch-keys.now a.batch-distances.now a.batch-confidences.now a.from p.1.1.0 p.1.1.1 h
+          _ _ c.fuse_sound-step.ensures p.0,
+      sym (add-zero _),
+    )
+
+pub returns-in-Far : goal.returns-in-Far
+unfolding RunLeft RunFar
+returns-in-Far c =
+    let a = c.args in
+    let p = c.requires in
+    let h : a.from < length a.batch-keys.now = p.1.0 in (
+      (
+        goes_on_far a.settings (table a.keys.now a.distances.now a.weights.now a.count.now)
+            a.batch-keys.now a.batch-distances.now a.batch-confidences.now a.from p.1.1.0 p.1.1.1
+            h _ _ c.fuse_sound-step.ensures c.in-Far.is,
+        omega arith,
+        rw (by_length entry a.batch-keys.now a.batch-distances.now a.batch-confidences.now p.1.1.0
+            p.1.1.1) (omega arith),
+      ),
+      passes_again a.settings (table a.keys.now a.distances.now a.weights.now a.count.now)
+          a.batch-keys.now a.batch-distances.now a.batch-confidences.now a.from p.1.1.0 p.1.1.1 h
+          _ _ c.fuse_sound-step.ensures p.0,
+      far_here a.settings (table a.keys.now a.distances.now a.weights.now a.count.now)
+          a.batch-keys.now a.batch-distances.now a.batch-confidences.now a.from p.1.1.0 p.1.1.1 h
+          _ _ c.fuse_sound-step.ensures p.0 c.in-Far.is,
+    )
+
+pub returns-in-Added : goal.returns-in-Added
+unfolding RunLeft RunFar answers_far
+returns-in-Added c =
+    let a = c.args in
+    let p = c.requires in
+    let h : a.from < length a.batch-keys.now = p.1.0 in (
+      (
+        goes_on_added a.settings (table a.keys.now a.distances.now a.weights.now a.count.now)
+            a.batch-keys.now a.batch-distances.now a.batch-confidences.now a.from p.1.1.0 p.1.1.1
+            h _ _ c.fuse_sound-step.ensures _ c.in-Added.is,
+        omega arith,
+        rw (by_length entry a.batch-keys.now a.batch-distances.now a.batch-confidences.now p.1.1.0
+            p.1.1.1) (omega arith),
+      ),
+      passes_again a.settings (table a.keys.now a.distances.now a.weights.now a.count.now)
+          a.batch-keys.now a.batch-distances.now a.batch-confidences.now a.from p.1.1.0 p.1.1.1 h
+          _ _ c.fuse_sound-step.ensures p.0,
+      near_here a.settings (table a.keys.now a.distances.now a.weights.now a.count.now)
+          a.batch-keys.now a.batch-distances.now a.batch-confidences.now a.from p.1.1.0 p.1.1.1 h
+          _ _ c.fuse_sound-step.ensures p.0 (rw c.in-Added.is),
+    )
+
+pub returns-in-Changed : goal.returns-in-Changed
+unfolding RunLeft RunFar answers_far
+returns-in-Changed c =
+    let a = c.args in
+    let p = c.requires in
+    let h : a.from < length a.batch-keys.now = p.1.0 in (
+      (
+        goes_on_changed a.settings (table a.keys.now a.distances.now a.weights.now a.count.now)
+            a.batch-keys.now a.batch-distances.now a.batch-confidences.now a.from p.1.1.0 p.1.1.1
+            h _ _ c.fuse_sound-step.ensures _ c.in-Changed.is,
+        omega arith,
+        rw (by_length entry a.batch-keys.now a.batch-distances.now a.batch-confidences.now p.1.1.0
+            p.1.1.1) (omega arith),
+      ),
+      passes_again a.settings (table a.keys.now a.distances.now a.weights.now a.count.now)
+          a.batch-keys.now a.batch-distances.now a.batch-confidences.now a.from p.1.1.0 p.1.1.1 h
+          _ _ c.fuse_sound-step.ensures p.0,
+      near_here a.settings (table a.keys.now a.distances.now a.weights.now a.count.now)
+          a.batch-keys.now a.batch-distances.now a.batch-confidences.now a.from p.1.1.0 p.1.1.1 h
+          _ _ c.fuse_sound-step.ensures p.0 (rw c.in-Changed.is),
+    )

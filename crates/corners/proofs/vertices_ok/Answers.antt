@@ -1,0 +1,48 @@
+-- `corners::vertices_ok` meets its contract: the entries that are left pass exactly when all do.
+use Prim.Native.Nat.{◌-◌}
+use mathlib.Core.Path.{refl, sym, ◌∙◌}
+use native.Mathlib.Omega.{arith}
+use lib.Ieee.{nan}
+use Rattle.corners.specs.Corners.{vertex, vertex_ok}
+use Rattle.lists.proofs.Bools.{yes, no}
+use Rattle.corners.proofs.Sets.{passes, fails, done}
+use borrow.Author.Rules.{rules}
+use Rattle.corners.proofs.vertices_ok.Goals as goal
+
+pub loop-i-init : goal.loop-i-init
+loop-i-init c = (search rules, refl)
+
+pub offset_bounds-px-i : goal.offset_bounds-px-i
+offset_bounds-px-i c = omega arith
+
+pub bounds-px-i : goal.bounds-px-i
+bounds-px-i c = omega arith
+
+pub offset_bounds-py-i : goal.offset_bounds-py-i
+offset_bounds-py-i c = omega arith
+
+pub bounds-py-i : goal.bounds-py-i
+bounds-py-i c = omega arith
+
+pub offset_bounds-pz-i : goal.offset_bounds-pz-i
+offset_bounds-pz-i c = omega arith
+
+pub bounds-pz-i : goal.bounds-pz-i
+bounds-pz-i c = omega arith
+
+pub returns-then-not-vertex_ok : goal.returns-then-not-vertex_ok
+returns-then-not-vertex_ok c =
+    sym (c.loop-i.invariant.1
+    ∙ fails vertex nan _ _ _ _ c.requires _ vertex_ok c.loop-i-test.true
+    (no c.vertex_ok.ensures c.if-not-vertex_ok.true))
+
+pub loop-i-preserved : goal.loop-i-preserved
+loop-i-preserved c = (
+  omega arith,
+  c.loop-i.invariant.1
+      ∙ passes vertex nan _ _ _ _ c.requires _ vertex_ok c.loop-i-test.true
+      (yes c.vertex_ok.ensures c.if-not-vertex_ok.false),
+)
+
+pub returns : goal.returns
+returns c = sym (c.loop-i.invariant.1 ∙ done vertex nan _ _ _ _ c.requires c.loop-i.i vertex_ok (omega arith))

@@ -1,0 +1,39 @@
+-- `edges::get_zero_crossing_edges` meets its contract: the tests of a call, then the edges by their verdict.
+-- Assumes nothing.
+use mathlib.Core.Path.{sym, ◌∙◌}
+use lib.ListN.{length}
+use Rattle.table.specs.Table.{table}
+use Rattle.edges.specs.declared.Surface.TheVariants.{Open}
+use Rattle.edges.proofs.AnswerLaws.{accepted, answered, held_by}
+use Rattle.edges.proofs.get_zero_crossing_edges.Goals as goal
+
+pub list_tested-requires : goal.list_tested-requires
+list_tested-requires c =
+    let a = c.args in
+    λ t. accepted a.settings _ _ _ _ (length a.first.now) (length a.second.now) (sym c.check-verdict.ensures ∙ t)
+
+pub returns : goal.returns
+returns c =
+    record {
+      value = (let verdict = c.check-verdict.ensures in
+          let a = c.args in
+          let t = table a.keys.now a.distances.now a.weights.now a.count in
+          let done = c.list_tested.ensures in (
+            answered Open a.settings t _ _ _ verdict _ done.0,
+            (held_by Open a.settings t _ _ _ verdict _ done.0 _ _ _ done.1.0, held_by Open a.settings t _ _ _ verdict _ done.0 _ _ _ done.1.1),
+          )).0;
+      first_after = (let verdict = c.check-verdict.ensures in
+          let a = c.args in
+          let t = table a.keys.now a.distances.now a.weights.now a.count in
+          let done = c.list_tested.ensures in (
+            answered Open a.settings t _ _ _ verdict _ done.0,
+            (held_by Open a.settings t _ _ _ verdict _ done.0 _ _ _ done.1.0, held_by Open a.settings t _ _ _ verdict _ done.0 _ _ _ done.1.1),
+          )).1;
+      second_after = (let verdict = c.check-verdict.ensures in
+          let a = c.args in
+          let t = table a.keys.now a.distances.now a.weights.now a.count in
+          let done = c.list_tested.ensures in (
+            answered Open a.settings t _ _ _ verdict _ done.0,
+            (held_by Open a.settings t _ _ _ verdict _ done.0 _ _ _ done.1.0, held_by Open a.settings t _ _ _ verdict _ done.0 _ _ _ done.1.1),
+          )).2;
+    }

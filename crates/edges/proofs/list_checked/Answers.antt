@@ -1,0 +1,46 @@
+-- `edges::list_checked` meets its contract: what the tests refuse leaves nothing to keep, and what was listed from the front stands there where it has room.
+-- Assumes nothing.
+use mathlib.Core.Path.{refl}
+use Rattle.table.specs.Table.{rows_of}
+use Rattle.edges.specs.Surfaces.{edges_on}
+use Rattle.edges.specs.Listing.{answer_if, firsts, seconds}
+use Rattle.lists.proofs.Held.{refused_held}
+use Rattle.edges.proofs.AnswerLaws.{outputs_same, answer_room, firsts_held, seconds_held}
+use Rattle.edges.proofs.list_checked.Goals as goal
+
+pub returns-in-Refused : goal.returns-in-Refused
+unfolding answer_if
+returns-in-Refused c =
+    record {
+      value = (let a = c.args in
+          let es = edges_on a.surface (rows_of a.keys.now a.distances.now a.weights.now a.count) in
+          (rw c.in-Refused.is refl, (refused_held 0 _ a.first.now (firsts es), refused_held 0 _ a.second.now (seconds es)))).0;
+      first_after = (let a = c.args in
+          let es = edges_on a.surface (rows_of a.keys.now a.distances.now a.weights.now a.count) in
+          (rw c.in-Refused.is refl, (refused_held 0 _ a.first.now (firsts es), refused_held 0 _ a.second.now (seconds es)))).1;
+      second_after = (let a = c.args in
+          let es = edges_on a.surface (rows_of a.keys.now a.distances.now a.weights.now a.count) in
+          (rw c.in-Refused.is refl, (refused_held 0 _ a.first.now (firsts es), refused_held 0 _ a.second.now (seconds es)))).2;
+    }
+
+pub list_edges-n-requires : goal.list_edges-n-requires
+list_edges-n-requires c =
+    let p = c.requires c.in_default.is in
+    (p.0, outputs_same _ _ p.1)
+
+pub returns : goal.returns
+returns c =
+    record {
+      value = (let passed = c.in_default.is in
+          let w = c.list_edges-n.ensures in
+          let e = c.room_for.ensures in
+          (rw passed (answer_room _ _ _ _ _ _ w _ e), (firsts_held _ _ _ _ _ _ w _ e, seconds_held _ _ _ _ _ _ w _ e (outputs_same _ _ (c.requires passed).1)))).0;
+      first_after = (let passed = c.in_default.is in
+          let w = c.list_edges-n.ensures in
+          let e = c.room_for.ensures in
+          (rw passed (answer_room _ _ _ _ _ _ w _ e), (firsts_held _ _ _ _ _ _ w _ e, seconds_held _ _ _ _ _ _ w _ e (outputs_same _ _ (c.requires passed).1)))).1;
+      second_after = (let passed = c.in_default.is in
+          let w = c.list_edges-n.ensures in
+          let e = c.room_for.ensures in
+          (rw passed (answer_room _ _ _ _ _ _ w _ e), (firsts_held _ _ _ _ _ _ w _ e, seconds_held _ _ _ _ _ _ w _ e (outputs_same _ _ (c.requires passed).1)))).2;
+    }

@@ -1,0 +1,17 @@
+-- `edges::list_edges` meets its contract: what is left of the rows says what all of them say.
+-- Assumes nothing.
+use Prim.Native.Nat.{◌*◌, ◌≤◌, ◌-◌}
+use native.Mathlib.Omega.{arith}
+use Rattle.table.specs.Table.{rows_of}
+use Rattle.neighbors.specs.Neighbors.{neighbours}
+use Rattle.edges.specs.Surfaces.{crosses_on}
+use Rattle.edges.proofs.RoundLaws.{Writing, from}
+use Rattle.edges.proofs.list_edges.Given as goal
+
+abbrev pub invariant-loop-row : goal.invariant-loop-row
+invariant-loop-row l = let rows = rows_of l.keys l.distances l.weights l.count in
+    let left = from neighbours (crosses_on l.surface rows) rows in
+    (l.row ≤ l.count) × (l.end ≤ 14 * l.row) × Writing (left 0) 0 l.initial.first l.initial.second (left l.row) l.end l.first l.second
+
+abbrev pub decreases-loop-row : goal.decreases-loop-row
+decreases-loop-row l = l.count - l.row

@@ -1,0 +1,33 @@
+-- `edges::list_tested` meets its contract: what is listed stays, and the rest is cleared.
+-- Assumes nothing.
+use Rattle.edges.proofs.AnswerLaws.{cleared_held}
+use Rattle.edges.proofs.list_tested.Goals as goal
+
+pub returns : goal.returns
+returns c =
+    record {
+      value = (let n = c.count_of-n.ensures in
+          let done = c.list_checked-listed.ensures in (
+            done.0,
+            (
+              cleared_held _ _ n _ _ _ _ c.clear_from_u64.ensures done.1.0,
+              cleared_held _ _ n _ _ _ _ c.clear_from_u64-2.ensures done.1.1,
+            ),
+          )).0;
+      first_after = (let n = c.count_of-n.ensures in
+          let done = c.list_checked-listed.ensures in (
+            done.0,
+            (
+              cleared_held _ _ n _ _ _ _ c.clear_from_u64.ensures done.1.0,
+              cleared_held _ _ n _ _ _ _ c.clear_from_u64-2.ensures done.1.1,
+            ),
+          )).1;
+      second_after = (let n = c.count_of-n.ensures in
+          let done = c.list_checked-listed.ensures in (
+            done.0,
+            (
+              cleared_held _ _ n _ _ _ _ c.clear_from_u64.ensures done.1.0,
+              cleared_held _ _ n _ _ _ _ c.clear_from_u64-2.ensures done.1.1,
+            ),
+          )).2;
+    }

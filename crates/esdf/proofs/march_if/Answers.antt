@@ -1,0 +1,26 @@
+-- `esdf::march_if` meets its contract: a verdict that refuses is the answer, another lets the march begin.
+-- Assumes nothing.
+use Rattle.table.specs.Table.{rows_of}
+use Rattle.marching.specs.Lattice.{march_from}
+use Rattle.fronts.specs.Fronts.{rooms_of}
+use Rattle.esdf.proofs.Computing.{refused_first, passed_first}
+use Rattle.esdf.proofs.Answering.{answered}
+use Rattle.esdf.proofs.march_if.Goals as goal
+
+pub march-requires : goal.march-requires
+march-requires c = c.requires c.in-Passed.is
+
+pub returns-in-Refused : goal.returns-in-Refused
+returns-in-Refused c = refused_first _ _ _ _ _ _ c.in-Refused.is
+
+pub returns-in-Passed : goal.returns-in-Passed
+returns-in-Passed c =
+    let a = c.args in
+    let d = c.march in
+    let g =
+    march_from a.course.size a.course.most (rooms_of a.keys.now a.cells.now) a.threshold
+    (rows_of a.fused-keys.now a.fused-distances.now a.fused-weights.now a.fused-count) in
+    passed_first a.verdict g d.new.1.1.1.1.1.1.0 d.new.1.1.1.1.1.1.1.0
+    d.new.1.1.1.1.1.1.1.1.0 d.new.1.1.1.1.1.1.1.1.1.0 c.marched_of.result c.in-Passed.is
+    (answered g d.result c.marched_of.result d.new.1.1.1.1.1.1.0 d.new.1.1.1.1.1.1.1.0
+    d.new.1.1.1.1.1.1.1.1.0 d.new.1.1.1.1.1.1.1.1.1.0 c.marched_of.ensures d.ensures)

@@ -1,0 +1,37 @@
+-- `esdf_questions::get_gradient` meets its contract: the verdict, what is stored, and the mean over the neighbours.
+-- Assumes nothing.
+use Rattle.marched.specs.Marched.{marched_table}
+use Rattle.marched.proofs.MarchedLaws.{accepted}
+use Rattle.esdf_questions.proofs.Answers.{gradient_refused, gradient_of, gradient_absent}
+use Rattle.esdf_questions.proofs.get_gradient.Goals as goal
+
+pub stored_at-requires : goal.stored_at-requires
+stored_at-requires c =
+    let a = c.args in
+    accepted a.keys.now a.distances.now a.count _ _ c.check_key.ensures c.in-Passed.is
+
+pub sum_slopes-requires : goal.sum_slopes-requires
+sum_slopes-requires c =
+    let a = c.args in
+    accepted a.keys.now a.distances.now a.count _ _ c.check_key.ensures c.in-Passed.is
+
+pub returns-in-Refused : goal.returns-in-Refused
+returns-in-Refused c =
+    let a = c.args in
+    gradient_refused (marched_table a.keys.now a.distances.now a.count) a.key _
+    c.check_key.ensures c.in-Refused.is
+
+pub returns-in-Absent : goal.returns-in-Absent
+returns-in-Absent c =
+    let a = c.args in
+    gradient_absent (marched_table a.keys.now a.distances.now a.count) a.key _
+    c.check_key.ensures c.in-Passed.is _
+    c.stored_at.ensures c.in-Absent.is
+
+pub returns-in-At : goal.returns-in-At
+returns-in-At c =
+    let a = c.args in
+    gradient_of (marched_table a.keys.now a.distances.now a.count) a.key _
+    c.check_key.ensures c.in-Passed.is _
+    c.stored_at.ensures _ _
+    c.in-At.is c.sum_slopes.ensures c.mean.ensures

@@ -1,0 +1,16 @@
+-- `esdf_questions::slopes_next` meets its contract: a neighbour that is not stored changes nothing.
+-- Assumes nothing.
+use Rattle.esdf_questions.proofs.Answers.{slopes_stored, slopes_absent}
+use Rattle.esdf_questions.proofs.slopes_next.Goals as goal
+
+pub returns-in-At : goal.returns-in-At
+returns-in-At c =
+    let a = c.args in
+    slopes_stored a.key a.distance a.sum a.neighbour _ _
+    c.stored_at.ensures _ c.in-At.is
+    c.slopes_with.ensures
+
+pub returns-in-Absent : goal.returns-in-Absent
+returns-in-Absent c =
+    let a = c.args in
+    slopes_absent a.key a.distance a.sum a.neighbour _ _ c.stored_at.ensures c.in-Absent.is

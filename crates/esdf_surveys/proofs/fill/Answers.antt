@@ -1,0 +1,26 @@
+-- `esdf_surveys::fill` meets its contract: a verdict that refuses is the answer; another puts the rows and answers by the room.
+-- Assumes nothing.
+use Rattle.marched.specs.Marched.{marched_rows_of}
+use Rattle.esdf_surveys.specs.Within.{cells_within}
+use Rattle.esdf_surveys.proofs.Walking.{fill_refused, fill_passed}
+use Rattle.esdf_surveys.proofs.fill.Goals as goal
+
+pub put_within-n-requires : goal.put_within-n-requires
+put_within-n-requires c =
+    let p = c.requires c.in-Passed.is in
+    (p.0, p.1)
+
+pub returns-in-Refused : goal.returns-in-Refused
+returns-in-Refused c =
+    let a = c.args in
+    fill_refused _ (cells_within a.threshold (marched_rows_of a.keys.now a.distances.now a.count))
+    a.out-keys.now a.out-distances.now c.in-Refused.is
+
+pub returns-in-Passed : goal.returns-in-Passed
+returns-in-Passed c =
+    let a = c.args in
+    let v = c.in-Passed.is in
+    fill_passed _ (cells_within a.threshold (marched_rows_of a.keys.now a.distances.now a.count))
+    a.out-keys.now a.out-distances.now _ _ _ _ _ v (c.requires v).2
+    c.put_within-n.auto.1.1.1.1.0
+    c.put_within-n.ensures c.room_for.ensures

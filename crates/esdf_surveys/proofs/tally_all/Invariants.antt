@@ -1,0 +1,18 @@
+-- `esdf_surveys::tally_all` meets its contract: the rows that are left say what all say.
+-- Assumes nothing.
+use Prim.Native.Nat.{◌≤◌, ◌-◌}
+use mathlib.Core.Path.{◌≡◌}
+use lib.ListN.{drop}
+use Rattle.marched.specs.Marched.{marched_rows_of}
+use Rattle.esdf_surveys.specs.Statistics.{no_tally, tallied_all}
+use Rattle.esdf_surveys.proofs.tally_all.Given as goal
+
+abbrev pub invariant-loop-i : goal.invariant-loop-i
+invariant-loop-i l = (l.i ≤ l.count)
+    × (l.tally.obstacles ≤ l.i)
+    × (l.tally.free ≤ l.i)
+    × (tallied_all no_tally (marched_rows_of l.keys l.distances l.count)
+    ≡ tallied_all l.tally (drop l.i (marched_rows_of l.keys l.distances l.count)))
+
+abbrev pub decreases-loop-i : goal.decreases-loop-i
+decreases-loop-i l = l.count - l.i

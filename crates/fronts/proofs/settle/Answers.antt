@@ -1,0 +1,68 @@
+-- `fronts::settle` meets its contract: a cell gets its distance and is stored, then its neighbours wait.
+-- Assumes nothing.
+use mathlib.Core.Path.{sym, ◌∙◌}
+use Rattle.table.specs.Table.{rows_of}
+use Rattle.marching.specs.Spreading.{seed_in}
+use Rattle.fronts.specs.Fronts.{marking_also}
+use Rattle.fronts.proofs.Stepping.{settle_no_row, settle_no_cell, settle_done}
+use Rattle.fronts.proofs.settle.Goals as goal
+
+pub settled-distance-requires : goal.settled-distance-requires
+settled-distance-requires c = (c.requires.lent.1.0, c.requires.key_value.0)
+
+pub store-requires : goal.store-requires
+store-requires c = (c.requires.lent.1.0, c.requires.key_value.0)
+
+pub spread-requires : goal.spread-requires
+spread-requires c =
+    let k = c.store.auto in
+    let p = c.requires in
+    record {
+      lent = (p.0.0, (k.1.0 ∙ p.0.1.0 ∙ sym k.0, p.0.1.1));
+      key_value = p.1.0;
+    }
+
+pub returns-in-Not : goal.returns-in-Not
+returns-in-Not c =
+    let a = c.args in
+    let x = c.settled-distance in
+    let r = c.store in
+    λ s h told room.
+    settle_no_row
+    a.course c.requires.key_value.1 a.lean
+    (seed_in a.threshold (rows_of a.fused-keys.now a.fused-distances.now a.fused-weights.now a.fused-count))
+    a.key a.count a.keys.now a.distances.now a.waiting a.estimates.now a.cells.now s h told room x.result
+    (x.ensures s.stored (marking_also a.lean a.key s.waiting) h.marked) r.result r.new.0 r.new.1.0 r.auto.0
+    r.ensures _ c.in-Not.is
+
+pub returns-in-Not-spread : goal.returns-in-Not-spread
+returns-in-Not-spread c =
+    let a = c.args in
+    let x = c.settled-distance in
+    let r = c.store in
+    let d = c.spread in
+    λ s h told room.
+    settle_no_cell
+    a.course c.requires.key_value.1 a.lean
+    (seed_in a.threshold (rows_of a.fused-keys.now a.fused-distances.now a.fused-weights.now a.fused-count))
+    a.key a.count a.keys.now a.distances.now a.waiting a.estimates.now a.cells.now s h told room x.result
+    (x.ensures s.stored (marking_also a.lean a.key s.waiting) h.marked) r.result r.new.0 r.new.1.0 r.auto.0
+    r.ensures _ c.in-Now.is d.result
+    d.new.1.1.1.1.1.1.1.0 d.new.1.1.1.1.1.1.1.1.0
+    d.new.1.1.1.1.1.1.1.1.1.0 d.new.1.1.1.1.1.1.1.1.1.1.0 d.ensures _ c.in-Not-spread.is
+
+pub returns-in-Now-spread : goal.returns-in-Now-spread
+returns-in-Now-spread c =
+    let a = c.args in
+    let x = c.settled-distance in
+    let r = c.store in
+    let d = c.spread in
+    λ s h told room.
+    settle_done
+    a.course c.requires.key_value.1 a.lean
+    (seed_in a.threshold (rows_of a.fused-keys.now a.fused-distances.now a.fused-weights.now a.fused-count))
+    a.key a.count a.keys.now a.distances.now a.waiting a.estimates.now a.cells.now s h told room x.result
+    (x.ensures s.stored (marking_also a.lean a.key s.waiting) h.marked) r.result r.new.0 r.new.1.0 r.auto.0
+    r.ensures _ c.in-Now.is d.result
+    d.new.1.1.1.1.1.1.1.0 d.new.1.1.1.1.1.1.1.1.0
+    d.new.1.1.1.1.1.1.1.1.1.0 d.new.1.1.1.1.1.1.1.1.1.1.0 d.ensures _ c.in-Now-spread.is

@@ -1,0 +1,54 @@
+-- `fronts::take` meets its contract: a stored cell is skipped, another is settled.
+-- Assumes nothing.
+use mathlib.Core.Path.{sym, ◌∙◌}
+use native.Mathlib.Omega.{arith}
+use Rattle.table.specs.Table.{rows_of}
+use Rattle.marching.specs.Lattice.{lattice_of}
+use Rattle.marching.specs.Spreading.{seed_in}
+use Rattle.hearing.proofs.Walking.{real_key}
+use Rattle.fronts.proofs.Stepping.{take_skips, take_settles}
+use Rattle.fronts.proofs.take.Goals as goal
+
+pub bounds-cells-0 : goal.bounds-cells-0
+bounds-cells-0 c = omega (arith, c.requires.waiting_nonzero.0, c.requires.waiting_nonzero.1.0)
+
+pub pop-requires : goal.pop-requires
+pop-requires c = (c.requires.waiting_nonzero.0, omega (arith, c.requires.waiting_nonzero.1.0, c.requires.lent.1.1), c.requires.waiting_nonzero.1.0)
+
+pub overflow_sub-left : goal.overflow_sub-left
+overflow_sub-left c = omega (arith, c.requires.waiting_nonzero.0)
+
+pub known-requires : goal.known-requires
+known-requires c = (c.pre.0.1.0, real_key _ c.pre.1.1.1.1)
+
+pub returns-then-is_finite : goal.returns-then-is_finite
+returns-then-is_finite c =
+    let a = c.args in
+    let p = c.pop in
+    λ s h told room.
+    take_skips a.lean (seed_in a.threshold (rows_of a.fused-keys.now a.fused-distances.now a.fused-weights.now a.fused-count))
+    (lattice_of a.course) s a.count a.keys.now a.distances.now a.waiting a.estimates.now a.cells.now h c.requires.waiting_nonzero.0
+    p.new.0 p.new.1.0 p.ensures p.auto.1.0 c.known.result c.known.ensures
+    (sym c.is_finite.ensures ∙ c.if-is_finite.true)
+
+pub settle-requires : goal.settle-requires
+settle-requires c =
+    let k = c.pop.auto in
+    let p = c.requires in
+    record {
+      lent = (p.0.0, (p.0.1.0, k.0 ∙ p.0.1.1 ∙ sym k.1.0));
+      key_value = (p.1.1.1.1, p.1.1.1.0);
+    }
+
+pub returns : goal.returns
+returns c =
+    let a = c.args in
+    let p = c.pop in
+    let d = c.settle in
+    λ s h told room.
+    take_settles a.lean (seed_in a.threshold (rows_of a.fused-keys.now a.fused-distances.now a.fused-weights.now a.fused-count))
+    (lattice_of a.course) s a.count a.keys.now a.distances.now a.waiting a.estimates.now a.cells.now h c.requires.waiting_nonzero.0
+    p.new.0 p.new.1.0 p.ensures p.auto.1.0 c.known.result c.known.ensures
+    (sym c.is_finite.ensures ∙ c.if-is_finite.false) told room d.result
+    d.new.1.1.1.1.1.1.1.0 d.new.1.1.1.1.1.1.1.1.0
+    d.new.1.1.1.1.1.1.1.1.1.1.0 d.new.1.1.1.1.1.1.1.1.1.1.1.0 d.ensures

@@ -1,0 +1,52 @@
+-- `fronts::wait` meets its contract, by what its mark says and the kind of march.
+-- Assumes nothing.
+use mathlib.Core.Path.{refl, sym, ◌∙◌}
+use mathlib.Core.Bool.{true, false}
+use mathlib.Core.List.{[], ◌∷◌}
+use native.Mathlib.Omega.{arith}
+use lib.ListN.{length}
+use Rattle.table.specs.Table.{rows_of}
+use Rattle.marching.specs.March.{wait}
+use Rattle.marching.specs.Lattice.{lattice_of}
+use Rattle.marching.specs.Spreading.{seed_in}
+use Rattle.hearing.proofs.Walking.{real_key}
+use Rattle.fronts.proofs.Marking.{wait_marked, wait_as}
+use Rattle.fronts.proofs.wait.Goals as goal
+
+pub returns-in_default : goal.returns-in_default
+returns-in_default c =
+    λ s h told room.
+    wait_marked _ _ _ (real_key _ c.requires.key_value.0) s _ _ _ _ _ h _ (sym c.find.ensures ∙ c.in_default.is)
+
+pub wait_lean-requires : goal.wait_lean-requires
+wait_lean-requires c =
+    record {
+      lent = c.requires.lent;
+      keys_value = (sym c.find.ensures ∙ c.in-Absent.is, c.requires.key_value);
+    }
+
+pub wait_marked-requires : goal.wait_marked-requires
+wait_marked-requires c =
+    record {
+      paired = c.requires.lent.1;
+      keys_value = (sym c.find.ensures ∙ c.in-Absent.is, c.requires.key_value);
+    }
+
+pub returns-then-lean : goal.returns-then-lean
+returns-then-lean c =
+    let a = c.args in
+    let d = c.wait_lean in
+    wait_as a.lean true (seed_in a.threshold (rows_of a.fused-keys.now a.fused-distances.now a.fused-weights.now a.fused-count))
+    (lattice_of a.course) a.from (a.key ∷ []) (wait (length a.cells.now) a.estimate a.key)
+    a.keys.now a.distances.now a.waiting a.estimates.now a.cells.now d.result
+    a.keys.now a.distances.now d.new.1.1.1.1.1.1.1.1.0 d.new.1.1.1.1.1.1.1.1.1.0 c.if-lean.true d.ensures
+
+pub returns-else-lean : goal.returns-else-lean
+returns-else-lean c =
+    let a = c.args in
+    let d = c.wait_marked in
+    wait_as a.lean false (seed_in a.threshold (rows_of a.fused-keys.now a.fused-distances.now a.fused-weights.now a.fused-count))
+    (lattice_of a.course) a.from (a.key ∷ []) (wait (length a.cells.now) a.estimate a.key)
+    a.keys.now a.distances.now a.waiting a.estimates.now a.cells.now d.result
+    d.new.0 d.new.1.0 d.new.1.1.0 d.new.1.1.1.0 c.if-lean.false
+    (λ s h told room. d.ensures s h (let l = room refl in omega arith))

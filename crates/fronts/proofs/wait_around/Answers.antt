@@ -1,0 +1,89 @@
+-- `fronts::wait_around` meets its contract: what is left to do says what the whole does.
+use Prim.Native.Nat.{◌-◌}
+use mathlib.Core.Path.{refl, sym, ◌∙◌}
+use native.Mathlib.Omega.{arith}
+use lib.ListN.{length}
+use Rattle.neighbors.specs.Neighbors.{neighbours}
+use Rattle.table.specs.Table.{rows_of}
+use Rattle.marching.specs.Lattice.{lattice_of}
+use Rattle.marching.specs.Spreading.{seed_in}
+use Rattle.marching.proofs.Telling.{neighbours_once}
+use Rattle.hearing.proofs.Walking.{near_list, near_lattice}
+use Rattle.fronts.proofs.Walking.{rest_all, rest_more, rest_stop, rest_none}
+use borrow.Author.Rules.{rules}
+use Rattle.fronts.proofs.wait_around.Goals as goal
+
+pub loop-i-init : goal.loop-i-init
+loop-i-init c =
+    let a = c.args in
+    let f = near_list a.key _ c.around-near.ensures in (
+      f.0,
+      f.1,
+      f.2,
+      search rules,
+      refl,
+      refl,
+      refl,
+      refl,
+      rest_all a.lean _ (lattice_of a.course) a.key a.estimate (neighbours a.key) _ f.0 (neighbours_once a.key) a.keys.now
+          a.distances.now
+          a.waiting a.estimates.now a.cells.now,
+    )
+
+pub wait-requires : goal.wait-requires
+wait-requires c =
+    let i = c.loop-i.invariant in
+    let p = c.requires in record {
+      lent = (p.0.0, (i.5 ∙ p.0.1.0 ∙ sym i.4, i.6 ∙ p.0.1.1 ∙ sym i.7));
+      key_value = (near_lattice c.args.key p.1.0 _ i.0 _ (omega (arith, c.loop-i-test.true, i.1)), p.1.1);
+    }
+
+pub returns-in-Not : goal.returns-in-Not
+returns-in-Not c =
+    let d = c.wait in
+    let a = c.args in
+    rest_stop a.lean (seed_in a.threshold (rows_of a.fused-keys.now a.fused-distances.now a.fused-weights.now a.fused-count))
+    (lattice_of a.course) a.key a.estimate (neighbours a.key) _ c.loop-i.invariant.0 (neighbours_once a.key) a.keys.now a.distances.now
+    a.waiting
+    a.estimates.now a.cells.now
+    c.loop-i.i c.loop-i.keys c.loop-i.distances c.loop-i.held
+    c.loop-i.estimates c.loop-i.cells c.loop-i.invariant.8 c.loop-i.invariant.7
+    (omega (arith, c.loop-i-test.true, c.loop-i.invariant.1)) d.result
+    d.new.1.1.1.1.1.1.1.0 d.new.1.1.1.1.1.1.1.1.0
+    d.new.1.1.1.1.1.1.1.1.1.0 d.new.1.1.1.1.1.1.1.1.1.1.0 d.ensures _ c.in-Not.is
+
+pub loop-i-preserved : goal.loop-i-preserved
+loop-i-preserved c =
+    let i = c.loop-i.invariant in
+    let k = c.wait.auto in
+    let d = c.wait in
+    let a = c.args in (
+      i.0,
+      i.1,
+      i.2,
+      omega (arith, c.loop-i-test.true),
+      ◌∙◌ {b = length c.loop-i.keys} k.1.1.1.1.1.1.1.0 i.4,
+      ◌∙◌ {b = length c.loop-i.distances} k.1.1.1.1.1.1.1.1.0 i.5,
+      ◌∙◌ {b = length c.loop-i.estimates} k.1.1.1.1.1.1.1.1.1.0 i.6,
+      ◌∙◌ {b = length c.loop-i.cells} k.1.1.1.1.1.1.1.1.1.1.0 i.7,
+      rest_more a.lean (seed_in a.threshold (rows_of a.fused-keys.now a.fused-distances.now a.fused-weights.now a.fused-count))
+          (lattice_of a.course) a.key a.estimate (neighbours a.key) _ c.loop-i.invariant.0 (neighbours_once a.key) a.keys.now
+          a.distances.now a.waiting
+          a.estimates.now a.cells.now
+          c.loop-i.i c.loop-i.keys c.loop-i.distances c.loop-i.held
+          c.loop-i.estimates c.loop-i.cells c.loop-i.invariant.8 i.7
+          (omega (arith, c.loop-i-test.true, i.1)) d.result
+          d.new.1.1.1.1.1.1.1.0 d.new.1.1.1.1.1.1.1.1.0
+          d.new.1.1.1.1.1.1.1.1.1.0 d.new.1.1.1.1.1.1.1.1.1.1.0 d.ensures k.1.1.1.1.1.1.1.0 _
+          c.in-Now.is,
+    )
+
+pub returns : goal.returns
+returns c =
+    let a = c.args in
+    rest_none a.lean (seed_in a.threshold (rows_of a.fused-keys.now a.fused-distances.now a.fused-weights.now a.fused-count))
+    (lattice_of a.course) a.key a.estimate (neighbours a.key) _ c.loop-i.invariant.0 (neighbours_once a.key) a.keys.now a.distances.now
+    a.waiting
+    a.estimates.now a.cells.now
+    c.loop-i.i c.loop-i.keys c.loop-i.distances c.loop-i.held
+    c.loop-i.estimates c.loop-i.cells c.loop-i.invariant.8 (omega (arith, c.loop-i.invariant.1, c.loop-i-test.false))

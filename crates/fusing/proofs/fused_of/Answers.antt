@@ -1,0 +1,6 @@
+-- `fusing::fused_of` meets its contract, case by case.
+-- Assumes nothing.
+use Rattle.fusing.proofs.fused_of.Goals as goal
+
+pub returns-in-Refused : goal.returns-in-Refused
+returns-in-Refused c = rw c.in-Refused.is

@@ -1,0 +1,12 @@
+-- `gathering::place_past` meets its contract: of the four keys among which the place is, those below the key are before it.
+-- Assumes nothing.
+use Rattle.gathering.proofs.Placing.{of_four}
+use Rattle.gathering.proofs.place_past.Goals as goal
+
+pub returns-then-place-count : goal.returns-then-place-count
+returns-then-place-count c =
+    let some = c.if-place-count.true in
+    let place = c.skip_fours-place.result in
+    let skipped = c.skip_fours-place.ensures in
+    of_four c.args.key c.args.keys.now c.args.count c.requires.count_in_bounds.0 c.requires.count_in_bounds.1 place _ _ _ skipped.0.1 (skipped.1 some) some
+    c.one_below.ensures.1 c.one_below-then-place-count.ensures.1 c.one_below-then-place-count-2.ensures.1

@@ -1,0 +1,16 @@
+-- `gathering::value_f32` meets its contract: a seat over a row has as many rows below as its place says.
+-- Assumes nothing.
+use native.Mathlib.Omega.{arith}
+use lib.Ieee.{nan}
+use Rattle.gathering.proofs.Filling.{value_over, value_before}
+use Rattle.gathering.proofs.value_f32.Goals as goal
+
+pub returns-then-place-first_above : goal.returns-then-place-first_above
+returns-then-place-first_above c =
+    value_over c.args.column.now c.args.absent c.args.seat c.rows_below-place.result
+    c.rows_below-place.ensures nan (rw (← c.first_above.ensures) c.if-place-first_above.true) c.requires
+
+pub returns : goal.returns
+returns c =
+    value_before c.args.column.now c.args.absent c.args.seat c.rows_below-place.result
+    c.rows_below-place.ensures (rw (← c.first_above.ensures) c.if-place-first_above.false)

@@ -1,0 +1,15 @@
+-- `groups::with_number` meets its contract: a number that was found is put into its place.
+-- Assumes nothing.
+use native.Mathlib.Omega.{arith}
+use mathlib.Core.Path.{◌∙◌}
+use Rattle.groups.proofs.FoundLaws.{with_one_lem, with_none, below_at}
+use Rattle.groups.proofs.with_number.Goals as goal
+
+pub overflow_cast-i : goal.overflow_cast-i
+overflow_cast-i c = omega (arith, below_at 1048576 _ c.args.found c.in-At.is c.requires.1)
+
+pub returns-in-At : goal.returns-in-At
+returns-in-At c = c.with.ensures ∙ with_one_lem c.args.group c.args.found _ c.requires.0 c.in-At.is
+
+pub returns-in-Absent : goal.returns-in-Absent
+returns-in-Absent c = with_none c.args.group c.args.found c.requires.0 c.in-Absent.is

@@ -1,0 +1,27 @@
+-- `hearing::settled` meets its contract: what is left to hear says what the whole does.
+-- Assumes nothing.
+use Prim.Native.Nat.{ℕ, ◌≤◌, ◌-◌}
+use mathlib.Core.Path.{◌≡◌}
+use mathlib.Core.List.{List}
+use native.Mathlib.Omega.{arith}
+use lib.ListN.{length, drop}
+use Rattle.lists.specs.Padding.{padded}
+use Rattle.neighbors.specs.Neighbors.{neighbours}
+use Rattle.floats.specs.Floats.{largest}
+use Rattle.marching.specs.March.{MarchedRow, settling}
+use Rattle.marching.specs.Lattice.{lattice_of}
+use Rattle.hearing.specs.Hearing.{Marked}
+use Rattle.hearing.proofs.settled.Given as goal
+
+abbrev pub invariant-loop-i : goal.invariant-loop-i
+invariant-loop-i l = (l.list ≡ padded 0 14 (neighbours l.key))
+    × (l.n ≡ length (neighbours l.key))
+    × (l.n ≤ 14)
+    × (l.i ≤ l.n)
+    × ((rs : List MarchedRow) (ws : List ℕ)
+    → Marked rs ws l.keys l.distances
+    → settling (lattice_of l.course) rs l.key 0 largest (neighbours l.key)
+    ≡ settling (lattice_of l.course) rs l.key l.i l.best (drop l.i (neighbours l.key)))
+
+abbrev pub decreases-loop-i : goal.decreases-loop-i
+decreases-loop-i l = l.n - l.i

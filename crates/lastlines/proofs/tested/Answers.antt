@@ -1,0 +1,27 @@
+-- `lastlines::tested` meets its contract.
+-- Assumes nothing.
+use mathlib.Core.Path.{◌≡◌, sym, subst, ◌∙◌}
+use mathlib.Core.Bool.{true, false}
+use Rattle.refusals.specs.declared.Refusal.TheVariants.{Setting}
+use Rattle.table.specs.declared.Settings.{Settings}
+use Rattle.table.specs.Table.{settings_ok}
+use Rattle.lastlines.specs.declared.Setup.TheVariants.{Ready, Refused}
+use Rattle.lastlines.specs.Lastcheck.{tested_as, settings_from}
+use Rattle.lastlines.proofs.tested.Goals as goal
+
+-- settings s, which were made as x
+ready : (x s : Settings) → s ≡ x → settings_ok s ≡ true → Ready s ≡ tested_as (settings_ok x) x
+unfolding tested_as
+ready x s e t = subst (λ (y : Settings). Ready s ≡ tested_as (settings_ok y) y) e (rw t)
+
+refused : (x s : Settings) → s ≡ x → settings_ok s ≡ false → Refused Setting ≡ tested_as (settings_ok x) x
+unfolding tested_as
+refused x s e t = subst (λ (y : Settings). Refused Setting ≡ tested_as (settings_ok y) y) e (rw t)
+
+pub returns-then-settings_ok : goal.returns-then-settings_ok
+unfolding settings_from
+returns-then-settings_ok c = ready _ _ c.settings_of-settings.ensures (sym c.settings_ok.ensures ∙ c.if-settings_ok.true)
+
+pub returns-else-settings_ok : goal.returns-else-settings_ok
+unfolding settings_from
+returns-else-settings_ok c = refused _ _ c.settings_of-settings.ensures (sym c.settings_ok.ensures ∙ c.if-settings_ok.false)

@@ -1,0 +1,13 @@
+-- `mesh::draw_open` meets its contract: the groups and the triangles are built from the edges that the lists then hold.
+-- Assumes nothing.
+use Rattle.mesh.proofs.OpenLaws.{drawn_open}
+use Rattle.mesh.proofs.draw_open.Goals as goal
+
+pub returns : goal.returns
+returns c =
+    let a = c.args in
+    let e = c.list_tested-edges.ensures in
+    let b = c.build_triangles-built.ensures in
+    λ fit.
+    drawn_open a.verdict a.keys.now a.distances.now a.weights.now a.count _ _ c.requires _ fit _ _ _ _ _ e.0
+    e.1.0 e.1.1 c.count_of-n.ensures b.0 _ _ _ _ b.1.0 b.1.1.0 b.1.1.1.0 b.1.1.1.1

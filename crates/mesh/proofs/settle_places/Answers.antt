@@ -1,0 +1,35 @@
+-- `mesh::settle_places` meets its contract.
+-- Assumes nothing.
+use Prim.Native.Nat.{ℕ}
+use mathlib.Core.Path.{ap, ◌∙◌}
+use Rattle.lists.specs.Places.{zero_f, cleared_from}
+use Rattle.mesh.proofs.settle_places.Goals as goal
+
+pub returns : goal.returns
+returns c =
+    record {
+      x_after = (let a = c.args in
+          let e = c.kept-k.ensures in (
+            c.clear_from_f32.ensures ∙ ap (λ (k : ℕ). cleared_from zero_f k a.x.now) e,
+            (
+              c.clear_from_f32-2.ensures ∙ ap (λ (k : ℕ). cleared_from zero_f k a.y.now) e,
+              c.clear_from_f32-3.ensures ∙ ap (λ (k : ℕ). cleared_from zero_f k a.z.now) e,
+            ),
+          )).0;
+      y_after = (let a = c.args in
+          let e = c.kept-k.ensures in (
+            c.clear_from_f32.ensures ∙ ap (λ (k : ℕ). cleared_from zero_f k a.x.now) e,
+            (
+              c.clear_from_f32-2.ensures ∙ ap (λ (k : ℕ). cleared_from zero_f k a.y.now) e,
+              c.clear_from_f32-3.ensures ∙ ap (λ (k : ℕ). cleared_from zero_f k a.z.now) e,
+            ),
+          )).1;
+      z_after = (let a = c.args in
+          let e = c.kept-k.ensures in (
+            c.clear_from_f32.ensures ∙ ap (λ (k : ℕ). cleared_from zero_f k a.x.now) e,
+            (
+              c.clear_from_f32-2.ensures ∙ ap (λ (k : ℕ). cleared_from zero_f k a.y.now) e,
+              c.clear_from_f32-3.ensures ∙ ap (λ (k : ℕ). cleared_from zero_f k a.z.now) e,
+            ),
+          )).2;
+    }

@@ -1,0 +1,10 @@
+-- `mesh::with_vertices` meets its contract.
+-- Assumes nothing.
+use borrow.Author.Tests.{le-leb, lt-leb}
+use Rattle.mesh.proofs.with_vertices.Goals as goal
+
+pub returns-then-n-room : goal.returns-then-n-room
+returns-then-n-room c = rw (le-leb _ _ c.if-n-room.true) c.with_built.ensures
+
+pub returns-else-n-room : goal.returns-else-n-room
+returns-else-n-room c = rw (lt-leb _ _ c.if-n-room.false)

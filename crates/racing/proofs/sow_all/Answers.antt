@@ -1,0 +1,121 @@
+-- `racing::sow_all` meets its contract: what is left to sow says what the whole does.
+use Prim.Native.Nat.{◌-◌}
+use mathlib.Core.Path.{refl, sym, ◌∙◌}
+use mathlib.Core.Bool.{false}
+use native.Mathlib.Omega.{arith}
+use lib.ListN.{length, get_or}
+use lib.Ieee.{nan}
+use Rattle.table.specs.Table.{row, rows_of}
+use Rattle.table.proofs.RowLaws.{row_at_lem}
+use Rattle.marching.specs.Lattice.{lattice_of}
+use Rattle.marching.specs.Spreading.{seed_in}
+use Rattle.marching.proofs.Facts.{back}
+use Rattle.fronts.specs.Fronts.{rooms_of}
+use Rattle.racing.proofs.Marching.{rows_ascend, rows_past, seeds_are, sow_start, sow_stop, sow_more, sow_finish}
+use Rattle.racing.proofs.Finishing.{blank_long, blank_ready}
+use borrow.Author.Rules.{rules}
+use Rattle.racing.proofs.sow_all.Goals as goal
+
+pub loop-i-init : goal.loop-i-init
+loop-i-init c =
+    let a = c.args in
+    let p = c.requires in (
+      search rules,
+      refl,
+      refl,
+      refl,
+      refl,
+      sow_start false _ (lattice_of a.course) a.threshold (rooms_of a.keys.now a.cells.now)
+          (rows_of a.fused-keys.now a.fused-distances.now a.fused-weights.now a.fused-count) a.keys.now
+          a.distances.now a.estimates.now a.cells.now (rows_ascend _ _ _ _ p.0.lent) (seeds_are a.threshold _ _ _ _ p.0.lent)
+          (blank_ready false _ _ _ _ p.1),
+    )
+
+pub offset_bounds-fused_keys-i : goal.offset_bounds-fused_keys-i
+offset_bounds-fused_keys-i c = let p = c.requires.0.lent in omega (arith, c.loop-i-test.true, p.fits)
+
+pub bounds-fused_keys-i : goal.bounds-fused_keys-i
+bounds-fused_keys-i c = let p = c.requires.0.lent in omega (arith, c.loop-i-test.true, p.fits)
+
+pub offset_bounds-fused_distances-i : goal.offset_bounds-fused_distances-i
+offset_bounds-fused_distances-i c = let p = c.requires.0.lent in omega (arith, c.loop-i-test.true, p.fits, p.distances)
+
+pub bounds-fused_distances-i : goal.bounds-fused_distances-i
+bounds-fused_distances-i c = let p = c.requires.0.lent in omega (arith, c.loop-i-test.true, p.fits, p.distances)
+
+pub offset_bounds-fused_weights-i : goal.offset_bounds-fused_weights-i
+offset_bounds-fused_weights-i c = let p = c.requires.0.lent in omega (arith, c.loop-i-test.true, p.fits, p.weights)
+
+pub bounds-fused_weights-i : goal.bounds-fused_weights-i
+bounds-fused_weights-i c = let p = c.requires.0.lent in omega (arith, c.loop-i-test.true, p.fits, p.weights)
+
+pub sow_if-requires : goal.sow_if-requires
+sow_if-requires c =
+    let p = c.requires in
+    let i = c.loop-i.invariant in
+    let l = c.loop-i-test.true in record {
+      lent = (p.0.lent, (i.2 ∙ blank_long _ _ _ p.1.distances ∙ sym i.1, i.3 ∙ blank_long _ _ _ p.1.estimates ∙ sym i.4));
+      key_value = (p.0.lattice _ l, (p.0.finite _ l, i.5.ready.held.front.heap.fits));
+    }
+
+pub returns-in-Not : goal.returns-in-Not
+returns-in-Not c =
+    let a = c.args in
+    let p = c.requires.0.lent in
+    let l = c.loop-i in
+    let d = c.sow_if in
+    let here =
+    row_at_lem a.fused-keys.now a.fused-distances.now a.fused-weights.now a.fused-count l.i p.distances p.weights
+    c.loop-i-test.true p.fits in
+    sow_stop l.lean (seed_in a.threshold (rows_of a.fused-keys.now a.fused-distances.now a.fused-weights.now a.fused-count))
+    (lattice_of a.course) back a.threshold (rooms_of a.keys.now a.cells.now)
+    (rows_of a.fused-keys.now a.fused-distances.now a.fused-weights.now a.fused-count) l.i l.rows l.keys l.distances l.held
+    l.estimates l.cells l.invariant.5
+    (row (get_or a.fused-keys.now l.i 0) (get_or a.fused-distances.now l.i nan) (get_or a.fused-weights.now l.i nan))
+    here l.invariant.1 l.invariant.4 d.result d.new.1.1.1.1.1.1.1.0
+    d.new.1.1.1.1.1.1.1.1.0 d.new.1.1.1.1.1.1.1.1.1.1.0
+    d.new.1.1.1.1.1.1.1.1.1.1.1.0
+    d.ensures _ c.in-Not.is
+
+pub overflow_add-i : goal.overflow_add-i
+overflow_add-i c = omega (arith, c.loop-i-test.taken, c.fits.fused-count)
+
+pub loop-i-smaller : goal.loop-i-smaller
+loop-i-smaller c = omega (arith, c.loop-i-test.taken)
+
+pub loop-i-preserved : goal.loop-i-preserved
+loop-i-preserved c =
+    let a = c.args in
+    let p = c.requires.0.lent in
+    let l = c.loop-i in
+    let d = c.sow_if in
+    let here =
+    row_at_lem a.fused-keys.now a.fused-distances.now a.fused-weights.now a.fused-count l.i p.distances p.weights
+    c.loop-i-test.true p.fits in
+    let k = d.auto in
+    let i = l.invariant in (
+      omega (arith, c.loop-i-test.true),
+      ◌∙◌ {b = length l.keys} k.1.1.1.1.1.1.1.0 i.1,
+      ◌∙◌ {b = length l.distances} k.1.1.1.1.1.1.1.1.0 i.2,
+      ◌∙◌ {b = length l.estimates} k.1.1.1.1.1.1.1.1.1.1.0 i.3,
+      ◌∙◌ {b = length l.cells} k.1.1.1.1.1.1.1.1.1.1.1.0 i.4,
+      sow_more l.lean (seed_in a.threshold (rows_of a.fused-keys.now a.fused-distances.now a.fused-weights.now a.fused-count))
+          (lattice_of a.course) back a.threshold (rooms_of a.keys.now a.cells.now)
+          (rows_of a.fused-keys.now a.fused-distances.now a.fused-weights.now a.fused-count) l.i l.rows l.keys l.distances l.held
+          l.estimates l.cells l.invariant.5
+          (row (get_or a.fused-keys.now l.i 0) (get_or a.fused-distances.now l.i nan) (get_or a.fused-weights.now l.i nan))
+          here i.1 i.4 d.result d.new.1.1.1.1.1.1.1.0
+          d.new.1.1.1.1.1.1.1.1.0 d.new.1.1.1.1.1.1.1.1.1.1.0
+          d.new.1.1.1.1.1.1.1.1.1.1.1.0
+          d.ensures _ _ _ c.in-On.is,
+    )
+
+pub returns : goal.returns
+returns c =
+    let a = c.args in
+    let l = c.loop-i in
+    sow_finish l.lean (seed_in a.threshold (rows_of a.fused-keys.now a.fused-distances.now a.fused-weights.now a.fused-count))
+    (lattice_of a.course) back a.threshold (rooms_of a.keys.now a.cells.now)
+    (rows_of a.fused-keys.now a.fused-distances.now a.fused-weights.now a.fused-count) l.i l.rows l.keys l.distances l.held
+    l.estimates l.cells l.invariant.5 (rows_past a.fused-keys.now a.fused-distances.now a.fused-weights.now a.fused-count l.i
+    c.loop-i-test.false)

@@ -1,0 +1,135 @@
+-- `racing::take_all` meets its contract: what is left to take says what the whole does.
+use Prim.Native.Nat.{◌-◌}
+use mathlib.Core.Path.{refl, sym, ◌∙◌}
+use native.Mathlib.Omega.{arith}
+use lib.ListN.{length}
+use Rattle.neighbors.proofs.NeighborLaws.{at_most_14}
+use Rattle.table.specs.Table.{rows_of}
+use Rattle.marching.specs.Lattice.{lattice_of}
+use Rattle.marching.specs.Spreading.{seed_in}
+use Rattle.marching.proofs.Facts.{back}
+use Rattle.fronts.specs.Fronts.{rooms_of}
+use Rattle.racing.specs.Racing.{Emptied}
+use Rattle.racing.proofs.Marching.{seeds_are, take_start, take_few, take_crowded, take_stop, take_more, take_finish, first_on_lattice}
+use Rattle.racing.proofs.take_all.Goals as goal
+
+pub loop-held-init : goal.loop-held-init
+loop-held-init c =
+    let a = c.args in
+    let p = c.requires in (
+      refl,
+      refl,
+      refl,
+      refl,
+      λ s h.
+          take_start a.lean _ (lattice_of a.course) back _ (seeds_are a.threshold _ _ _ _ p.0.0.lent) s a.count a.keys.now
+          a.distances.now
+          a.waiting a.estimates.now a.cells.now h,
+    )
+
+pub surely_full-requires : goal.surely_full-requires
+surely_full-requires c =
+    let a = c.args in
+    let p = c.requires in
+    let l = c.loop-held in
+    let at = l.invariant.4 p.1.0 p.1.1 in
+    let keys-fit = c.well-formed.1.1.1.1.1.1.1.0.1 in
+    let cells_fit = c.well-formed.1.1.1.1.1.1.1.1.1.1.1.0.1 in
+    let taken = take_few l.kind (seed_in a.threshold (rows_of a.fused-keys.now a.fused-distances.now a.fused-weights.now a.fused-count))
+    (lattice_of a.course) back (rooms_of a.keys.now a.cells.now) _ l.takings l.rows
+    l.keys l.distances l.held l.estimates l.cells (l.invariant.4 p.1.0 p.1.1) in (
+      omega (arith, keys-fit, l.invariant.0),
+      omega (arith, at.ready.held.count, at.sound.rows_fit, l.invariant.0),
+      omega (arith, cells_fit, at.ready.held.front.heap.fits, l.invariant.3),
+      omega (arith, taken, l.invariant.0),
+    )
+
+pub returns-then-surely_full : goal.returns-then-surely_full
+unfolding Emptied
+returns-then-surely_full c =
+    let a = c.args in
+    let l = c.loop-held in
+    λ s h.
+    take_crowded l.kind (seed_in a.threshold (rows_of a.fused-keys.now a.fused-distances.now a.fused-weights.now a.fused-count))
+    (lattice_of a.course) back (rooms_of a.keys.now a.cells.now) _ l.takings l.rows
+    l.keys l.distances l.held l.estimates l.cells (l.invariant.4 s h)
+    l.invariant.0 l.invariant.3 at_most_14 (sym c.surely_full.ensures ∙ c.if-surely_full.true)
+
+pub take_next-requires : goal.take_next-requires
+take_next-requires c =
+    let p = c.requires in
+    let at = c.loop-held.invariant.4 p.1.0 p.1.1 in
+    let h = at.ready.held in
+    let l = c.loop-held-test.true in record {
+      lent = (p.0.0.lent, (h.front.marked.long, h.front.heap.long));
+      waiting_nonzero = (l, (h.front.heap.fits, (p.0.1, first_on_lattice _ _ _ _ _ _ _ _ h l)));
+    }
+
+pub returns-in-Not : goal.returns-in-Not
+unfolding Emptied
+returns-in-Not c =
+    let a = c.args in
+    let l = c.loop-held in
+    let d = c.take_next in
+    λ s h.
+    take_stop l.kind (seed_in a.threshold (rows_of a.fused-keys.now a.fused-distances.now a.fused-weights.now a.fused-count))
+    (lattice_of a.course) back (rooms_of a.keys.now a.cells.now) _ l.takings l.rows
+    l.keys l.distances l.held l.estimates l.cells (l.invariant.4 s h)
+    l.invariant.0 l.invariant.3 c.loop-held-test.true d.result d.new.1.1.1.1.1.1.1.0
+    d.new.1.1.1.1.1.1.1.1.0 d.new.1.1.1.1.1.1.1.1.1.1.0
+    d.new.1.1.1.1.1.1.1.1.1.1.1.0 d.ensures _ c.in-Not.is
+
+pub overflow_add-takings : goal.overflow_add-takings
+overflow_add-takings c =
+    let a = c.args in
+    let p = c.pre in
+    let l = c.loop-held in
+    omega (
+      arith,
+      c.good.1.1.1.1.1.1.1.0.1,
+      take_few l.kind (seed_in a.threshold (rows_of a.fused-keys.now a.fused-distances.now a.fused-weights.now a.fused-count))
+          (lattice_of a.course) back (rooms_of a.keys.now a.cells.now) _ l.takings l.rows
+          l.keys l.distances l.held l.estimates l.cells (l.inv.4 p.1.0 p.1.1),
+    )
+
+pub loop-held-smaller : goal.loop-held-smaller
+loop-held-smaller c =
+    let a = c.args in
+    let p = c.pre in
+    let l = c.loop-held in
+    omega (
+      arith,
+      c.good.1.1.1.1.1.1.1.0.1,
+      take_few l.kind (seed_in a.threshold (rows_of a.fused-keys.now a.fused-distances.now a.fused-weights.now a.fused-count))
+          (lattice_of a.course) back (rooms_of a.keys.now a.cells.now) _ l.takings l.rows
+          l.keys l.distances l.held l.estimates l.cells (l.inv.4 p.1.0 p.1.1),
+    )
+
+pub loop-held-preserved : goal.loop-held-preserved
+loop-held-preserved c =
+    let a = c.args in
+    let l = c.loop-held in
+    let d = c.take_next in
+    let k = d.auto in
+    let i = l.invariant in (
+      ◌∙◌ {b = length l.keys} k.1.1.1.1.1.1.1.0 i.0,
+      ◌∙◌ {b = length l.distances} k.1.1.1.1.1.1.1.1.0 i.1,
+      ◌∙◌ {b = length l.estimates} k.1.1.1.1.1.1.1.1.1.1.0 i.2,
+      ◌∙◌ {b = length l.cells} k.1.1.1.1.1.1.1.1.1.1.1.0 i.3,
+      λ s h.
+          take_more l.kind (seed_in a.threshold (rows_of a.fused-keys.now a.fused-distances.now a.fused-weights.now a.fused-count))
+          (lattice_of a.course) back (rooms_of a.keys.now a.cells.now) _ l.takings l.rows
+          l.keys l.distances l.held l.estimates l.cells (i.4 s h)
+          i.0 i.3 c.loop-held-test.true d.result d.new.1.1.1.1.1.1.1.0
+          d.new.1.1.1.1.1.1.1.1.0 d.new.1.1.1.1.1.1.1.1.1.1.0
+          d.new.1.1.1.1.1.1.1.1.1.1.1.0 d.ensures _ _ _ c.in-On.is,
+    )
+
+pub returns : goal.returns
+returns c =
+    let a = c.args in
+    let l = c.loop-held in
+    λ s h.
+    take_finish l.kind (seed_in a.threshold (rows_of a.fused-keys.now a.fused-distances.now a.fused-weights.now a.fused-count))
+    (lattice_of a.course) back (rooms_of a.keys.now a.cells.now) _ l.takings l.rows
+    l.keys l.distances l.held l.estimates l.cells (l.invariant.4 s h) l.invariant.0 c.loop-held-test.false

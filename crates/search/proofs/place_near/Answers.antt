@@ -1,0 +1,21 @@
+-- `search::place_near` meets its contract: the first `count` keys are searched.
+-- Assumes nothing.
+use Prim.Native.Nat.{ℕ}
+use mathlib.Core.Path.{◌≡◌, sym, ap, ◌∙◌}
+use mathlib.Core.List.{List}
+use native.Mathlib.Omega.{arith}
+use lib.ListN.{take}
+use lib.Seq.{length-take-le}
+use Rattle.search.specs.Nearby.{place_near}
+use Rattle.search.proofs.KeyLaws.{take_least}
+use Rattle.search.proofs.place_near.Goals as goal
+
+pub slice_bounds-place_from-end : goal.slice_bounds-place_from-end
+slice_bounds-place_from-end c = sym (length-take-le _ c.args.keys.now (omega (arith, c.least-end.ensures)))
+
+pub returns : goal.returns
+returns c =
+    let a = c.args in
+    let same : take c.least-end.result a.keys.now ≡ take a.count a.keys.now =
+    rw c.least-end.ensures (take_least a.count a.keys.now) in
+    c.place_from.ensures ∙ ap (λ (l : List ℕ). place_near a.key l a.from) same

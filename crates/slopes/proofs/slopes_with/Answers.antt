@@ -1,0 +1,10 @@
+-- `slopes::slopes_with` meets its contract, axis by axis.
+-- Assumes nothing.
+use Rattle.slopes.proofs.Working.{slopes_stored}
+use Rattle.slopes.proofs.slopes_with.Goals as goal
+
+pub returns : goal.returns
+returns c =
+    slopes_stored _ _ _ _ _ _ _ _ _ _ _ _ c.in-Distance.is
+    c.morton_decode-c1.ensures c.morton_decode-c2.ensures
+    c.step_of_lem.ensures c.step_of-2.ensures c.step_of-3.ensures

@@ -1,0 +1,41 @@
+-- `stl::reading::answer` meets its contract: case by case.
+-- Assumes nothing.
+use Prim.Native.Nat.{◌*◌}
+use native.Mathlib.Omega.{arith}
+use mathlib.Core.Path.{refl}
+use borrow.Author.Tests.{le-leb, lt-leb}
+use Rattle.lists.proofs.Bools.{yes, no}
+use Rattle.stl.specs.Steps.{read_answer}
+use Rattle.stl_reading.proofs.reading.answer.Goals as goal
+
+pub returns-then-not-passed : goal.returns-then-not-passed
+unfolding read_answer
+returns-then-not-passed c =
+    let p = c.args.passed in
+    rw (c.in-Count.is, no {a = p} {t = p} refl c.if-not-passed.true)
+
+pub returns-then-count-room : goal.returns-then-count-room
+unfolding read_answer
+returns-then-count-room c =
+    let a = c.args in
+    let n = c.in-Count.count in
+    rw (
+      c.in-Count.is,
+      yes {a = a.passed} {t = a.passed} refl c.if-not-passed.false,
+      le-leb (3 * n) a.room (omega (arith, c.if-count-room.true)),
+    )
+
+pub returns-else-count-room : goal.returns-else-count-room
+unfolding read_answer
+returns-else-count-room c =
+    let a = c.args in
+    let n = c.in-Count.count in
+    rw (
+      c.in-Count.is,
+      yes {a = a.passed} {t = a.passed} refl c.if-not-passed.false,
+      lt-leb (3 * n) a.room (omega (arith, c.if-count-room.false)),
+    )
+
+pub returns-in-Refused : goal.returns-in-Refused
+unfolding read_answer
+returns-in-Refused c = rw c.in-Refused.is

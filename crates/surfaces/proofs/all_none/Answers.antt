@@ -1,0 +1,49 @@
+-- `surfaces::all_none` meets its contract: the entries that are left pass exactly when all do.
+use Prim.Native.Nat.{◌-◌}
+use mathlib.Core.Path.{refl, sym, ◌∙◌}
+use native.Mathlib.Omega.{arith}
+use lib.Ieee.{nan}
+use Rattle.slopes.specs.Normals.{normal}
+use Rattle.surfaces.specs.Stats.{is_none}
+use Rattle.lists.proofs.Bools.{yes, no}
+use Rattle.corners.proofs.Sets.{passes, fails, done}
+use borrow.Author.Rules.{rules}
+use Rattle.surfaces.proofs.all_none.Goals as goal
+
+pub loop-i-init : goal.loop-i-init
+loop-i-init c = (search rules, refl)
+
+pub offset_bounds-nx-i : goal.offset_bounds-nx-i
+offset_bounds-nx-i c = omega arith
+
+pub bounds-nx-i : goal.bounds-nx-i
+bounds-nx-i c = omega arith
+
+pub offset_bounds-ny-i : goal.offset_bounds-ny-i
+offset_bounds-ny-i c = omega arith
+
+pub bounds-ny-i : goal.bounds-ny-i
+bounds-ny-i c = omega arith
+
+pub offset_bounds-nz-i : goal.offset_bounds-nz-i
+offset_bounds-nz-i c = omega arith
+
+pub bounds-nz-i : goal.bounds-nz-i
+bounds-nz-i c = omega arith
+
+pub returns-then-not-is_none : goal.returns-then-not-is_none
+returns-then-not-is_none c =
+    sym (c.loop-i.invariant.1
+    ∙ fails normal nan _ _ _ _ c.requires _ is_none c.loop-i-test.true
+    (no c.is_none.ensures c.if-not-is_none.true))
+
+pub loop-i-preserved : goal.loop-i-preserved
+loop-i-preserved c = (
+  omega arith,
+  c.loop-i.invariant.1
+      ∙ passes normal nan _ _ _ _ c.requires _ is_none c.loop-i-test.true
+      (yes c.is_none.ensures c.if-not-is_none.false),
+)
+
+pub returns : goal.returns
+returns c = sym (c.loop-i.invariant.1 ∙ done normal nan _ _ _ _ c.requires c.loop-i.i is_none (omega arith))

@@ -1,0 +1,17 @@
+-- `texts::bad_line` meets its contract, part by part.
+-- Assumes nothing.
+use Rattle.texts.specs.Texts.{bad_line}
+use Rattle.texts.proofs.WritingLaws.{more, whole}
+use Rattle.texts.proofs.bad_line.Goals as goal
+
+pub returns : goal.returns
+unfolding bad_line
+returns c =
+    record {
+      value = (whole (more c.put_text-a0.ensures
+          (more c.put_decimal-a1.ensures.wrote
+          c.put.ensures))).0;
+      out_after = (whole (more c.put_text-a0.ensures
+          (more c.put_decimal-a1.ensures.wrote
+          c.put.ensures))).1;
+    }

@@ -1,0 +1,25 @@
+-- `texts::counts_line` meets its contract, part by part.
+-- Assumes nothing.
+use Rattle.texts.specs.Texts.{counts_line}
+use Rattle.texts.proofs.WritingLaws.{more, whole}
+use Rattle.texts.proofs.counts_line.Goals as goal
+
+pub returns : goal.returns
+unfolding counts_line
+returns c =
+    record {
+      value = (whole (more c.put_text-a0.ensures
+          (more c.put_decimal-a1.ensures.wrote
+          (more c.put_text-a2.ensures
+          (more c.put_decimal-a3.ensures.wrote
+          (more c.put_text-a4.ensures
+          (more c.put_decimal-a5.ensures.wrote
+          c.put.ensures))))))).0;
+      out_after = (whole (more c.put_text-a0.ensures
+          (more c.put_decimal-a1.ensures.wrote
+          (more c.put_text-a2.ensures
+          (more c.put_decimal-a3.ensures.wrote
+          (more c.put_text-a4.ensures
+          (more c.put_decimal-a5.ensures.wrote
+          c.put.ensures))))))).1;
+    }

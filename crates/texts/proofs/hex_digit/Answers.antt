@@ -1,0 +1,10 @@
+-- `texts::hex_digit` meets its contract.
+-- Assumes nothing.
+use borrow.Author.Tests.{lt-ltb, le-ltb}
+use Rattle.texts.proofs.hex_digit.Goals as goal
+
+pub returns-then-value-lt10 : goal.returns-then-value-lt10
+returns-then-value-lt10 c = rw (lt-ltb _ 10 c.if-value-lt10.true)
+
+pub returns-else-value-lt10 : goal.returns-else-value-lt10
+returns-else-value-lt10 c = rw (le-ltb _ 10 c.if-value-lt10.false)

@@ -1,0 +1,33 @@
+-- `texts::put_decimal` meets its contract. The loop's invariant: the digits put in stand behind those that are left.
+use Prim.Native.Nat.{◌-◌}
+use mathlib.Core.Path.{refl}
+use native.Mathlib.Omega.{arith}
+use lib.ListN.{length-set}
+use Rattle.texts.proofs.WritingLaws.{digit_again, digits_wrote, two_digits}
+use Rattle.texts.proofs.put_decimal.Goals as goal
+
+-- LEFT part-put-text-end : tie.Need-slice-bounds-put-text-end invariant-loop decreases-loop
+-- part-put-text-end c = rw length-set (omega (arith, c.before.before.before.loop.invariant.2))
+
+pub loop-rest-init : goal.loop-rest-init
+loop-rest-init c = (omega arith, omega arith, refl, refl)
+
+pub overflow_sub-start : goal.overflow_sub-start
+overflow_sub-start c = omega (arith, two_digits _ _ c.loop-rest-test.true c.loop-rest.invariant.1)
+
+pub loop-rest-smaller : goal.loop-rest-smaller
+loop-rest-smaller c = omega (arith, two_digits _ _ c.loop-rest-test.true c.loop-rest.invariant.1)
+
+pub loop-rest-preserved : goal.loop-rest-preserved
+loop-rest-preserved c = digit_again c.args.number c.loop-rest.digits c.loop-rest.start c.loop-rest.rest c.loop-rest-test.true c.loop-rest.invariant
+
+pub returns : goal.returns
+returns c =
+    record {
+      wrote = (digits_wrote c.args.number c.loop-rest.digits c.loop-rest.start c.loop-rest.rest
+          c.loop-rest-test.false c.loop-rest.invariant
+          c.put_text.ensures).0;
+      upper_bound = (digits_wrote c.args.number c.loop-rest.digits c.loop-rest.start c.loop-rest.rest
+          c.loop-rest-test.false c.loop-rest.invariant
+          c.put_text.ensures).1;
+    }

@@ -1,0 +1,19 @@
+-- `texts::refused_line` meets its contract, part by part.
+-- Assumes nothing.
+use Rattle.texts.specs.Texts.{refused_line}
+use Rattle.texts.proofs.WritingLaws.{more, whole}
+use Rattle.texts.proofs.refused_line.Goals as goal
+
+pub returns : goal.returns
+unfolding refused_line
+returns c =
+    record {
+      value = (rw (← c.number.ensures)
+          (whole (more c.put_text-a0.ensures
+          (more c.put_decimal-a1.ensures.wrote
+          c.put.ensures)))).0;
+      out_after = (rw (← c.number.ensures)
+          (whole (more c.put_text-a0.ensures
+          (more c.put_decimal-a1.ensures.wrote
+          c.put.ensures)))).1;
+    }

@@ -1,0 +1,220 @@
+-- `triangles::build_triangles` meets its contract: what was filled is kept where the answer counts it, and cleared elsewhere.
+-- Assumes nothing.
+use lib.ListN.{length}
+use Rattle.triangles.proofs.AnswerLaws.{ready_known, built_answer_lem, groups_settled, ones_settled, twos_settled, threes_settled}
+use Rattle.triangles.proofs.build_triangles.Goals as goal
+
+pub fill-filled-requires : goal.fill-filled-requires
+fill-filled-requires c =
+    let a = c.args in
+    ready_known a.keys.now a.rows (length a.first.now) (length a.second.now) a.edges
+    (length a.groups.now) a.t0.now a.t1.now a.t2.now
+    c.lengths_ok-ok.result
+    c.rows_taken-n.result
+    c.lengths_ok-ok.ensures
+    c.rows_taken-n.ensures
+
+pub returns : goal.returns
+returns c =
+    record {
+      value = (let a = c.args in
+          let f = c.fill-filled.ensures in
+          let l = c.fill-filled.new.1.1.1.1.1 in (
+            built_answer_lem a.keys.now a.rows a.first.now a.second.now a.edges a.groups.now a.t0.now
+                a.t1.now a.t2.now c.lengths_ok-ok.result c.rows_taken-n.result
+                c.fill-filled.result c.answer-listed.result l.0 l.1.0 l.1.1.0 l.1.1.1.0
+                c.lengths_ok-ok.ensures c.rows_taken-n.ensures f.0 f.1.0 f.1.1.0
+                f.1.1.1.0 f.1.1.1.1 c.answer-listed.ensures,
+            (
+              groups_settled a.keys.now a.rows a.first.now a.second.now a.edges a.groups.now
+                  a.t0.now a.t1.now a.t2.now c.lengths_ok-ok.result c.rows_taken-n.result
+                  c.fill-filled.result c.answer-listed.result l.0 l.1.0 l.1.1.0 l.1.1.1.0
+                  c.lengths_ok-ok.ensures c.rows_taken-n.ensures f.0 f.1.0 f.1.1.0
+                  f.1.1.1.0 f.1.1.1.1 c.answer-listed.ensures _ c.kept-numbers.ensures _
+                  c.clear_from_u32.ensures,
+              (
+                ones_settled a.keys.now a.rows a.first.now a.second.now a.edges a.groups.now
+                    a.t0.now a.t1.now a.t2.now c.lengths_ok-ok.result
+                    c.rows_taken-n.result c.fill-filled.result c.answer-listed.result l.0 l.1.0
+                    l.1.1.0 l.1.1.1.0 c.lengths_ok-ok.ensures c.rows_taken-n.ensures
+                    f.0 f.1.0 f.1.1.0 f.1.1.1.0 f.1.1.1.1 c.answer-listed.ensures _
+                    c.count_of-count.ensures _ c.clear_from_u32-2.ensures,
+                (
+                  twos_settled a.keys.now a.rows a.first.now a.second.now a.edges a.groups.now
+                      a.t0.now a.t1.now a.t2.now c.lengths_ok-ok.result
+                      c.rows_taken-n.result c.fill-filled.result c.answer-listed.result l.0 l.1.0
+                      l.1.1.0 l.1.1.1.0 c.lengths_ok-ok.ensures c.rows_taken-n.ensures
+                      f.0 f.1.0 f.1.1.0 f.1.1.1.0 f.1.1.1.1 c.answer-listed.ensures _
+                      c.count_of-count.ensures _
+                      c.clear_from_u32-3.ensures,
+                  threes_settled a.keys.now a.rows a.first.now a.second.now a.edges a.groups.now
+                      a.t0.now a.t1.now a.t2.now c.lengths_ok-ok.result
+                      c.rows_taken-n.result c.fill-filled.result c.answer-listed.result l.0 l.1.0
+                      l.1.1.0 l.1.1.1.0 c.lengths_ok-ok.ensures c.rows_taken-n.ensures
+                      f.0 f.1.0 f.1.1.0 f.1.1.1.0 f.1.1.1.1 c.answer-listed.ensures _
+                      c.count_of-count.ensures _ c.clear_from_u32-4.ensures,
+                ),
+              ),
+            ),
+          )).0;
+      groups_after = (let a = c.args in
+          let f = c.fill-filled.ensures in
+          let l = c.fill-filled.new.1.1.1.1.1 in (
+            built_answer_lem a.keys.now a.rows a.first.now a.second.now a.edges a.groups.now a.t0.now
+                a.t1.now a.t2.now c.lengths_ok-ok.result c.rows_taken-n.result
+                c.fill-filled.result c.answer-listed.result l.0 l.1.0 l.1.1.0 l.1.1.1.0
+                c.lengths_ok-ok.ensures c.rows_taken-n.ensures f.0 f.1.0 f.1.1.0
+                f.1.1.1.0 f.1.1.1.1 c.answer-listed.ensures,
+            (
+              groups_settled a.keys.now a.rows a.first.now a.second.now a.edges a.groups.now
+                  a.t0.now a.t1.now a.t2.now c.lengths_ok-ok.result c.rows_taken-n.result
+                  c.fill-filled.result c.answer-listed.result l.0 l.1.0 l.1.1.0 l.1.1.1.0
+                  c.lengths_ok-ok.ensures c.rows_taken-n.ensures f.0 f.1.0 f.1.1.0
+                  f.1.1.1.0 f.1.1.1.1 c.answer-listed.ensures _ c.kept-numbers.ensures _
+                  c.clear_from_u32.ensures,
+              (
+                ones_settled a.keys.now a.rows a.first.now a.second.now a.edges a.groups.now
+                    a.t0.now a.t1.now a.t2.now c.lengths_ok-ok.result
+                    c.rows_taken-n.result c.fill-filled.result c.answer-listed.result l.0 l.1.0
+                    l.1.1.0 l.1.1.1.0 c.lengths_ok-ok.ensures c.rows_taken-n.ensures
+                    f.0 f.1.0 f.1.1.0 f.1.1.1.0 f.1.1.1.1 c.answer-listed.ensures _
+                    c.count_of-count.ensures _ c.clear_from_u32-2.ensures,
+                (
+                  twos_settled a.keys.now a.rows a.first.now a.second.now a.edges a.groups.now
+                      a.t0.now a.t1.now a.t2.now c.lengths_ok-ok.result
+                      c.rows_taken-n.result c.fill-filled.result c.answer-listed.result l.0 l.1.0
+                      l.1.1.0 l.1.1.1.0 c.lengths_ok-ok.ensures c.rows_taken-n.ensures
+                      f.0 f.1.0 f.1.1.0 f.1.1.1.0 f.1.1.1.1 c.answer-listed.ensures _
+                      c.count_of-count.ensures _
+                      c.clear_from_u32-3.ensures,
+                  threes_settled a.keys.now a.rows a.first.now a.second.now a.edges a.groups.now
+                      a.t0.now a.t1.now a.t2.now c.lengths_ok-ok.result
+                      c.rows_taken-n.result c.fill-filled.result c.answer-listed.result l.0 l.1.0
+                      l.1.1.0 l.1.1.1.0 c.lengths_ok-ok.ensures c.rows_taken-n.ensures
+                      f.0 f.1.0 f.1.1.0 f.1.1.1.0 f.1.1.1.1 c.answer-listed.ensures _
+                      c.count_of-count.ensures _ c.clear_from_u32-4.ensures,
+                ),
+              ),
+            ),
+          )).1;
+      t0_after = (let a = c.args in
+          let f = c.fill-filled.ensures in
+          let l = c.fill-filled.new.1.1.1.1.1 in (
+            built_answer_lem a.keys.now a.rows a.first.now a.second.now a.edges a.groups.now a.t0.now
+                a.t1.now a.t2.now c.lengths_ok-ok.result c.rows_taken-n.result
+                c.fill-filled.result c.answer-listed.result l.0 l.1.0 l.1.1.0 l.1.1.1.0
+                c.lengths_ok-ok.ensures c.rows_taken-n.ensures f.0 f.1.0 f.1.1.0
+                f.1.1.1.0 f.1.1.1.1 c.answer-listed.ensures,
+            (
+              groups_settled a.keys.now a.rows a.first.now a.second.now a.edges a.groups.now
+                  a.t0.now a.t1.now a.t2.now c.lengths_ok-ok.result c.rows_taken-n.result
+                  c.fill-filled.result c.answer-listed.result l.0 l.1.0 l.1.1.0 l.1.1.1.0
+                  c.lengths_ok-ok.ensures c.rows_taken-n.ensures f.0 f.1.0 f.1.1.0
+                  f.1.1.1.0 f.1.1.1.1 c.answer-listed.ensures _ c.kept-numbers.ensures _
+                  c.clear_from_u32.ensures,
+              (
+                ones_settled a.keys.now a.rows a.first.now a.second.now a.edges a.groups.now
+                    a.t0.now a.t1.now a.t2.now c.lengths_ok-ok.result
+                    c.rows_taken-n.result c.fill-filled.result c.answer-listed.result l.0 l.1.0
+                    l.1.1.0 l.1.1.1.0 c.lengths_ok-ok.ensures c.rows_taken-n.ensures
+                    f.0 f.1.0 f.1.1.0 f.1.1.1.0 f.1.1.1.1 c.answer-listed.ensures _
+                    c.count_of-count.ensures _ c.clear_from_u32-2.ensures,
+                (
+                  twos_settled a.keys.now a.rows a.first.now a.second.now a.edges a.groups.now
+                      a.t0.now a.t1.now a.t2.now c.lengths_ok-ok.result
+                      c.rows_taken-n.result c.fill-filled.result c.answer-listed.result l.0 l.1.0
+                      l.1.1.0 l.1.1.1.0 c.lengths_ok-ok.ensures c.rows_taken-n.ensures
+                      f.0 f.1.0 f.1.1.0 f.1.1.1.0 f.1.1.1.1 c.answer-listed.ensures _
+                      c.count_of-count.ensures _
+                      c.clear_from_u32-3.ensures,
+                  threes_settled a.keys.now a.rows a.first.now a.second.now a.edges a.groups.now
+                      a.t0.now a.t1.now a.t2.now c.lengths_ok-ok.result
+                      c.rows_taken-n.result c.fill-filled.result c.answer-listed.result l.0 l.1.0
+                      l.1.1.0 l.1.1.1.0 c.lengths_ok-ok.ensures c.rows_taken-n.ensures
+                      f.0 f.1.0 f.1.1.0 f.1.1.1.0 f.1.1.1.1 c.answer-listed.ensures _
+                      c.count_of-count.ensures _ c.clear_from_u32-4.ensures,
+                ),
+              ),
+            ),
+          )).2;
+      t1_after = (let a = c.args in
+          let f = c.fill-filled.ensures in
+          let l = c.fill-filled.new.1.1.1.1.1 in (
+            built_answer_lem a.keys.now a.rows a.first.now a.second.now a.edges a.groups.now a.t0.now
+                a.t1.now a.t2.now c.lengths_ok-ok.result c.rows_taken-n.result
+                c.fill-filled.result c.answer-listed.result l.0 l.1.0 l.1.1.0 l.1.1.1.0
+                c.lengths_ok-ok.ensures c.rows_taken-n.ensures f.0 f.1.0 f.1.1.0
+                f.1.1.1.0 f.1.1.1.1 c.answer-listed.ensures,
+            (
+              groups_settled a.keys.now a.rows a.first.now a.second.now a.edges a.groups.now
+                  a.t0.now a.t1.now a.t2.now c.lengths_ok-ok.result c.rows_taken-n.result
+                  c.fill-filled.result c.answer-listed.result l.0 l.1.0 l.1.1.0 l.1.1.1.0
+                  c.lengths_ok-ok.ensures c.rows_taken-n.ensures f.0 f.1.0 f.1.1.0
+                  f.1.1.1.0 f.1.1.1.1 c.answer-listed.ensures _ c.kept-numbers.ensures _
+                  c.clear_from_u32.ensures,
+              (
+                ones_settled a.keys.now a.rows a.first.now a.second.now a.edges a.groups.now
+                    a.t0.now a.t1.now a.t2.now c.lengths_ok-ok.result
+                    c.rows_taken-n.result c.fill-filled.result c.answer-listed.result l.0 l.1.0
+                    l.1.1.0 l.1.1.1.0 c.lengths_ok-ok.ensures c.rows_taken-n.ensures
+                    f.0 f.1.0 f.1.1.0 f.1.1.1.0 f.1.1.1.1 c.answer-listed.ensures _
+                    c.count_of-count.ensures _ c.clear_from_u32-2.ensures,
+                (
+                  twos_settled a.keys.now a.rows a.first.now a.second.now a.edges a.groups.now
+                      a.t0.now a.t1.now a.t2.now c.lengths_ok-ok.result
+                      c.rows_taken-n.result c.fill-filled.result c.answer-listed.result l.0 l.1.0
+                      l.1.1.0 l.1.1.1.0 c.lengths_ok-ok.ensures c.rows_taken-n.ensures
+                      f.0 f.1.0 f.1.1.0 f.1.1.1.0 f.1.1.1.1 c.answer-listed.ensures _
+                      c.count_of-count.ensures _
+                      c.clear_from_u32-3.ensures,
+                  threes_settled a.keys.now a.rows a.first.now a.second.now a.edges a.groups.now
+                      a.t0.now a.t1.now a.t2.now c.lengths_ok-ok.result
+                      c.rows_taken-n.result c.fill-filled.result c.answer-listed.result l.0 l.1.0
+                      l.1.1.0 l.1.1.1.0 c.lengths_ok-ok.ensures c.rows_taken-n.ensures
+                      f.0 f.1.0 f.1.1.0 f.1.1.1.0 f.1.1.1.1 c.answer-listed.ensures _
+                      c.count_of-count.ensures _ c.clear_from_u32-4.ensures,
+                ),
+              ),
+            ),
+          )).3;
+      t2_after = (let a = c.args in
+          let f = c.fill-filled.ensures in
+          let l = c.fill-filled.new.1.1.1.1.1 in (
+            built_answer_lem a.keys.now a.rows a.first.now a.second.now a.edges a.groups.now a.t0.now
+                a.t1.now a.t2.now c.lengths_ok-ok.result c.rows_taken-n.result
+                c.fill-filled.result c.answer-listed.result l.0 l.1.0 l.1.1.0 l.1.1.1.0
+                c.lengths_ok-ok.ensures c.rows_taken-n.ensures f.0 f.1.0 f.1.1.0
+                f.1.1.1.0 f.1.1.1.1 c.answer-listed.ensures,
+            (
+              groups_settled a.keys.now a.rows a.first.now a.second.now a.edges a.groups.now
+                  a.t0.now a.t1.now a.t2.now c.lengths_ok-ok.result c.rows_taken-n.result
+                  c.fill-filled.result c.answer-listed.result l.0 l.1.0 l.1.1.0 l.1.1.1.0
+                  c.lengths_ok-ok.ensures c.rows_taken-n.ensures f.0 f.1.0 f.1.1.0
+                  f.1.1.1.0 f.1.1.1.1 c.answer-listed.ensures _ c.kept-numbers.ensures _
+                  c.clear_from_u32.ensures,
+              (
+                ones_settled a.keys.now a.rows a.first.now a.second.now a.edges a.groups.now
+                    a.t0.now a.t1.now a.t2.now c.lengths_ok-ok.result
+                    c.rows_taken-n.result c.fill-filled.result c.answer-listed.result l.0 l.1.0
+                    l.1.1.0 l.1.1.1.0 c.lengths_ok-ok.ensures c.rows_taken-n.ensures
+                    f.0 f.1.0 f.1.1.0 f.1.1.1.0 f.1.1.1.1 c.answer-listed.ensures _
+                    c.count_of-count.ensures _ c.clear_from_u32-2.ensures,
+                (
+                  twos_settled a.keys.now a.rows a.first.now a.second.now a.edges a.groups.now
+                      a.t0.now a.t1.now a.t2.now c.lengths_ok-ok.result
+                      c.rows_taken-n.result c.fill-filled.result c.answer-listed.result l.0 l.1.0
+                      l.1.1.0 l.1.1.1.0 c.lengths_ok-ok.ensures c.rows_taken-n.ensures
+                      f.0 f.1.0 f.1.1.0 f.1.1.1.0 f.1.1.1.1 c.answer-listed.ensures _
+                      c.count_of-count.ensures _
+                      c.clear_from_u32-3.ensures,
+                  threes_settled a.keys.now a.rows a.first.now a.second.now a.edges a.groups.now
+                      a.t0.now a.t1.now a.t2.now c.lengths_ok-ok.result
+                      c.rows_taken-n.result c.fill-filled.result c.answer-listed.result l.0 l.1.0
+                      l.1.1.0 l.1.1.1.0 c.lengths_ok-ok.ensures c.rows_taken-n.ensures
+                      f.0 f.1.0 f.1.1.0 f.1.1.1.0 f.1.1.1.1 c.answer-listed.ensures _
+                      c.count_of-count.ensures _ c.clear_from_u32-4.ensures,
+                ),
+              ),
+            ),
+          )).4;
+    }

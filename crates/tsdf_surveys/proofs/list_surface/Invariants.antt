@@ -1,0 +1,21 @@
+-- `tsdf_surveys::list_surface` meets its contract: what is left of the rows is written after what was.
+-- Assumes nothing.
+use mathlib.Core.Path.{◌≡◌}
+use Prim.Native.Nat.{◌+◌, ◌-◌, ◌≤◌}
+use native.Mathlib.Omega.{arith}
+use lib.ListN.{length}
+use lib.Seq.{sets}
+use Rattle.table.specs.Table.{rows_of}
+use Rattle.tsdf_surveys.specs.Surface.{surface_keys}
+use Rattle.tsdf_surveys.proofs.RowByRow.{rest}
+use Rattle.tsdf_surveys.proofs.list_surface.Given as goal
+
+abbrev pub invariant-loop-i : goal.invariant-loop-i
+invariant-loop-i l = (l.i ≤ l.count)
+    × (l.n ≤ l.i)
+    × (length (surface_keys l.threshold (rows_of l.keys l.distances l.weights l.count)) ≡ l.n + length (surface_keys l.threshold (rest l.keys l.distances l.weights l.count l.i)))
+    × (sets l.initial.out 0 (surface_keys l.threshold (rows_of l.keys l.distances l.weights l.count)) ≡ sets l.out l.n (surface_keys l.threshold (rest l.keys l.distances l.weights l.count l.i)))
+    × (length l.out ≡ length l.initial.out)
+
+abbrev pub decreases-loop-i : goal.decreases-loop-i
+decreases-loop-i l = l.count - l.i

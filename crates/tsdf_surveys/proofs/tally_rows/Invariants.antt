@@ -1,0 +1,17 @@
+-- `tsdf_surveys::tally_rows` meets its contract: what is left of the rows, tallied onto what was, says what all say.
+-- Assumes nothing.
+use mathlib.Core.Path.{◌≡◌}
+use Prim.Native.Nat.{◌-◌, ◌≤◌}
+use native.Mathlib.Omega.{arith}
+use Rattle.table.specs.Table.{rows_of}
+use Rattle.tsdf_surveys.specs.Statistics.{no_tally, tallied_all}
+use Rattle.tsdf_surveys.proofs.RowByRow.{rest}
+use Rattle.tsdf_surveys.proofs.tally_rows.Given as goal
+
+abbrev pub invariant-loop-i : goal.invariant-loop-i
+invariant-loop-i l = (l.i ≤ l.count)
+    × (l.sum.near ≤ l.i)
+    × (tallied_all l.near no_tally (rows_of l.keys l.distances l.weights l.count) ≡ tallied_all l.near l.sum (rest l.keys l.distances l.weights l.count l.i))
+
+abbrev pub decreases-loop-i : goal.decreases-loop-i
+decreases-loop-i l = l.count - l.i

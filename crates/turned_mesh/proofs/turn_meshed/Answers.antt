@@ -1,0 +1,15 @@
+-- `turned_mesh::turn_meshed` meets its contract: each answer is a line of the definition.
+-- Assumes nothing.
+use Rattle.turned_mesh.proofs.turn_meshed.Goals as goal
+
+pub turn_triangles-requires : goal.turn_triangles-requires
+turn_triangles-requires c = c.requires _ _ c.in-Done.is
+
+pub returns-in-Done : goal.returns-in-Done
+returns-in-Done c =
+    let turned = c.turn_triangles.ensures in
+    let told = c.in-Done.is in
+    record {
+      t1_after = rw told turned.0;
+      t2_after = rw told turned.1;
+    }

@@ -1,0 +1,76 @@
+-- `vertices::list_normals` meets its contract: what is left of the edges says what all of them say.
+use Prim.Native.Nat.{◌≤◌, ◌<◌, ◌-◌, min}
+use mathlib.Core.Path.{refl, ◌∙◌}
+use native.Mathlib.Omega.{arith}
+use lib.ListN.{length}
+use Rattle.slopes.specs.declared.Normal.{Normal}
+use Rattle.slopes.specs.Stored.{distance_by}
+use Rattle.vertices.proofs.Columns.{column_more, column_done, normal_next, normals_end}
+use Rattle.vertices.proofs.list_normals.Goals as goal
+
+pub loop-i-init : goal.loop-i-init
+loop-i-init c = (c.least-n.ensures, c.compute_normal-normal.ensures, refl, refl, refl, refl, refl, refl)
+
+pub offset_bounds-first-i : goal.offset_bounds-first-i
+offset_bounds-first-i c = omega (arith, c.loop-i.invariant.0)
+
+pub bounds-first-i : goal.bounds-first-i
+bounds-first-i c = omega (arith, c.loop-i.invariant.0)
+
+pub next_normal-normal-requires : goal.next_normal-normal-requires
+next_normal-normal-requires c = c.loop-i.invariant.1
+
+pub overflow_add-i : goal.overflow_add-i
+overflow_add-i c =
+    let bound = c.loop-i.invariant.0 in
+    omega (arith, bound)
+
+pub loop-i-smaller : goal.loop-i-smaller
+loop-i-smaller c = omega arith
+
+pub loop-i-preserved : goal.loop-i-preserved
+loop-i-preserved c =
+    let v = c.loop-i.invariant in
+    let i = c.loop-i.i in
+    let a = c.args in
+    let h : i < min a.edges (length a.first.now) = omega (arith, v.0, c.loop-i-test.true) in
+    let t = c.next_normal-normal.ensures in
+    let next = normal_next (distance_by a.keys.now a.distances.now a.count) a.voxel-size.0 a.edges a.first.now i h in
+    let nx = c.put.ensures in
+    let ny = c.put-in-loop-i.ensures in
+    let nz = c.put-in-loop-i-2.ensures in (
+      v.0,
+      t,
+      c.put.auto.0 ∙ v.2,
+      c.put-in-loop-i.auto.0 ∙ v.3,
+      c.put-in-loop-i-2.auto.0 ∙ v.4,
+      v.5 ∙ column_more (λ (u : Normal). u.x) _ i _ _ _ _ next (nx ∙ rw t),
+      v.6 ∙ column_more (λ (u : Normal). u.y) _ i _ _ _ _ next (ny ∙ rw t),
+      v.7 ∙ column_more (λ (u : Normal). u.z) _ i _ _ _ _ next (nz ∙ rw t),
+    )
+
+pub returns : goal.returns
+returns c =
+    record {
+      nx_after = (let v = c.loop-i.invariant in
+          let a = c.args in
+          let h : min a.edges (length a.first.now) ≤ c.loop-i.i = omega (arith, v.0) in
+          let end = normals_end (distance_by a.keys.now a.distances.now a.count) a.voxel-size.0 a.edges a.first.now c.loop-i.i h in (
+            column_done (λ (u : Normal). u.x) _ c.loop-i.i _ _ v.5 end,
+            (column_done (λ (u : Normal). u.y) _ c.loop-i.i _ _ v.6 end, column_done (λ (u : Normal). u.z) _ c.loop-i.i _ _ v.7 end),
+          )).0;
+      ny_after = (let v = c.loop-i.invariant in
+          let a = c.args in
+          let h : min a.edges (length a.first.now) ≤ c.loop-i.i = omega (arith, v.0) in
+          let end = normals_end (distance_by a.keys.now a.distances.now a.count) a.voxel-size.0 a.edges a.first.now c.loop-i.i h in (
+            column_done (λ (u : Normal). u.x) _ c.loop-i.i _ _ v.5 end,
+            (column_done (λ (u : Normal). u.y) _ c.loop-i.i _ _ v.6 end, column_done (λ (u : Normal). u.z) _ c.loop-i.i _ _ v.7 end),
+          )).1;
+      nz_after = (let v = c.loop-i.invariant in
+          let a = c.args in
+          let h : min a.edges (length a.first.now) ≤ c.loop-i.i = omega (arith, v.0) in
+          let end = normals_end (distance_by a.keys.now a.distances.now a.count) a.voxel-size.0 a.edges a.first.now c.loop-i.i h in (
+            column_done (λ (u : Normal). u.x) _ c.loop-i.i _ _ v.5 end,
+            (column_done (λ (u : Normal). u.y) _ c.loop-i.i _ _ v.6 end, column_done (λ (u : Normal). u.z) _ c.loop-i.i _ _ v.7 end),
+          )).2;
+    }
