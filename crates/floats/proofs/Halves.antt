@@ -58,6 +58,8 @@ pub record Cut (y : Float) (M d : ℕ) : Type 0 where
 
 pub cut : (y : Float) (M d : ℕ) → 0 < d → M < 2 ^ 32 * d → HasValue y false (M * d + M * d) (d * d) → Cut y M d
 unfolding lt to_unsigned
+cut nan M d D h v = elim v [ ]
+cut (inf _) M d D h v = elim v [ ]
 cut (fin true n g) M d D h v = absurd (true≢false v.0)
 cut (fin false n g) M d D h v =
     let N = n * up g in

@@ -4,9 +4,6 @@ use lib.Ieee.{binary32, fits, of_bits, neg}
 use Rattle.floats.proofs.Signs.{sign_nan, number, sign_clear, sign_set}
 use Rattle.floats.proofs.sign.Goals as goal
 
-held : (c : goal.Start) → T (fits binary32 c.args.x)
-held c = subst T (sym c.well-formed.0.1) tt
-
 pub returns-then-x : goal.returns-then-x
 returns-then-x c = sign_nan c.args.x c.if-x.true
 
@@ -15,8 +12,8 @@ float_to_bits-x c = subst (λ (b : Bool). T (not b)) (sym (number c.args.x c.if-
 
 pub returns-then-x-lt2147483648 : goal.returns-then-x-lt2147483648
 unfolding of_bits neg
-returns-then-x-lt2147483648 c = let s = c.before.before in sign_clear s.args.x (held s) (number s.args.x c.if-x.false) c.if-x-lt2147483648.true
+returns-then-x-lt2147483648 c = sign_clear c.args.x (subst T (sym c.well_formed.0.1) tt) (number c.args.x c.if-x.false) c.if-x-lt2147483648.true
 
 pub returns-else-x-lt2147483648 : goal.returns-else-x-lt2147483648
 unfolding of_bits neg
-returns-else-x-lt2147483648 c = let s = c.before.before in sign_set s.args.x (held s) (number s.args.x c.if-x.false) c.if-x-lt2147483648.false
+returns-else-x-lt2147483648 c = sign_set c.args.x (subst T (sym c.well_formed.0.1) tt) (number c.args.x c.if-x.false) c.if-x-lt2147483648.false

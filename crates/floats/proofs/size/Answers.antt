@@ -4,12 +4,9 @@ use lib.Ieee.{binary32, fits, of_bits}
 use Rattle.floats.proofs.Signs.{size_zero, size_below, size_else}
 use Rattle.floats.proofs.size.Goals as goal
 
-held : (c : goal.Start) → T (fits binary32 c.args.x)
-held c = subst T (sym c.well-formed.0.1) tt
-
 pub returns-then-x : goal.returns-then-x
 unfolding of_bits
-returns-then-x c = size_zero c.args.x (held c.before) c.if-x.true
+returns-then-x c = size_zero c.args.x (subst T (sym c.well_formed.0.1) tt) c.if-x.true
 
 pub returns-then-x-2 : goal.returns-then-x-2
 unfolding of_bits
