@@ -14,11 +14,11 @@ use Rattle.batches.proofs.batch_sound.Goals as goal
 
 -- there are no more far readings than readings, and those are counted in a usize
 few : (s : goal.Start) (n : ℕ)
-    → far_up_to s.args.settings (entries s.args.batch-keys.now s.args.batch-distances.now s.args.batch-confidences.now) n
-    ≤ length s.args.batch-keys.now
+    → far_up_to s.args.settings (entries s.args.batch_keys.now s.args.batch_distances.now s.args.batch_confidences.now) n
+    ≤ length s.args.batch_keys.now
 few s n =
-    rw (by_length entry s.args.batch-keys.now s.args.batch-distances.now s.args.batch-confidences.now s.requires.batch_distances_len.0 s.requires.batch_distances_len.1) at
-    (far_few s.args.settings (entries s.args.batch-keys.now s.args.batch-distances.now s.args.batch-confidences.now) n)
+    rw (by_length entry s.args.batch_keys.now s.args.batch_distances.now s.args.batch_confidences.now s.requires.batch_distances_len.0 s.requires.batch_distances_len.1) at
+    (far_few s.args.settings (entries s.args.batch_keys.now s.args.batch_distances.now s.args.batch_confidences.now) n)
 
 more_far : {a b c : ℕ} (m : ℕ) → a ≡ b → c ≡ b + m → a + m ≡ c
 more_far m p q = rw p (sym q)

@@ -43,7 +43,7 @@ returns-in-Refused c =
       ← c.lengths_ok-fits.ensures,
       ← c.check_with.ensures,
       c.in-Refused.is,
-      c.Counts-of.ensures,
+      c.counts_of.ensures,
     )
 
 pub returns-in-Passed : goal.returns-in-Passed

@@ -9,13 +9,13 @@ use Rattle.bcc_utils.proofs.snap_place.Goals as goal
 
 pub returns-in-Refused : goal.returns-in-Refused
 unfolding place_snapped
-returns-in-Refused c = rw (← c.Cells-of.ensures, c.in-Refused.is)
+returns-in-Refused c = rw (← c.cells_of.ensures, c.in-Refused.is)
 
 pub returns-in-Refused-cells_of : goal.returns-in-Refused-cells_of
 unfolding place_snapped
 returns-in-Refused-cells_of c =
     rw (
-      ← c.Cells-of.ensures,
+      ← c.cells_of.ensures,
       c.in-Whole.is,
       ← c.cells_of-in-Whole.ensures,
       c.in-Refused-cells_of.is,
@@ -25,7 +25,7 @@ pub returns-in-Refused-cells_of-2 : goal.returns-in-Refused-cells_of-2
 unfolding place_snapped
 returns-in-Refused-cells_of-2 c =
     rw (
-      ← c.Cells-of.ensures,
+      ← c.cells_of.ensures,
       c.in-Whole.is,
       ← c.cells_of-in-Whole.ensures,
       c.in-Whole-cells_of.is,
@@ -44,7 +44,7 @@ returns-in-Whole-cells_of-2 c =
     let hd : to_z w32 (of_z w32 d) ≡ d = search rules in
     rw (
       c.snap_to_nearest_bcc.ensures,
-      ← c.Cells-of.ensures,
+      ← c.cells_of.ensures,
       c.in-Whole.is,
       ← c.cells_of-in-Whole.ensures,
       c.in-Whole-cells_of.is,

@@ -1,4 +1,5 @@
 -- `corners::triangles_ok` meets its contract: the entries that are left pass exactly when all do.
+use Rattle.std.proofs.Common.{ap, not}
 use Prim.Native.Nat.{◌-◌}
 use mathlib.Core.Path.{refl, sym, ◌∙◌}
 use native.Mathlib.Omega.{arith}
@@ -34,7 +35,7 @@ returns-then-not-triangle_ok c =
     sym (c.loop-i.invariant.1
     ∙ fails triangle 0 _ _ _ _ c.requires _ (triangle_ok c.args.vertices)
     c.loop-i-test.true
-    (no c.triangle_ok.ensures c.if-not-triangle_ok.true))
+    (no c.triangle_ok.ensures (ap not c.if-not-triangle_ok.true)))
 
 pub loop-i-preserved : goal.loop-i-preserved
 loop-i-preserved c = (
@@ -42,7 +43,7 @@ loop-i-preserved c = (
   c.loop-i.invariant.1
       ∙ passes triangle 0 _ _ _ _ c.requires _ (triangle_ok c.args.vertices)
       c.loop-i-test.true
-      (yes c.triangle_ok.ensures c.if-not-triangle_ok.false),
+      (yes c.triangle_ok.ensures (ap not c.if-not-triangle_ok.false)),
 )
 
 pub returns : goal.returns

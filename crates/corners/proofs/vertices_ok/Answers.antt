@@ -1,4 +1,5 @@
 -- `corners::vertices_ok` meets its contract: the entries that are left pass exactly when all do.
+use Rattle.std.proofs.Common.{ap, not}
 use Prim.Native.Nat.{◌-◌}
 use mathlib.Core.Path.{refl, sym, ◌∙◌}
 use native.Mathlib.Omega.{arith}
@@ -34,14 +35,14 @@ pub returns-then-not-vertex_ok : goal.returns-then-not-vertex_ok
 returns-then-not-vertex_ok c =
     sym (c.loop-i.invariant.1
     ∙ fails vertex nan _ _ _ _ c.requires _ vertex_ok c.loop-i-test.true
-    (no c.vertex_ok.ensures c.if-not-vertex_ok.true))
+    (no c.vertex_ok.ensures (ap not c.if-not-vertex_ok.true)))
 
 pub loop-i-preserved : goal.loop-i-preserved
 loop-i-preserved c = (
   omega arith,
   c.loop-i.invariant.1
       ∙ passes vertex nan _ _ _ _ c.requires _ vertex_ok c.loop-i-test.true
-      (yes c.vertex_ok.ensures c.if-not-vertex_ok.false),
+      (yes c.vertex_ok.ensures (ap not c.if-not-vertex_ok.false)),
 )
 
 pub returns : goal.returns

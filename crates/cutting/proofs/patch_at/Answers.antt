@@ -1,5 +1,6 @@
 -- `cutting::patch_at` meets its contract: three that are pairwise adjacent are cut, and no others.
 -- Assumes nothing.
+use Rattle.std.proofs.Common.{not}
 use Prim.Native.Nat.{◌<◌}
 use mathlib.Core.Path.{ap, ◌∙◌}
 use native.Mathlib.Omega.{arith}
@@ -16,7 +17,7 @@ unfolding cut_with close triangles_by patch_by triangles_of_patch
 returns-then-not-meets-i c =
     let short : c.args.i < length c.args.cells.now = omega (arith, c.requires.2, c.requires.3, c.requires.4) in
     let il = c.requires.1.told c.args.i c.args.l short (omega (arith, c.requires.2, c.requires.3)) c.requires.4 in
-    rw (c.requires.5, no il c.if-not-meets-i.true)
+    rw (c.requires.5, no il (ap not c.if-not-meets-i.true))
 
 pub returns-then-not-meets-j : goal.returns-then-not-meets-j
 unfolding cut_with close triangles_by patch_by triangles_of_patch
@@ -24,7 +25,7 @@ returns-then-not-meets-j c =
     let short : c.args.i < length c.args.cells.now = omega (arith, c.requires.2, c.requires.3, c.requires.4) in
     let il = c.requires.1.told c.args.i c.args.l short (omega (arith, c.requires.2, c.requires.3)) c.requires.4 in
     let jl = c.requires.1.told c.args.j c.args.l (omega (arith, c.requires.3, c.requires.4)) c.requires.3 c.requires.4 in
-    rw (c.requires.5, yes il c.if-not-meets-i.false, no jl c.if-not-meets-j.true)
+    rw (c.requires.5, yes il (ap not c.if-not-meets-i.false), no jl (ap not c.if-not-meets-j.true))
 
 pub returns : goal.returns
 unfolding cut_with close
@@ -32,5 +33,5 @@ returns c =
     let short : c.args.i < length c.args.cells.now = omega (arith, c.requires.2, c.requires.3, c.requires.4) in
     let il = c.requires.1.told c.args.i c.args.l short (omega (arith, c.requires.2, c.requires.3)) c.requires.4 in
     let jl = c.requires.1.told c.args.j c.args.l (omega (arith, c.requires.3, c.requires.4)) c.requires.3 c.requires.4 in
-    rw (c.requires.5, yes il c.if-not-meets-i.false, yes jl c.if-not-meets-j.false)
+    rw (c.requires.5, yes il (ap not c.if-not-meets-i.false), yes jl (ap not c.if-not-meets-j.false))
     (ap triangles_of_patch c.patch_of.ensures ∙ patch_in _ _ _ c.requires.6 _ _)

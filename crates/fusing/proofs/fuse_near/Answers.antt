@@ -1,5 +1,6 @@
 -- `fusing::fuse_near` meets its contract: a stored key's voxel is changed in place, and a new key is added.
 -- Assumes nothing.
+use Rattle.std.proofs.Common.{ap, not}
 use mathlib.Core.Path.{◌≡◌, sym, ◌∙◌}
 use Prim.Native.Nat.{◌<◌}
 use native.Mathlib.Omega.{arith}
@@ -49,7 +50,7 @@ bounds-weights-i c = (inside c.before.before.before).1
 pub returns-then-not-within : goal.returns-then-not-within
 returns-then-not-within c =
     let at_place = c.before.before.before.before.before.before in
-    too_large _ _ _ _ _ _ _ _ (told (at_place)) _ c.fused_voxel-v.ensures (no c.within.ensures c.if-not-within.true)
+    too_large _ _ _ _ _ _ _ _ (told (at_place)) _ c.fused_voxel-v.ensures (no c.within.ensures (ap not c.if-not-within.true))
 
 pub offset_bounds-distances-i-2 : goal.offset_bounds-distances-i-2
 offset_bounds-distances-i-2 c =
@@ -75,4 +76,4 @@ pub returns : goal.returns
 returns c =
     let at_place = c.before.before.before.before.before.before in
     changed _ _ _ _ _ _ _ _ (told (at_place)) _ c.fused_voxel-v.ensures
-    (yes c.within.ensures c.if-not-within.false) c.requires.count_value c.requires.keys_value
+    (yes c.within.ensures (ap not c.if-not-within.false)) c.requires.count_value c.requires.keys_value

@@ -17,7 +17,7 @@ loop-i-preserved c =
     let l = c.loop-i in
     let more : l.i < c.args.own = c.loop-i-test.true in (
       omega (arith, more),
-      one_held c.args.most c.args.own-weights.now c.args.seats.now l.seats l.i (omega (arith, more, c.requires)) l.invariant.1
+      one_held c.args.most c.args.own_weights.now c.args.seats.now l.seats l.i (omega (arith, more, c.requires)) l.invariant.1
           c.between-stands.result c.between-stands.ensures c.seat_if.result c.seat_if.ensures,
       length-set l.seats l.i c.seat_if.result ∙ l.invariant.2,
     )

@@ -1,5 +1,6 @@
 -- `groups::cell_span` meets its contract.
 -- Assumes nothing.
+use Rattle.std.proofs.Common.{not}
 use mathlib.Core.Path.{ap, ◌∙◌}
 use native.Mathlib.Omega.{arith}
 use Rattle.lists.proofs.Bools.{yes, no}
@@ -13,18 +14,18 @@ use Rattle.groups.proofs.cell_span.Goals as goal
 known : (c : goal.Else-not-is_on_lattice) → let a = c.args in Pairs a.first.now a.second.now a.count
 known c = let a = c.args in
     lists_known a.groups a.first.now a.second.now a.count
-    (yes c.edge_lists_ok.ensures c.if-not-edge_lists_ok.false)
+    (yes c.edge_lists_ok.ensures (ap not c.if-not-edge_lists_ok.false))
 
 pub returns-then-not-edge_lists_ok : goal.returns-then-not-edge_lists_ok
 unfolding cell_span
-returns-then-not-edge_lists_ok c = rw (no c.edge_lists_ok.ensures c.if-not-edge_lists_ok.true)
+returns-then-not-edge_lists_ok c = rw (no c.edge_lists_ok.ensures (ap not c.if-not-edge_lists_ok.true))
 
 pub returns-then-not-is_on_lattice : goal.returns-then-not-is_on_lattice
 unfolding cell_span
 returns-then-not-is_on_lattice c =
     rw (
-      yes c.edge_lists_ok.ensures c.if-not-edge_lists_ok.false,
-      no c.is_on_lattice.ensures c.if-not-is_on_lattice.true,
+      yes c.edge_lists_ok.ensures (ap not c.if-not-edge_lists_ok.false),
+      no c.is_on_lattice.ensures (ap not c.if-not-is_on_lattice.true),
     )
 
 pub count_ends-ends-requires : goal.count_ends-ends-requires
@@ -39,7 +40,7 @@ span_in-requires c =
 pub returns : goal.returns
 unfolding cell_span
 returns c =
-    rw (yes c.edge_lists_ok.ensures c.if-not-edge_lists_ok.false, yes c.is_on_lattice.ensures c.if-not-is_on_lattice.false)
+    rw (yes c.edge_lists_ok.ensures (ap not c.if-not-edge_lists_ok.false), yes c.is_on_lattice.ensures (ap not c.if-not-is_on_lattice.false))
     (c.span_in.ensures
     ∙ ap (λ (x : Ends). span_in x.below x.here c.args.groups)
     c.count_ends-ends.ensures)

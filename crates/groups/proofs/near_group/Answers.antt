@@ -1,5 +1,6 @@
 -- `groups::near_group` meets its contract: the others are the cell's neighbours.
 -- Assumes nothing.
+use Rattle.std.proofs.Common.{not}
 use mathlib.Core.Path.{ap, ◌∙◌}
 use mathlib.Core.List.{List}
 use Prim.Native.Nat.{ℕ}
@@ -18,13 +19,13 @@ use Rattle.groups.proofs.near_group.Goals as goal
 
 pub returns-then-not-pairs_ok : goal.returns-then-not-pairs_ok
 unfolding group_in padded
-returns-then-not-pairs_ok c = rw (no c.pairs_ok.ensures c.if-not-pairs_ok.true)
+returns-then-not-pairs_ok c = rw (no c.pairs_ok.ensures (ap not c.if-not-pairs_ok.true))
 
 pub gather-requires : goal.gather-requires
 gather-requires c =
     let e = c.around-near.ensures in (
       pairs_known c.args.first.now c.args.second.now c.args.count
-          (yes c.pairs_ok.ensures c.if-not-pairs_ok.false),
+          (yes c.pairs_ok.ensures (ap not c.if-not-pairs_ok.false)),
       rw e (at_most_14 c.args.cell),
       rw e (padded_length 0 14 (neighbours c.args.cell) (at_most_14 c.args.cell)),
     )
@@ -34,7 +35,7 @@ unfolding group_in
 returns c =
     let es = edges_in c.args.first.now c.args.second.now c.args.count in
     let cell = c.args.cell in
-    rw (yes c.pairs_ok.ensures c.if-not-pairs_ok.false)
+    rw (yes c.pairs_ok.ensures (ap not c.if-not-pairs_ok.false))
     (c.gather.ensures
     ∙ ap (λ (y : Near). held (gathered (pair_number es cell) (take y.count y.keys))) c.around-near.ensures
     ∙ ap (λ (l : List ℕ). held (gathered (pair_number es cell) l)) (padded_front 0 14 (neighbours cell)))

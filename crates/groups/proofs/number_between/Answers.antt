@@ -1,5 +1,6 @@
 -- `groups::number_between` meets its contract: one of the two keys is the smaller.
 -- Assumes nothing.
+use Rattle.std.proofs.Common.{ap, not}
 use native.Mathlib.Nat.{le_of_lt, min-eq_left, min-eq_right, max-eq_left, max-eq_right}
 use Rattle.lists.proofs.Bools.{yes, no}
 use Rattle.groups.specs.Near.{number_between}
@@ -12,21 +13,21 @@ pub returns-then-not-pairs_ok : goal.returns-then-not-pairs_ok
 unfolding number_between
 returns-then-not-pairs_ok c =
     record {
-      value = rw (no c.pairs_ok.ensures c.if-not-pairs_ok.true);
+      value = rw (no c.pairs_ok.ensures (ap not c.if-not-pairs_ok.true));
       below = tt;
     }
 
 pub edge_number-requires : goal.edge_number-requires
-edge_number-requires c = pairs_known _ _ _ (yes c.pairs_ok.ensures c.if-not-pairs_ok.false)
+edge_number-requires c = pairs_known _ _ _ (yes c.pairs_ok.ensures (ap not c.if-not-pairs_ok.false))
 
 pub edge_number-requires-else-a-b : goal.edge_number-requires-else-a-b
-edge_number-requires-else-a-b c = pairs_known _ _ _ (yes c.pairs_ok.ensures c.if-not-pairs_ok.false)
+edge_number-requires-else-a-b c = pairs_known _ _ _ (yes c.pairs_ok.ensures (ap not c.if-not-pairs_ok.false))
 
 pub returns-then-a-b : goal.returns-then-a-b
 unfolding number_between
 returns-then-a-b c =
     let l = c.if-a-b.true in
-    let known = yes c.pairs_ok.ensures c.if-not-pairs_ok.false in
+    let known = yes c.pairs_ok.ensures (ap not c.if-not-pairs_ok.false) in
     let a = c.args in
     let pairs = pairs_known a.first.now a.second.now a.count known in record {
       value = rw (known, min-eq_left (le_of_lt l), max-eq_right (le_of_lt l), ← c.place_near-place.ensures) c.edge_number.ensures.value;
@@ -37,7 +38,7 @@ pub returns-else-a-b : goal.returns-else-a-b
 unfolding number_between
 returns-else-a-b c =
     let l = c.if-a-b.false in
-    let known = yes c.pairs_ok.ensures c.if-not-pairs_ok.false in
+    let known = yes c.pairs_ok.ensures (ap not c.if-not-pairs_ok.false) in
     let a = c.args in
     let pairs = pairs_known a.first.now a.second.now a.count known in record {
       value = rw (known, min-eq_right l, max-eq_left l, ← c.place_near-place-else-a-b.ensures) c.edge_number-else-a-b.ensures.value;

@@ -1,5 +1,6 @@
 -- `hearing::spread_at` meets its contract, by its tests.
 -- Assumes nothing.
+use Rattle.std.proofs.Common.{ap, not}
 use borrow.Author.Tests.{eq-eqb, ne_eqb}
 use Rattle.lists.proofs.Bools.{yes, no}
 use Rattle.marching.specs.Spreading.{has_spread}
@@ -18,7 +19,7 @@ returns-then-not-is_finite c =
     λ rs ws h.
     rw (
       ne_eqb _ _ c.if-key-from.false,
-      said_none c.known-distance.result _ (c.known-distance.ensures rs ws h) (no c.is_finite.ensures c.if-not-is_finite.true),
+      said_none c.known-distance.result _ (c.known-distance.ensures rs ws h) (no c.is_finite.ensures (ap not c.if-not-is_finite.true)),
     )
 
 pub has_spread-requires : goal.has_spread-requires
@@ -29,6 +30,6 @@ returns c =
     λ rs ws h.
     rw (
       ne_eqb _ _ c.if-key-from.false,
-      said_some c.known-distance.result _ (c.known-distance.ensures rs ws h) (yes c.is_finite.ensures c.if-not-is_finite.false),
+      said_some c.known-distance.result _ (c.known-distance.ensures rs ws h) (yes c.is_finite.ensures (ap not c.if-not-is_finite.false)),
     )
     c.has_spread.ensures

@@ -10,8 +10,8 @@ use borrow.Author.Rules.{rules}
 use Rattle.higher.proofs.gather.Goals as goal
 
 -- the first n of the cells are n
-long : (c : goal.At-loop-i) → let s = c.before.before.before in length (take s.args.n s.args.t5) ≡ s.args.n
-long c = let s = c.before.before.before in length-take-le s.args.n s.args.t5 (omega (arith, s.requires))
+long : (c : goal.At-loop-i) → let s = c.before.before.before in length (take s.args.n s.args.cells) ≡ s.args.n
+long c = let s = c.before.before.before in length-take-le s.args.n s.args.cells (omega (arith, s.requires))
 
 pub loop-i-init : goal.loop-i-init
 loop-i-init c =
@@ -23,7 +23,7 @@ with_higher-places-requires c =
     let l = c.before in
     let k = long l in (
       l.requires.0,
-      gather_roomy _ (take l.args.n l.args.t5) l.loop-i.i _ l.loop-i.invariant.1 c.loop-i-test.true
+      gather_roomy _ (take l.args.n l.args.cells) l.loop-i.i _ l.loop-i.invariant.1 c.loop-i-test.true
           (omega (arith, l.loop-i.invariant.0)) (omega (arith, l.requires)),
     )
 
@@ -35,8 +35,8 @@ loop-i-preserved c =
     let look = found_above l.args.keys.now l.args.weights.now l.args.count l.args.row in
     let low : l.loop-i.i - 1 < l.args.n = omega (arith, l.loop-i.invariant.0) in (
       omega (arith, l.loop-i.invariant.0),
-      gather_turn look (take l.args.n l.args.t5) l.loop-i.i _ l.loop-i.invariant.1 t
-          (omega (arith, l.loop-i.invariant.0)) _ _ (ap look (sym (get_or-take l.args.n l.args.t5 (l.loop-i.i - 1) 0 low))) c.with_higher-places.ensures,
+      gather_turn look (take l.args.n l.args.cells) l.loop-i.i _ l.loop-i.invariant.1 t
+          (omega (arith, l.loop-i.invariant.0)) _ _ (ap look (sym (get_or-take l.args.n l.args.cells (l.loop-i.i - 1) 0 low))) c.with_higher-places.ensures,
     )
 
 pub returns : goal.returns

@@ -10,8 +10,8 @@ use borrow.Author.Rules.{rules}
 use Rattle.higher.proofs.keys_at.Goals as goal
 
 -- the place read is one of the column
-fits : (c : goal.In-loop-i) → let s = c.before.before in get_or s.args.t2 c.loop-i.i 0 < length s.args.keys.now
-fits c = let s = c.before.before in one_below s.args.n s.args.t2 c.loop-i.i c.loop-i-test.true (omega (arith, s.requires)) s.requires.2
+fits : (c : goal.In-loop-i) → let s = c.before.before in get_or s.args.places c.loop-i.i 0 < length s.args.keys.now
+fits c = let s = c.before.before in one_below s.args.n s.args.places c.loop-i.i c.loop-i-test.true (omega (arith, s.requires)) s.requires.2
 
 pub loop-i-init : goal.loop-i-init
 unfolding padded
@@ -30,8 +30,8 @@ pub loop-i-preserved : goal.loop-i-preserved
 loop-i-preserved c =
     let t = c.loop-i-test.true in
     let few : c.loop-i.i < 14 = omega (arith, c.requires) in
-    let more : c.loop-i.i < length c.args.t2 = omega (arith, c.requires) in
-    (search rules, column_turn (key_at c.args.keys.now) 0 c.args.t2 c.loop-i.i _ few more c.loop-i.invariant.1)
+    let more : c.loop-i.i < length c.args.places = omega (arith, c.requires) in
+    (search rules, column_turn (key_at c.args.keys.now) 0 c.args.places c.loop-i.i _ few more c.loop-i.invariant.1)
 
 pub returns : goal.returns
 returns c =

@@ -1,5 +1,6 @@
 -- `higher::places_of` meets its contract: the cells are the neighbours of the row's.
 -- Assumes nothing.
+use Rattle.std.proofs.Common.{not}
 use Prim.Native.Nat.{ℕ}
 use native.Mathlib.Omega.{arith}
 use mathlib.Core.Path.{◌≡◌, ap, ◌∙◌}
@@ -26,11 +27,11 @@ tested c = let a = c.args in ap (λ (b : Bool). b && ltb a.row a.count) c.length
 stands : (c : goal.Else-not-lengths_ok-row) → let a = c.args in AtRow a.keys.now a.weights.now a.count a.row
 stands c =
     let a = c.args in
-    within a.keys.now a.distances a.weights.now a.count a.row (yes (tested c.before) c.if-not-lengths_ok-row.false)
+    within a.keys.now a.distances a.weights.now a.count a.row (yes (tested c.before) (ap not c.if-not-lengths_ok-row.false))
 
 pub returns-then-not-lengths_ok-row : goal.returns-then-not-lengths_ok-row
 unfolding places_in padded
-returns-then-not-lengths_ok-row c = rw (no (tested c.before) c.if-not-lengths_ok-row.true)
+returns-then-not-lengths_ok-row c = rw (no (tested c.before) (ap not c.if-not-lengths_ok-row.true))
 
 pub offset_bounds-keys-row : goal.offset_bounds-keys-row
 offset_bounds-keys-row c = let h = stands c in search rules
@@ -48,6 +49,6 @@ unfolding places_in
 returns c =
     let i = c.before.before.before.before in
     let a = i.args in
-    rw (yes (tested i.before) i.if-not-lengths_ok-row.false)
+    rw (yes (tested i.before) (ap not i.if-not-lengths_ok-row.false))
     (c.gather.ensures
     ∙ ap (λ (l : List ℕ). held (gathered (found_above a.keys.now a.weights.now a.count a.row) l)) (front _ _ c.around-near.ensures))

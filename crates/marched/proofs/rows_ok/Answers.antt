@@ -1,4 +1,5 @@
 -- `marched::rows_ok` meets its contract: the rows that are left pass exactly when all do.
+use Rattle.std.proofs.Common.{ap, not}
 use Prim.Native.Nat.{◌-◌}
 use mathlib.Core.Path.{refl, sym, ◌∙◌}
 use native.Mathlib.Numerals.{add-one}
@@ -14,7 +15,7 @@ pub returns-then-not-row_ok : goal.returns-then-not-row_ok
 returns-then-not-row_ok c =
     sym (c.loop-i.invariant.1
     ∙ fails _ _ _ _ c.requires.1 c.requires.0 c.loop-i-test.true
-    (no c.row_ok.ensures c.if-not-row_ok.true))
+    (no c.row_ok.ensures (ap not c.if-not-row_ok.true)))
 
 pub loop-i-preserved : goal.loop-i-preserved
 loop-i-preserved c = (
@@ -22,7 +23,7 @@ loop-i-preserved c = (
   rw add-one
       (c.loop-i.invariant.1
       ∙ passes _ _ _ _ c.requires.1 c.requires.0 c.loop-i-test.true
-      (yes c.row_ok.ensures c.if-not-row_ok.false)),
+      (yes c.row_ok.ensures (ap not c.if-not-row_ok.false))),
 )
 
 pub returns : goal.returns

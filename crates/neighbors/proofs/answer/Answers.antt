@@ -1,5 +1,6 @@
 -- `neighbors::answer` meets its contract.
 -- Assumes nothing.
+use Rattle.std.proofs.Common.{ap, not}
 use mathlib.Core.Path.{sym, ◌∙◌}
 use borrow.Author.Tests.{not-true, not-false, lt-ltb, le-ltb}
 use Rattle.neighbors.specs.Neighbors.{listed_of}
@@ -11,10 +12,10 @@ returns-then-room-gt-LONGEST_LIST c = rw (lt-ltb _ _ c.if-room-gt-LONGEST_LIST.t
 
 pub returns-then-not-is_on_lattice : goal.returns-then-not-is_on_lattice
 unfolding listed_of
-returns-then-not-is_on_lattice c = rw (le-ltb _ _ c.if-room-gt-LONGEST_LIST.false, sym c.is_on_lattice.ensures ∙ not-true _ c.if-not-is_on_lattice.true)
+returns-then-not-is_on_lattice c = rw (le-ltb _ _ c.if-room-gt-LONGEST_LIST.false, sym c.is_on_lattice.ensures ∙ not-true _ (ap not c.if-not-is_on_lattice.true))
 
 pub returns : goal.returns
 unfolding listed_of
 returns c =
-    let on = sym c.is_on_lattice.ensures ∙ not-false _ c.if-not-is_on_lattice.false in
+    let on = sym c.is_on_lattice.ensures ∙ not-false _ (ap not c.if-not-is_on_lattice.false) in
     rw (le-ltb _ _ c.if-room-gt-LONGEST_LIST.false, on, ← c.requires) c.room_for.ensures

@@ -13,12 +13,12 @@ use Rattle.neighbors.proofs.put.Goals as goal
 
 -- what is stored at i
 value : (c : goal.Joined-i-n)
-    → c.if-i-n.v ≡ get_or (take c.args.n c.args.t1)
+    → c.if-i-n.v ≡ get_or (take c.args.n c.args.keys)
     c.loop-i.i 0
 value c =
     let l = c.before.before in
     let n = l.args.n in
-    let keys = l.args.t1 in
+    let keys = l.args.keys in
     ⊎_elim (λ w. w.1 ∙ sym (get_or-take n keys l.loop-i.i 0 w.0.taken))
     (λ w. w.1 ∙ sym (get_or-eq_default (take n keys) 0 (omega (arith, length-take n keys, w.0.left)))) c.if-i-n.branch
 
@@ -29,7 +29,7 @@ pub loop-i-preserved : goal.loop-i-preserved
 loop-i-preserved c =
     let d = c.args.out.now in
     let n = c.args.n in
-    let keys = c.args.t1 in
+    let keys = c.args.keys in
     let i = c.loop-i.i in
     let t = padded 0 (length d) (take n keys) in
     let le : length (take n keys) ≤ length d = omega (arith, length-take n keys, c.requires) in

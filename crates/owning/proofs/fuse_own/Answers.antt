@@ -13,12 +13,12 @@ use Rattle.owning.proofs.fuse_own.Goals as goal
 
 -- the lists of own rows, and the place of the reading's row
 fit : (s : goal.Start) → (s.args.own ≤ length s.args.own_keys.now)
-    × (length s.args.own-distances.now ≡ length s.args.own_keys.now)
-    × (length s.args.own-weights.now ≡ length s.args.own_keys.now)
+    × (length s.args.own_distances.now ≡ length s.args.own_keys.now)
+    × (length s.args.own_weights.now ≡ length s.args.own_keys.now)
     × (length s.args.own_keys.now ≤ 65536)
 fit s =
-    lengths_known (length s.args.own_keys.now) (length s.args.own-distances.now)
-    (length s.args.own-weights.now) s.args.own s.requires.own_value.0
+    lengths_known (length s.args.own_keys.now) (length s.args.own_distances.now)
+    (length s.args.own_weights.now) s.args.own s.requires.own_value.0
 
 placed : (s : goal.Start) → (0 < s.args.slot) × (s.args.slot - 1 < s.args.own)
     × (get_or s.args.own_keys.now (s.args.slot - 1) 0 ≡ s.args.key)
@@ -61,7 +61,7 @@ returns-in-Near c =
     let r = entry s.args.key s.args.distance s.args.confidence in
     let did = rw c.averaging_of.ensures at c.fuse_place.ensures in record {
       stepped = (λ t added ready room.
-          near_left s.args.settings t s.args.own_keys.now s.args.own-distances.now s.args.own-weights.now
+          near_left s.args.settings t s.args.own_keys.now s.args.own_distances.now s.args.own_weights.now
           s.args.own added ready _ s.args.key o.1 o.2 _ (near_known _ _ _ _ n).1 r refl n s.args.spare room _ _ _ did);
       result_value = near_tells s.args.settings r _ _ _ _ _ _ _ _ _ n did;
     }

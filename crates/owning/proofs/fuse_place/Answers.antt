@@ -1,5 +1,6 @@
 -- `owning::fuse_place` meets its contract: each return is one case of what a reading leaves.
 -- Assumes nothing.
+use Rattle.std.proofs.Common.{not}
 use mathlib.Core.Path.{refl, sym, ap, ◌∙◌}
 use lib.ListN.{set}
 use Rattle.floats.specs.Floats.{million, within}
@@ -22,9 +23,9 @@ returns-then-not-within c =
       refl,
       refl,
       refl,
-      ap (λ (v : Voxel). within million v.distance) (sym e) ∙ no c.within.ensures c.if-not-within.true,
+      ap (λ (v : Voxel). within million v.distance) (sym e) ∙ no c.within.ensures (ap not c.if-not-within.true),
       either _ _ _ c.between-stands.ensures
-          c.if-not-stands-spare.false,
+          (ap not c.if-not-stands-spare.false),
     )
 
 pub returns-then-stands : goal.returns-then-stands
@@ -36,9 +37,9 @@ returns-then-stands c =
       sym c.between-stands.ensures ∙ c.if-stands.true,
       (
         ap (λ (v : Voxel). within million v.distance) (sym e)
-            ∙ yes c.within.ensures c.if-not-within.false,
-        ap (λ (v : Voxel). set c.args.own-distances.now c.args.place v.distance) e,
-        ap (λ (v : Voxel). set c.args.own-weights.now c.args.place v.weight) e,
+            ∙ yes c.within.ensures (ap not c.if-not-within.false),
+        ap (λ (v : Voxel). set c.args.own_distances.now c.args.place v.distance) e,
+        ap (λ (v : Voxel). set c.args.own_weights.now c.args.place v.weight) e,
       ),
     )
 
@@ -49,11 +50,11 @@ returns c =
     after _ _ _ _ _ _ _ c.between-stands.ensures c.old_voxel.ensures
     c.fused_voxel-v.ensures in (
       sym c.between-stands.ensures ∙ c.if-stands.false,
-      other _ _ c.if-not-stands-spare.false c.if-stands.false,
+      other _ _ (ap not c.if-not-stands-spare.false) c.if-stands.false,
       (
         ap (λ (v : Voxel). within million v.distance) (sym e)
-            ∙ yes c.within.ensures c.if-not-within.false,
-        ap (λ (v : Voxel). set c.args.own-distances.now c.args.place v.distance) e,
-        ap (λ (v : Voxel). set c.args.own-weights.now c.args.place v.weight) e,
+            ∙ yes c.within.ensures (ap not c.if-not-within.false),
+        ap (λ (v : Voxel). set c.args.own_distances.now c.args.place v.distance) e,
+        ap (λ (v : Voxel). set c.args.own_weights.now c.args.place v.weight) e,
       ),
     )

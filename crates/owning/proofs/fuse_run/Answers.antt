@@ -19,13 +19,13 @@ use Rattle.owning.proofs.fuse_run.Goals as goal
 
 -- the readings, the one of this turn, and that it stands there
 abbrev readings : (s : goal.Start) → List Entry
-readings s = entries s.args.batch-keys.now s.args.batch-distances.now s.args.batch-confidences.now
+readings s = entries s.args.batch_keys.now s.args.batch_distances.now s.args.batch_confidences.now
 
 abbrev this : (c : goal.In-loop-i) → Entry
 this c =
     let s = c.before.before.before.before.before.before.before.before.before in
     let i = c.loop-i.i in
-    entry (get_or s.args.batch-keys.now i 0) (get_or s.args.batch-distances.now i nan) (get_or s.args.batch-confidences.now i nan)
+    entry (get_or s.args.batch_keys.now i 0) (get_or s.args.batch_distances.now i nan) (get_or s.args.batch_confidences.now i nan)
 
 stands :
     (c : goal.In-loop-i)
@@ -33,7 +33,7 @@ stands :
     ≡ this c ∷ drop (suc c.loop-i.i) (readings c.before.before.before.before.before.before.before.before.before)
 stands c =
     let s = c.before.before.before.before.before.before.before.before.before in
-    entry_at s.args.batch-keys.now s.args.batch-distances.now s.args.batch-confidences.now c.loop-i.i
+    entry_at s.args.batch_keys.now s.args.batch_distances.now s.args.batch_confidences.now c.loop-i.i
     s.requires.own_value.1.1.0.0 s.requires.own_value.1.1.0.1 (omega (arith, c.loop-i-test.true))
 
 pub loop-i-init : goal.loop-i-init
@@ -75,7 +75,7 @@ fuse_own-step-requires c =
       (
         rw (l.invariant.3, l.invariant.4) c.requires.own_value.0,
         subst (λ (j : ℕ).
-            Numbered (take c.args.own c.args.own_keys.now) (get_or c.args.batch-keys.now j 0)
+            Numbered (take c.args.own c.args.own_keys.now) (get_or c.args.batch_keys.now j 0)
             (get_or c.args.slots.now (l.i - c.args.from) 0)) same
             (c.requires.own_value.1.1.1.1 (l.i - c.args.from) inside),
       ),
@@ -102,7 +102,7 @@ loop-i-preserved-in-Far c =
       omega arith,
       at-fuse-own.fuse_own-step.auto.1.1.0 ∙ l.invariant.3,
       at-fuse-own.fuse_own-step.auto.1.1.1.0 ∙ l.invariant.4,
-      passes_over s.args.settings s.args.own_keys.now s.args.own-distances.now s.args.own-weights.now
+      passes_over s.args.settings s.args.own_keys.now s.args.own_distances.now s.args.own_weights.now
           s.args.own s.args.room
           (readings s)
           s.args.from l.i l.added l.own-distances l.own-weights l.invariant.5
@@ -133,7 +133,7 @@ loop-i-preserved-in-Changed c =
       omega arith,
       at-fuse-own.fuse_own-step.auto.1.1.0 ∙ l.invariant.3,
       at-fuse-own.fuse_own-step.auto.1.1.1.0 ∙ l.invariant.4,
-      changes s.args.settings s.args.own_keys.now s.args.own-distances.now s.args.own-weights.now
+      changes s.args.settings s.args.own_keys.now s.args.own_distances.now s.args.own_weights.now
           s.args.own s.args.room
           (readings s)
           s.args.from l.i l.added l.own-distances l.own-weights l.invariant.5
@@ -167,7 +167,7 @@ loop-i-preserved c =
       omega arith,
       at-fuse-own.fuse_own-step.auto.1.1.0 ∙ l.invariant.3,
       at-fuse-own.fuse_own-step.auto.1.1.1.0 ∙ l.invariant.4,
-      adds s.args.settings s.args.own_keys.now s.args.own-distances.now s.args.own-weights.now
+      adds s.args.settings s.args.own_keys.now s.args.own_distances.now s.args.own_weights.now
           s.args.own s.args.room
           (readings s)
           s.args.from l.i l.added l.own-distances l.own-weights l.invariant.5
@@ -186,13 +186,13 @@ returns-in-Unknown c =
     let at-loop = at-loop-test.before in
     let s = at-loop.before.before.before.before.before.before.before.before in
     let l = at-loop.loop-i in (
-      stays s.args.settings s.args.own_keys.now s.args.own-distances.now s.args.own-weights.now
+      stays s.args.settings s.args.own_keys.now s.args.own_distances.now s.args.own_weights.now
           s.args.own s.args.room
           (readings s)
           s.args.from l.i l.added l.own-distances l.own-weights l.invariant.5
           (this at-loop-test) (stands at-loop-test) (ltb l.added s.args.room)
           (λ b. ltb-true l.added s.args.room b) _ _ (omega arith)
-          (rw (by_length entry s.args.batch-keys.now s.args.batch-distances.now s.args.batch-confidences.now
+          (rw (by_length entry s.args.batch_keys.now s.args.batch_distances.now s.args.batch_confidences.now
           s.requires.own_value.1.1.0.0 s.requires.own_value.1.1.0.1) (omega arith))
           (rw c.in-Unknown.is at at-fuse-own.fuse_own-step.ensures.stepped) l.far,
       reached_far s.args.settings (readings s) s.args.from l.i l.far l.invariant.7,
@@ -205,7 +205,7 @@ returns-in-Refused c =
     let at-loop = at-loop-test.before in
     let s = at-loop.before.before.before.before.before.before.before.before in
     let l = at-loop.loop-i in (
-      refuses s.args.settings s.args.own_keys.now s.args.own-distances.now s.args.own-weights.now
+      refuses s.args.settings s.args.own_keys.now s.args.own_distances.now s.args.own_weights.now
           s.args.own s.args.room
           (readings s)
           s.args.from l.i l.added l.own-distances l.own-weights l.invariant.5
@@ -219,11 +219,11 @@ pub returns : goal.returns
 returns c =
     let s = c.before.before.before.before.before.before.before.before.before in
     let l = c.loop-i in (
-      ends s.args.settings s.args.own_keys.now s.args.own-distances.now s.args.own-weights.now
+      ends s.args.settings s.args.own_keys.now s.args.own_distances.now s.args.own_weights.now
           s.args.own s.args.room
           (readings s)
           s.args.from l.i l.added l.own-distances l.own-weights l.invariant.5 (omega arith)
-          (rw (by_length entry s.args.batch-keys.now s.args.batch-distances.now s.args.batch-confidences.now
+          (rw (by_length entry s.args.batch_keys.now s.args.batch_distances.now s.args.batch_confidences.now
           s.requires.own_value.1.1.0.0 s.requires.own_value.1.1.0.1) (omega arith)) l.far,
       reached_far s.args.settings (readings s) s.args.from l.i l.far l.invariant.7,
     )

@@ -20,11 +20,11 @@ fit s = lengths_known (length s.args.keys.now) (length s.args.distances.now) (le
 
 own-fit : (s : goal.Start)
     → (s.args.own ≤ length s.args.own_keys.now)
-    × (length s.args.own-distances.now ≡ length s.args.own_keys.now)
-    × (length s.args.own-weights.now ≡ length s.args.own_keys.now)
+    × (length s.args.own_distances.now ≡ length s.args.own_keys.now)
+    × (length s.args.own_weights.now ≡ length s.args.own_keys.now)
     × (length s.args.own_keys.now ≤ 65536)
 own-fit s =
-    lengths_known (length s.args.own_keys.now) (length s.args.own-distances.now) (length s.args.own-weights.now) s.args.own s.requires.keys_value.1
+    lengths_known (length s.args.own_keys.now) (length s.args.own_distances.now) (length s.args.own_weights.now) s.args.own s.requires.keys_value.1
 
 pub locate-requires : goal.locate-requires
 locate-requires c =

@@ -71,7 +71,7 @@ loop-i-preserved c =
       search rules,
       simp length-set L.invariant.1,
       simp length-set L.invariant.2,
-      copied_more c.args.batch-keys.now c.args.from L.i L.sorted L.places L.invariant.3 (omega arith) (omega arith),
+      copied_more c.args.batch_keys.now c.args.from L.i L.sorted L.places L.invariant.3 (omega arith) (omega arith),
     )
 
 pub returns : goal.returns

@@ -20,19 +20,19 @@ fit s = lengths_known (length s.args.keys.now) (length s.args.distances.now) (le
 
 own-fit : (s : goal.Start)
     → (s.args.own ≤ length s.args.own_keys.now)
-    × (length s.args.own-distances.now ≡ length s.args.own_keys.now)
-    × (length s.args.own-weights.now ≡ length s.args.own_keys.now)
+    × (length s.args.own_distances.now ≡ length s.args.own_keys.now)
+    × (length s.args.own_weights.now ≡ length s.args.own_keys.now)
     × (length s.args.own_keys.now ≤ 65536)
 own-fit s =
-    lengths_known (length s.args.own_keys.now) (length s.args.own-distances.now) (length s.args.own-weights.now) s.args.own s.requires.own_value.0
+    lengths_known (length s.args.own_keys.now) (length s.args.own_distances.now) (length s.args.own_weights.now) s.args.own s.requires.own_value.0
 
 plan : (s : goal.Start) (ss : List ℕ)
-    → ss ≡ held_back s.args.most (take s.args.own s.args.own-weights.now) s.args.seats.now
+    → ss ≡ held_back s.args.most (take s.args.own s.args.own_weights.now) s.args.seats.now
     → Planned s.args.most s.args.keys.now s.args.distances.now s.args.weights.now s.args.count
-    s.args.own_keys.now s.args.own-distances.now s.args.own-weights.now s.args.own ss
+    s.args.own_keys.now s.args.own_distances.now s.args.own_weights.now s.args.own ss
 plan s ss held =
     planned s.args.most s.args.keys.now s.args.distances.now s.args.weights.now s.args.count s.requires.count_value
-    s.args.own_keys.now s.args.own-distances.now s.args.own-weights.now s.args.own s.requires.own_value.0
+    s.args.own_keys.now s.args.own_distances.now s.args.own_weights.now s.args.own s.requires.own_value.0
     s.requires.own_value.1.0.0 s.args.seats.now s.requires.own_value.1.0.1 s.requires.own_value.1.0.2 ss held
 
 pub hold_back-requires : goal.hold_back-requires

@@ -1,5 +1,6 @@
 -- `racing::sow_if` meets its contract, by its test; the marks of a seed have a place once the march has been lightened.
 -- Assumes nothing.
+use Rattle.std.proofs.Common.{ap, not}
 use mathlib.Core.Path.{sym, ◌∙◌}
 use borrow.Author.Tests.{not-false, not-true}
 use Rattle.table.specs.Table.{row}
@@ -8,7 +9,7 @@ use Rattle.racing.proofs.Lightening.{sown_goes}
 use Rattle.racing.proofs.sow_if.Goals as goal
 
 pub returns-then-not-is_seed : goal.returns-then-not-is_seed
-returns-then-not-is_seed c = λ s h new told. sow_if_not _ _ _ _ _ s (sym c.is_seed.ensures ∙ not-true _ c.if-not-is_seed.true) _ _ _ _ _ _ h
+returns-then-not-is_seed c = λ s h new told. sow_if_not _ _ _ _ _ s (sym c.is_seed.ensures ∙ not-true _ (ap not c.if-not-is_seed.true)) _ _ _ _ _ _ h
 
 pub lighten-kind-requires : goal.lighten-kind-requires
 lighten-kind-requires c = (c.requires.lent.1.0, c.requires.key_value.1.1)
@@ -25,7 +26,7 @@ returns c =
     let l = c.lighten-kind in
     let d = c.sow-step in
     λ s h new told.
-    let seeds = sym c.is_seed.ensures ∙ not-false _ c.if-not-is_seed.false in
+    let seeds = sym c.is_seed.ensures ∙ not-false _ (ap not c.if-not-is_seed.false) in
     sown_goes a.lean a.count a.waiting a.keys.now a.distances.now a.estimates.now a.cells.now l.result l.ensures.0
     l.new.1.0 l.new.1.1.0 l.ensures.1 l.auto.1.0 s h a.threshold (row a.key a.distance a.weight) seeds d.result
     d.new.1.1.1.1.1.1.1.0 d.new.1.1.1.1.1.1.1.1.0 d.new.1.1.1.1.1.1.1.1.1.1.0

@@ -10,7 +10,7 @@ use Rattle.root.proofs.root_taken.Goals as goal
 
 -- the format holds the argument
 held : (c : goal.Start) → T (fits binary32 c.args.x)
-held c = subst T (sym c.well-formed.0.1) tt
+held c = subst T (sym c.well_formed.0.1) tt
 
 number : (b : Bool) → b ≡ false → T (not b)
 number b e = subst (λ (t : Bool). T (not t)) (sym e) tt

@@ -1,4 +1,5 @@
 -- `surfaces::all_none` meets its contract: the entries that are left pass exactly when all do.
+use Rattle.std.proofs.Common.{ap, not}
 use Prim.Native.Nat.{◌-◌}
 use mathlib.Core.Path.{refl, sym, ◌∙◌}
 use native.Mathlib.Omega.{arith}
@@ -35,14 +36,14 @@ pub returns-then-not-is_none : goal.returns-then-not-is_none
 returns-then-not-is_none c =
     sym (c.loop-i.invariant.1
     ∙ fails normal nan _ _ _ _ c.requires _ is_none c.loop-i-test.true
-    (no c.is_none.ensures c.if-not-is_none.true))
+    (no c.is_none.ensures (ap not c.if-not-is_none.true)))
 
 pub loop-i-preserved : goal.loop-i-preserved
 loop-i-preserved c = (
   omega arith,
   c.loop-i.invariant.1
       ∙ passes normal nan _ _ _ _ c.requires _ is_none c.loop-i-test.true
-      (yes c.is_none.ensures c.if-not-is_none.false),
+      (yes c.is_none.ensures (ap not c.if-not-is_none.false)),
 )
 
 pub returns : goal.returns

@@ -1,5 +1,6 @@
 -- `surfaces::mesh_stats` meets its contract: the lengths are tested, then the normals are looked at.
 -- Assumes nothing.
+use Rattle.std.proofs.Common.{ap, not}
 use Rattle.lists.proofs.Bools.{yes, no}
 use Rattle.surfaces.specs.Stats.{stats_answer}
 use Rattle.corners.proofs.Sets.{lent}
@@ -7,11 +8,11 @@ use Rattle.surfaces.proofs.mesh_stats.Goals as goal
 
 pub returns-then-not-set_ok : goal.returns-then-not-set_ok
 unfolding stats_answer
-returns-then-not-set_ok c = rw (no c.set_ok.ensures c.if-not-set_ok.true)
+returns-then-not-set_ok c = rw (no c.set_ok.ensures (ap not c.if-not-set_ok.true))
 
 pub all_none-requires : goal.all_none-requires
-all_none-requires c = lent _ _ _ _ (yes c.set_ok.ensures c.if-not-set_ok.false)
+all_none-requires c = lent _ _ _ _ (yes c.set_ok.ensures (ap not c.if-not-set_ok.false))
 
 pub returns : goal.returns
 unfolding stats_answer
-returns c = rw (yes c.set_ok.ensures c.if-not-set_ok.false, c.All-none.ensures)
+returns c = rw (yes c.set_ok.ensures (ap not c.if-not-set_ok.false), c.all_none.ensures)

@@ -1,5 +1,6 @@
 -- `surfaces::surface_area` meets its contract: the lengths are tested, then the vertices and the triangles, then the areas are added up.
 -- Assumes nothing.
+use Rattle.std.proofs.Common.{ap, not}
 use Rattle.lists.proofs.Bools.{yes, no, and_eq, and_second}
 use Rattle.corners.specs.Corners.{every, vertex_ok, vertices_in}
 use Rattle.corners.specs.Steps.{Lent}
@@ -15,11 +16,11 @@ sets-lent c =
     let at-start = c.before.before.before.before.before.before.before.before.before in
     let a = at-start.args in
     both_lent a.px.now a.py.now a.pz.now a.vertices a.t0.now a.t1.now a.t2.now a.triangles
-    (yes (and_eq c.set_ok.ensures c.set_ok-2.ensures) c.if-not-set_ok.false)
+    (yes (and_eq c.set_ok.ensures c.set_ok-2.ensures) (ap not c.if-not-set_ok.false))
 
 pub returns-then-not-set_ok : goal.returns-then-not-set_ok
 unfolding area_answer
-returns-then-not-set_ok c = rw (no (and_eq c.set_ok.ensures c.set_ok-2.ensures) c.if-not-set_ok.true)
+returns-then-not-set_ok c = rw (no (and_eq c.set_ok.ensures c.set_ok-2.ensures) (ap not c.if-not-set_ok.true))
 
 pub vertices_ok-requires : goal.vertices_ok-requires
 vertices_ok-requires c = (sets-lent c).0
@@ -32,8 +33,8 @@ unfolding area_answer
 returns-then-not-vertices_ok-triangles_ok c =
     rw (
       yes (and_eq c.set_ok.ensures
-          c.set_ok-2.ensures) c.if-not-set_ok.false,
-      no (and_eq c.vertices_ok.ensures c.triangles_ok.ensures) c.if-not-vertices_ok-triangles_ok.true,
+          c.set_ok-2.ensures) (ap not c.if-not-set_ok.false),
+      no (and_eq c.vertices_ok.ensures c.triangles_ok.ensures) (ap not c.if-not-vertices_ok-triangles_ok.true),
     )
 
 pub area_of-requires : goal.area_of-requires
@@ -41,15 +42,15 @@ area_of-requires c =
     record {
       lent = (let a = c.args in
           let l = sets-lent c.before.before.before in
-          let p = yes (and_eq c.vertices_ok.ensures c.triangles_ok.ensures) c.if-not-vertices_ok-triangles_ok.false in
+          let p = yes (and_eq c.vertices_ok.ensures c.triangles_ok.ensures) (ap not c.if-not-vertices_ok-triangles_ok.false) in
           (l.0, (l.1, and_second (every vertex_ok (vertices_in a.px.now a.py.now a.pz.now a.vertices)) _ p))).0;
       lent_2 = (let a = c.args in
           let l = sets-lent c.before.before.before in
-          let p = yes (and_eq c.vertices_ok.ensures c.triangles_ok.ensures) c.if-not-vertices_ok-triangles_ok.false in
+          let p = yes (and_eq c.vertices_ok.ensures c.triangles_ok.ensures) (ap not c.if-not-vertices_ok-triangles_ok.false) in
           (l.0, (l.1, and_second (every vertex_ok (vertices_in a.px.now a.py.now a.pz.now a.vertices)) _ p))).1;
       triangles_value = (let a = c.args in
           let l = sets-lent c.before.before.before in
-          let p = yes (and_eq c.vertices_ok.ensures c.triangles_ok.ensures) c.if-not-vertices_ok-triangles_ok.false in
+          let p = yes (and_eq c.vertices_ok.ensures c.triangles_ok.ensures) (ap not c.if-not-vertices_ok-triangles_ok.false) in
           (l.0, (l.1, and_second (every vertex_ok (vertices_in a.px.now a.py.now a.pz.now a.vertices)) _ p))).2;
     }
 
@@ -58,8 +59,8 @@ unfolding area_answer
 returns c =
     rw (
       yes (and_eq c.set_ok.ensures c.set_ok-2.ensures)
-          c.if-not-set_ok.false,
+          (ap not c.if-not-set_ok.false),
       yes (and_eq c.vertices_ok.ensures c.triangles_ok.ensures)
-          c.if-not-vertices_ok-triangles_ok.false,
+          (ap not c.if-not-vertices_ok-triangles_ok.false),
       c.area_of.ensures,
     )

@@ -1,4 +1,5 @@
 -- `table::rows_ok` meets its contract: the rows that are left pass exactly when all do.
+use Rattle.std.proofs.Common.{ap, not}
 use Prim.Native.Nat.{◌-◌}
 use mathlib.Core.Path.{refl, sym, ◌∙◌}
 use native.Mathlib.Omega.{arith}
@@ -25,7 +26,7 @@ returns-then-not-row_ok c =
     sym (c.loop-i.invariant.1
     ∙ fails _ _ _ _ _ _ c.requires.1 c.requires.2 c.requires.0
     c.loop-i-test.true
-    (no c.row_ok.ensures c.if-not-row_ok.true))
+    (no c.row_ok.ensures (ap not c.if-not-row_ok.true)))
 
 pub loop-i-preserved : goal.loop-i-preserved
 loop-i-preserved c = (
@@ -34,7 +35,7 @@ loop-i-preserved c = (
       (c.loop-i.invariant.1
       ∙ passes _ _ _ _ _ _ c.requires.1 c.requires.2 c.requires.0
       c.loop-i-test.true
-      (yes c.row_ok.ensures c.if-not-row_ok.false)),
+      (yes c.row_ok.ensures (ap not c.if-not-row_ok.false))),
 )
 
 pub returns : goal.returns

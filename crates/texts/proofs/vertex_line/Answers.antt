@@ -8,7 +8,7 @@ use Rattle.texts.proofs.vertex_line.Goals as goal
 
 pub put_word-a2-requires : goal.put_word-a2-requires
 unfolding hex_field hex_digits
-put_word-a2-requires c = omega (arith, c.put_word-a1.ensures.ends, c.put-a0.ensures.ends, c.if-at-out.true, c.well-formed.0.1)
+put_word-a2-requires c = omega (arith, c.put_word-a1.ensures.ends, c.put-a0.ensures.ends, c.if-at-out.true, c.well_formed.0.1)
 
 pub put_word-a3-requires : goal.put_word-a3-requires
 unfolding hex_field hex_digits
@@ -19,7 +19,7 @@ put_word-a3-requires c =
       c.put_word-a1.ensures.ends,
       c.put-a0.ensures.ends,
       c.if-at-out.true,
-      c.well-formed.0.1,
+      c.well_formed.0.1,
     )
 
 pub put-requires : goal.put-requires
@@ -32,7 +32,7 @@ put-requires c =
       c.put_word-a1.ensures.ends,
       c.put-a0.ensures.ends,
       c.if-at-out.true,
-      c.well-formed.0.1,
+      c.well_formed.0.1,
     )
 
 pub returns-then-at-out : goal.returns-then-at-out

@@ -1,5 +1,6 @@
 -- `thinning::forget` meets its contract: a mark that says no distance is that of a cell that only waits.
 -- Assumes nothing.
+use Rattle.std.proofs.Common.{ap, not}
 use mathlib.Core.Path.{sym, ◌∙◌}
 use native.Mathlib.Omega.{arith}
 use borrow.Author.Tests.{not-false, not-true}
@@ -23,10 +24,10 @@ pub returns-then-not-is_finite : goal.returns-then-not-is_finite
 returns-then-not-is_finite c =
     λ rs ws h few real.
     forget_waiting _ real rs ws _ _ h _ (sym c.find.ensures ∙ c.in-At.is)
-    (sym c.is_finite.ensures ∙ not-true _ c.if-not-is_finite.true) few _ _ c.leave.ensures
+    (sym c.is_finite.ensures ∙ not-true _ (ap not c.if-not-is_finite.true)) few _ _ c.leave.ensures
 
 pub returns-else-not-is_finite : goal.returns-else-not-is_finite
 returns-else-not-is_finite c =
     λ rs ws h few real.
     forget_stored _ real rs ws _ _ h _ (sym c.find.ensures ∙ c.in-At.is)
-    (sym c.is_finite.ensures ∙ not-false _ c.if-not-is_finite.false)
+    (sym c.is_finite.ensures ∙ not-false _ (ap not c.if-not-is_finite.false))

@@ -1,5 +1,6 @@
 -- `tsdf_questions::row_of` meets its contract: a found place is a place of every list.
 -- Assumes nothing.
+use Rattle.std.proofs.Common.{ap, not}
 use mathlib.Core.Path.{◌≡◌, ◌∙◌, sym}
 use Prim.Native.Nat.{◌<◌}
 use native.Mathlib.Omega.{arith}
@@ -29,13 +30,13 @@ inside c =
 
 pub returns-then-not-is_on_lattice : goal.returns-then-not-is_on_lattice
 unfolding row_of row_if
-returns-then-not-is_on_lattice c = rw (no c.is_on_lattice.ensures c.if-not-is_on_lattice.true)
+returns-then-not-is_on_lattice c = rw (no c.is_on_lattice.ensures (ap not c.if-not-is_on_lattice.true))
 
 pub returns-in_default : goal.returns-in_default
 unfolding row_of row_if row_at
 returns-in_default c =
     rw (
-      yes c.is_on_lattice.ensures c.if-not-is_on_lattice.false,
+      yes c.is_on_lattice.ensures (ap not c.if-not-is_on_lattice.false),
       sym (find_by-find _ _ c.requires.ascends) ∙ sym c.find_row.ensures ∙ c.in_default.is,
     )
 
@@ -53,4 +54,4 @@ bounds-weights-i c = omega (arith, inside c.before.before.before, c.requires.wei
 
 pub returns : goal.returns
 unfolding row_of row_if row_at
-returns c = rw (yes c.is_on_lattice.ensures c.if-not-is_on_lattice.false, told c.before.before.before)
+returns c = rw (yes c.is_on_lattice.ensures (ap not c.if-not-is_on_lattice.false), told c.before.before.before)

@@ -7,12 +7,12 @@ pub returns : goal.returns
 returns c =
     record {
       value = (let e = c.neighbors_index64-answer.ensures in
-          let b = c.List-back.ensures in
+          let b = c.list_back-back.ensures in
           (b.0 ∙ ap listed_number e.0, (e.1, b.1 ∙ ap count_of e.0))).0;
       out_after = (let e = c.neighbors_index64-answer.ensures in
-          let b = c.List-back.ensures in
+          let b = c.list_back-back.ensures in
           (b.0 ∙ ap listed_number e.0, (e.1, b.1 ∙ ap count_of e.0))).1;
       listed_after = (let e = c.neighbors_index64-answer.ensures in
-          let b = c.List-back.ensures in
+          let b = c.list_back-back.ensures in
           (b.0 ∙ ap listed_number e.0, (e.1, b.1 ∙ ap count_of e.0))).2;
     }

@@ -5,4 +5,4 @@ use Rattle.answers.proofs.BackLaws.{both}
 use Rattle.akfelzun.proofs.marching.akf_is_free_space.Goals as goal
 
 pub returns : goal.returns
-returns c = record { value = (both free_number free_found c.is_free_space-found.ensures c.Free-back.ensures).0; yes_after = (both free_number free_found c.is_free_space-found.ensures c.Free-back.ensures).1 }
+returns c = record { value = (both free_number free_found c.is_free_space-found.ensures c.free_back-back.ensures).0; yes_after = (both free_number free_found c.is_free_space-found.ensures c.free_back-back.ensures).1 }

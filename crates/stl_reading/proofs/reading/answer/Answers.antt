@@ -1,5 +1,6 @@
 -- `stl::reading::answer` meets its contract: case by case.
 -- Assumes nothing.
+use Rattle.std.proofs.Common.{ap, not}
 use Prim.Native.Nat.{◌*◌}
 use native.Mathlib.Omega.{arith}
 use mathlib.Core.Path.{refl}
@@ -12,7 +13,7 @@ pub returns-then-not-passed : goal.returns-then-not-passed
 unfolding read_answer
 returns-then-not-passed c =
     let p = c.args.passed in
-    rw (c.in-Count.is, no {a = p} {t = p} refl c.if-not-passed.true)
+    rw (c.in-Count.is, no {a = p} {t = p} refl (ap not c.if-not-passed.true))
 
 pub returns-then-count-room : goal.returns-then-count-room
 unfolding read_answer
@@ -21,7 +22,7 @@ returns-then-count-room c =
     let n = c.in-Count.count in
     rw (
       c.in-Count.is,
-      yes {a = a.passed} {t = a.passed} refl c.if-not-passed.false,
+      yes {a = a.passed} {t = a.passed} refl (ap not c.if-not-passed.false),
       le-leb (3 * n) a.room (omega (arith, c.if-count-room.true)),
     )
 
@@ -32,7 +33,7 @@ returns-else-count-room c =
     let n = c.in-Count.count in
     rw (
       c.in-Count.is,
-      yes {a = a.passed} {t = a.passed} refl c.if-not-passed.false,
+      yes {a = a.passed} {t = a.passed} refl (ap not c.if-not-passed.false),
       lt-leb (3 * n) a.room (omega (arith, c.if-count-room.false)),
     )
 

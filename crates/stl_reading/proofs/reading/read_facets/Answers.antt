@@ -1,4 +1,5 @@
 -- `stl::reading::read_facets` meets its contract: the triangles that are left pass exactly when all do, and their corners are put from where they go on.
+use Rattle.std.proofs.Common.{not}
 use Prim.Native.Nat.{◌+◌, ◌*◌, ◌-◌}
 use native.Mathlib.Nat.{sub-zero}
 use native.Mathlib.Omega.{arith}
@@ -34,7 +35,7 @@ returns-then-not-passes c =
     record {
       value = (let a = c.args in
           let v = c.loop-i.invariant in
-          let failed = facet_fails a.file.now a.count c.loop-i.i c.loop-i-test.true _ refl (no (tested c.before) c.if-not-passes.true) in (
+          let failed = facet_fails a.file.now a.count c.loop-i.i c.loop-i-test.true _ refl (no (tested c.before) (ap not c.if-not-passes.true)) in (
             sym (v.1 ∙ failed),
             (
               record { long = v.2.long; written = λ e h. absurd (false≢true e) },
@@ -43,7 +44,7 @@ returns-then-not-passes c =
           )).0;
       column_read = (let a = c.args in
           let v = c.loop-i.invariant in
-          let failed = facet_fails a.file.now a.count c.loop-i.i c.loop-i-test.true _ refl (no (tested c.before) c.if-not-passes.true) in (
+          let failed = facet_fails a.file.now a.count c.loop-i.i c.loop-i-test.true _ refl (no (tested c.before) (ap not c.if-not-passes.true)) in (
             sym (v.1 ∙ failed),
             (
               record { long = v.2.long; written = λ e h. absurd (false≢true e) },
@@ -52,7 +53,7 @@ returns-then-not-passes c =
           )).1;
       column_read_2 = (let a = c.args in
           let v = c.loop-i.invariant in
-          let failed = facet_fails a.file.now a.count c.loop-i.i c.loop-i-test.true _ refl (no (tested c.before) c.if-not-passes.true) in (
+          let failed = facet_fails a.file.now a.count c.loop-i.i c.loop-i-test.true _ refl (no (tested c.before) (ap not c.if-not-passes.true)) in (
             sym (v.1 ∙ failed),
             (
               record { long = v.2.long; written = λ e h. absurd (false≢true e) },
@@ -61,7 +62,7 @@ returns-then-not-passes c =
           )).2;
       column_read_3 = (let a = c.args in
           let v = c.loop-i.invariant in
-          let failed = facet_fails a.file.now a.count c.loop-i.i c.loop-i-test.true _ refl (no (tested c.before) c.if-not-passes.true) in (
+          let failed = facet_fails a.file.now a.count c.loop-i.i c.loop-i-test.true _ refl (no (tested c.before) (ap not c.if-not-passes.true)) in (
             sym (v.1 ∙ failed),
             (
               record { long = v.2.long; written = λ e h. absurd (false≢true e) },

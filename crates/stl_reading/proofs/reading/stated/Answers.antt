@@ -1,5 +1,6 @@
 -- `stl::reading::stated` meets its contract: the lengths are tested, then the file's own.
 -- Assumes nothing.
+use Rattle.std.proofs.Common.{not}
 use Prim.Native.Nat.{◌+◌, ◌*◌}
 use mathlib.Core.Path.{◌≡◌, sym, ap, ◌∙◌}
 use mathlib.Core.Bool.{◌&&◌}
@@ -19,18 +20,18 @@ fit c = ap (λ b. file_fits (length c.args.file.now) && b) c.set_ok.ensures
 
 pub returns-then-not-file-set_ok : goal.returns-then-not-file-set_ok
 unfolding stated_for
-returns-then-not-file-set_ok c = rw (no (fit c.before) c.if-not-file-set_ok.true)
+returns-then-not-file-set_ok c = rw (no (fit c.before) (ap not c.if-not-file-set_ok.true))
 
 pub returns-then-file-lt84 : goal.returns-then-file-lt84
 unfolding stated_for
-returns-then-file-lt84 c = rw (yes (fit c.before.before) c.if-not-file-set_ok.false, length_short _ c.if-file-lt84.true)
+returns-then-file-lt84 c = rw (yes (fit c.before.before) (ap not c.if-not-file-set_ok.false), length_short _ c.if-file-lt84.true)
 
 pub returns-then-file-count : goal.returns-then-file-count
 unfolding stated_for
 returns-then-file-count c =
     let n = c.read_word-count.ensures in
     rw (
-      yes (fit c.before.before.before.before) c.if-not-file-set_ok.false,
+      yes (fit c.before.before.before.before) (ap not c.if-not-file-set_ok.false),
       length_other _ c.if-file-lt84.false (λ e. c.if-file-count.true (e ∙ ap (λ k. 84 + 50 * k) (sym n))),
     )
 
@@ -39,7 +40,7 @@ unfolding stated_for
 returns c =
     let n = c.read_word-count.ensures in
     rw (
-      yes (fit c.before.before.before.before) c.if-not-file-set_ok.false,
+      yes (fit c.before.before.before.before) (ap not c.if-not-file-set_ok.false),
       length_right _ (c.if-file-count.false ∙ ap (λ k. 84 + 50 * k) n),
       n,
     )

@@ -1,5 +1,6 @@
 -- `stl::writing::answer` meets its contract: the lengths are tested, then the vertices and the triangles, then the room.
 -- Assumes nothing.
+use Rattle.std.proofs.Common.{ap, not}
 use Prim.Native.Nat.{◌≤◌}
 use native.Mathlib.Omega.{arith}
 use mathlib.Core.Path.{◌≡◌, refl}
@@ -21,7 +22,7 @@ fit : (c : goal.Else-not-set_ok-room) →
     set_ok (length a.px.now) (length a.py.now) (length a.pz.now) a.vertices
     && (set_ok (length a.t0.now) (length a.t1.now) (length a.t2.now) a.triangles && file_fits a.room)
     ≡ true
-fit c = yes (and_eq c.set_ok.ensures (and_eq c.set_ok-2.ensures refl)) c.if-not-set_ok-room.false
+fit c = yes (and_eq c.set_ok.ensures (and_eq c.set_ok-2.ensures refl)) (ap not c.if-not-set_ok-room.false)
 
 few : (c : goal.Else-not-vertices_ok-triangles_ok) → c.args.triangles ≤ 1048576
 few c =
@@ -31,7 +32,7 @@ few c =
 
 pub returns-then-not-set_ok-room : goal.returns-then-not-set_ok-room
 unfolding export_answer
-returns-then-not-set_ok-room c = rw (no (and_eq c.set_ok.ensures (and_eq c.set_ok-2.ensures refl)) c.if-not-set_ok-room.true)
+returns-then-not-set_ok-room c = rw (no (and_eq c.set_ok.ensures (and_eq c.set_ok-2.ensures refl)) (ap not c.if-not-set_ok-room.true))
 
 pub vertices_ok-requires : goal.vertices_ok-requires
 vertices_ok-requires c =
@@ -45,7 +46,7 @@ triangles_ok-requires c =
 
 pub returns-then-not-vertices_ok-triangles_ok : goal.returns-then-not-vertices_ok-triangles_ok
 unfolding export_answer
-returns-then-not-vertices_ok-triangles_ok c = rw (fit c.before.before.before, no (and_eq c.vertices_ok.ensures c.triangles_ok.ensures) c.if-not-vertices_ok-triangles_ok.true)
+returns-then-not-vertices_ok-triangles_ok c = rw (fit c.before.before.before, no (and_eq c.vertices_ok.ensures c.triangles_ok.ensures) (ap not c.if-not-vertices_ok-triangles_ok.true))
 
 pub overflow_mul-triangles : goal.overflow_mul-triangles
 overflow_mul-triangles c = omega (arith, few c)
@@ -58,6 +59,6 @@ unfolding export_answer
 returns c =
     rw (
       fit c.before.before.before.before,
-      yes (and_eq c.vertices_ok.ensures c.triangles_ok.ensures) c.if-not-vertices_ok-triangles_ok.false,
+      yes (and_eq c.vertices_ok.ensures c.triangles_ok.ensures) (ap not c.if-not-vertices_ok-triangles_ok.false),
       c.room_for.ensures,
     )
