@@ -2,9 +2,9 @@
 use Prim.Native.Nat.{◌-◌}
 use native.Mathlib.Omega.{arith}
 use mathlib.Core.Path.{sym, ◌∙◌}
-use mathlib.Core.Logic.{⊎_elim}
 use Rattle.cutting.proofs.GoingLaws.{going_begun, second_turn, second_skip, second_left, going_same, going_done}
 use Rattle.cutting.proofs.cut_second.Goals as goal
+use Rattle.cutting.proofs.cut_second.Goals.{then-meets-i, else-meets-i}
 
 pub loop-j-init : goal.loop-j-init
 loop-j-init c = (omega arith, omega (arith, c.requires.2), omega arith, going_begun _ _ _ _ _)
@@ -32,23 +32,23 @@ loop-j-preserved c =
     let h = c.loop-j-test.true in
     let told = c.requires.1.told a.i c.loop-j.j c.requires.2 c.loop-j.invariant.0 h in
     let w = c.loop-j.invariant.3 in
-    ⊎_elim
-    (λ p. (
-      omega (arith, c.loop-j.invariant.0),
-      omega (arith, h),
-      omega (arith, p.14, p.4.ensures.1, c.loop-j.invariant.2),
-      rw (p.11, p.12, p.13, p.14)
-          (second_turn _ _ a.cells.now a.inside.now c.requires.0.equal _ _ _ _ _ _ _ _ _ _ _ _ _ a.i _ h w p.4.ensures.0),
-    ))
-    (λ p. (
-      omega (arith, c.loop-j.invariant.0),
-      omega (arith, h),
-      omega (arith, p.4, c.loop-j.invariant.2),
-      rw (p.1, p.2, p.3, p.4)
-          (going_same _ _ _ _ _ _ _ _ _ _ w _
-          (second_skip _ _ a.cells.now a.inside.now c.requires.0.equal a.i _ h (sym told ∙ p.0.left))),
-    ))
-    c.if-meets-i.branch
+    elim c.if-meets-i.branch [
+      then-meets-i p ↦ (
+        omega (arith, c.loop-j.invariant.0),
+        omega (arith, h),
+        omega (arith, p.end-is, p.cut_third-end.ensures.upper_bound, c.loop-j.invariant.2),
+        rw (p.t0-is, p.t1-is, p.t2-is, p.end-is)
+            (second_turn _ _ a.cells.now a.inside.now c.requires.0.equal _ _ _ _ _ _ _ _ _ _ _ _ _ a.i _ h w p.cut_third-end.ensures.puts),
+      )
+    | else-meets-i p ↦ (
+        omega (arith, c.loop-j.invariant.0),
+        omega (arith, h),
+        omega (arith, p.end-is, c.loop-j.invariant.2),
+        rw (p.t0-is, p.t1-is, p.t2-is, p.end-is)
+            (going_same _ _ _ _ _ _ _ _ _ _ w _
+            (second_skip _ _ a.cells.now a.inside.now c.requires.0.equal a.i _ h (sym told ∙ p.if-meets-i.false))),
+      )
+    ]
 
 pub returns : goal.returns
 returns c =

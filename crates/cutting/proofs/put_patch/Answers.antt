@@ -4,14 +4,6 @@ use native.Mathlib.Omega.{arith}
 use Rattle.cutting.proofs.PutLaws.{empty_put, single_put, double_put}
 use Rattle.cutting.proofs.put_patch.Goals as goal
 
-pub put_triangle-requires-in-Double-2 : goal.put_triangle-requires-in-Double-2
-put_triangle-requires-in-Double-2 c =
-    let e = c.requires.0 in
-    record {
-      second = omega (arith, e.second, c.put_triangle-in-Double.auto.1.1.0, c.put_triangle-in-Double.auto.1.1.1.0);
-      third = omega (arith, e.third, c.put_triangle-in-Double.auto.1.1.0, c.put_triangle-in-Double.auto.1.1.1.1.0);
-    }
-
 pub returns-in-Empty : goal.returns-in-Empty
 returns-in-Empty c =
     record {
@@ -24,7 +16,7 @@ returns-in-Single c =
     let told = c.in-Single.is in
     let e = c.put_triangle.ensures in
     record {
-      puts = rw told (single_put _ _ _ _ _ _ _ _ e.0 e.1.0 e.1.1);
+      puts = rw told (single_put _ _ _ _ _ _ _ _ e.t0_after e.t1_after e.t2_after);
       upper_bound = omega arith;
     }
 
@@ -34,6 +26,6 @@ returns-in-Double c =
     let d = c.put_triangle-in-Double.ensures in
     let e = c.put_triangle-in-Double-2.ensures in
     record {
-      puts = rw told (double_put _ _ _ _ _ _ _ _ _ _ _ _ d.0 d.1.0 d.1.1 e.0 e.1.0 e.1.1);
+      puts = rw told (double_put _ _ _ _ _ _ _ _ _ _ _ _ d.t0_after d.t1_after d.t2_after e.t0_after e.t1_after e.t2_after);
       upper_bound = omega arith;
     }

@@ -8,13 +8,7 @@ use Rattle.cutting.proofs.put_triangle.Goals as goal
 pub returns-else-at-t0 : goal.returns-else-at-t0
 returns-else-at-t0 c =
     record {
-      t0_after = (let l = c.if-at-t0.false in
-          let e = c.requires in
-          (sym (set_out _ _ _ l), (sym (set_out _ _ _ (omega (arith, e.second))), sym (set_out _ _ _ (omega (arith, e.third)))))).0;
-      t1_after = (let l = c.if-at-t0.false in
-          let e = c.requires in
-          (sym (set_out _ _ _ l), (sym (set_out _ _ _ (omega (arith, e.second))), sym (set_out _ _ _ (omega (arith, e.third)))))).1;
-      t2_after = (let l = c.if-at-t0.false in
-          let e = c.requires in
-          (sym (set_out _ _ _ l), (sym (set_out _ _ _ (omega (arith, e.second))), sym (set_out _ _ _ (omega (arith, e.third)))))).2;
+      t0_after = sym (set_out _ _ _ c.if-at-t0.false);
+      t1_after = sym (set_out _ _ _ (omega (arith, c.requires.second)));
+      t2_after = sym (set_out _ _ _ (omega (arith, c.requires.third)));
     }

@@ -9,34 +9,28 @@ use Rattle.higher.specs.Places.{found_above}
 use borrow.Author.Rules.{rules}
 use Rattle.higher.proofs.gather.Goals as goal
 
--- the first n of the cells are n
-long : (c : goal.At-loop-i) → let s = c.before.before.before in length (take s.args.n s.args.cells) ≡ s.args.n
-long c = let s = c.before.before.before in length-take-le s.args.n s.args.cells (omega (arith, s.requires))
-
 pub loop-i-init : goal.loop-i-init
 loop-i-init c =
     let a = c.args in
-    (search rules, gather_begun _ (take a.n a.t5) a.n (omega (arith, length-take a.n a.t5)))
+    (omega arith, gather_begun _ (take a.n a.cells) a.n (omega (arith, length-take a.n a.cells)))
 
 pub with_higher-places-requires : goal.with_higher-places-requires
 with_higher-places-requires c =
-    let l = c.before in
-    let k = long l in (
-      l.requires.0,
-      gather_roomy _ (take l.args.n l.args.cells) l.loop-i.i _ l.loop-i.invariant.1 c.loop-i-test.true
-          (omega (arith, l.loop-i.invariant.0)) (omega (arith, l.requires)),
+    let k = length-take-le c.args.n c.args.cells (omega (arith, c.requires)) in (
+      c.requires.0,
+      gather_roomy _ (take c.args.n c.args.cells) c.loop-i.i _ c.loop-i.invariant.1 c.loop-i-test.true
+          (omega (arith, c.loop-i.invariant.0)) (omega (arith, c.requires)),
     )
 
 pub loop-i-preserved : goal.loop-i-preserved
 loop-i-preserved c =
-    let l = c.before.before in
     let t = c.loop-i-test.true in
-    let k = long l in
-    let look = found_above l.args.keys.now l.args.weights.now l.args.count l.args.row in
-    let low : l.loop-i.i - 1 < l.args.n = omega (arith, l.loop-i.invariant.0) in (
-      omega (arith, l.loop-i.invariant.0),
-      gather_turn look (take l.args.n l.args.cells) l.loop-i.i _ l.loop-i.invariant.1 t
-          (omega (arith, l.loop-i.invariant.0)) _ _ (ap look (sym (get_or-take l.args.n l.args.cells (l.loop-i.i - 1) 0 low))) c.with_higher-places.ensures,
+    let k = length-take-le c.args.n c.args.cells (omega (arith, c.requires)) in
+    let look = found_above c.args.keys.now c.args.weights.now c.args.count c.args.row in
+    let low : c.loop-i.i - 1 < c.args.n = omega (arith, c.loop-i.invariant.0) in (
+      omega (arith, c.loop-i.invariant.0),
+      gather_turn look (take c.args.n c.args.cells) c.loop-i.i _ c.loop-i.invariant.1 t
+          (omega (arith, c.loop-i.invariant.0)) _ _ (ap look (sym (get_or-take c.args.n c.args.cells (c.loop-i.i - 1) 0 low))) c.with_higher-places.ensures,
     )
 
 pub returns : goal.returns

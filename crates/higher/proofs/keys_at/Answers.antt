@@ -9,29 +9,25 @@ use Rattle.higher.proofs.ColumnLaws.{column_turn, one_below}
 use borrow.Author.Rules.{rules}
 use Rattle.higher.proofs.keys_at.Goals as goal
 
--- the place read is one of the column
-fits : (c : goal.In-loop-i) → let s = c.before.before in get_or s.args.places c.loop-i.i 0 < length s.args.keys.now
-fits c = let s = c.before.before in one_below s.args.n s.args.places c.loop-i.i c.loop-i-test.true (omega (arith, s.requires)) s.requires.2
-
 pub loop-i-init : goal.loop-i-init
 unfolding padded
-loop-i-init c = (search rules, refl)
+loop-i-init c = (omega arith, refl)
 
 pub overflow_cast-place : goal.overflow_cast-place
-overflow_cast-place c = let h = fits c in search rules
+overflow_cast-place c = let h = one_below c.args.n c.args.places c.loop-i.i c.loop-i-test.true (omega (arith, c.requires)) c.requires.2 in omega arith
 
 pub offset_bounds-keys-place : goal.offset_bounds-keys-place
-offset_bounds-keys-place c = let h = fits c in search rules
+offset_bounds-keys-place c = let h = one_below c.args.n c.args.places c.loop-i.i c.loop-i-test.true (omega (arith, c.requires)) c.requires.2 in omega arith
 
 pub bounds-keys-place : goal.bounds-keys-place
-bounds-keys-place c = fits c.before
+bounds-keys-place c = one_below c.args.n c.args.places c.loop-i.i c.loop-i-test.true (omega (arith, c.requires)) c.requires.2
 
 pub loop-i-preserved : goal.loop-i-preserved
 loop-i-preserved c =
     let t = c.loop-i-test.true in
     let few : c.loop-i.i < 14 = omega (arith, c.requires) in
     let more : c.loop-i.i < length c.args.places = omega (arith, c.requires) in
-    (search rules, column_turn (key_at c.args.keys.now) 0 c.args.places c.loop-i.i _ few more c.loop-i.invariant.1)
+    (omega arith, column_turn (key_at c.args.keys.now) 0 c.args.places c.loop-i.i _ few more c.loop-i.invariant.1)
 
 pub returns : goal.returns
 returns c =

@@ -4,11 +4,14 @@ use Rattle.std.proofs.Common.{not}
 use Prim.Native.Nat.{ℕ}
 use native.Mathlib.Omega.{arith}
 use mathlib.Core.Path.{◌≡◌, ap, ◌∙◌}
-use mathlib.Core.Bool.{Bool, ◌&&◌}
+use mathlib.Core.Bool.{Bool, true, ◌&&◌}
 use mathlib.Core.List.{List}
 use lib.Dec.{ltb}
+use lib.Ieee.{Float}
+use lib.ListN.{length}
 use Rattle.lists.specs.Padding.{padded}
 use Rattle.lists.proofs.Bools.{yes, no}
+use Rattle.table.specs.Table.{lengths_ok}
 use Rattle.rings.proofs.NearLaws.{count_few, count_fits, front}
 use Rattle.handful.specs.Handfuls.{held}
 use Rattle.groups.specs.Near.{gathered}
@@ -19,36 +22,39 @@ use borrow.Author.Rules.{rules}
 use Rattle.higher.proofs.places_of.Goals as goal
 
 -- what the code tests is what the definition tests
-tested : (c : goal.After-lengths_ok) → let a = c.args in
-    (c.lengths_ok.result && ltb a.row a.count) ≡ fit a.keys.now a.distances a.weights.now a.count a.row
-tested c = let a = c.args in ap (λ (b : Bool). b && ltb a.row a.count) c.lengths_ok.ensures
+tested :
+    (ks : List ℕ) (distances : ℕ) (ws : List Float) (n row : ℕ) {ok : Bool}
+    → ok ≡ lengths_ok (length ks) distances (length ws) n
+    → (ok && ltb row n) ≡ fit ks distances ws n row
+tested ks distances ws n row = ap (λ (b : Bool). b && ltb row n)
 
 -- the row stands within the lists
-stands : (c : goal.Else-not-lengths_ok-row) → let a = c.args in AtRow a.keys.now a.weights.now a.count a.row
-stands c =
-    let a = c.args in
-    within a.keys.now a.distances a.weights.now a.count a.row (yes (tested c.before) (ap not c.if-not-lengths_ok-row.false))
+stands :
+    (ks : List ℕ) (distances : ℕ) (ws : List Float) (n row : ℕ) {ok : Bool}
+    → ok ≡ lengths_ok (length ks) distances (length ws) n
+    → (ok && ltb row n) ≡ true
+    → AtRow ks ws n row
+stands ks distances ws n row e t = within ks distances ws n row (yes (tested ks distances ws n row e) (ap not t))
 
 pub returns-then-not-lengths_ok-row : goal.returns-then-not-lengths_ok-row
 unfolding places_in padded
-returns-then-not-lengths_ok-row c = rw (no (tested c.before) (ap not c.if-not-lengths_ok-row.true))
+returns-then-not-lengths_ok-row c = rw (no (tested _ c.args.distances _ _ _ c.lengths_ok.ensures) (ap not c.if-not-lengths_ok-row.true))
 
 pub offset_bounds-keys-row : goal.offset_bounds-keys-row
-offset_bounds-keys-row c = let h = stands c in search rules
+offset_bounds-keys-row c = let h = stands _ c.args.distances _ _ _ c.lengths_ok.ensures c.if-not-lengths_ok-row.false in omega arith
 
 pub bounds-keys-row : goal.bounds-keys-row
-bounds-keys-row c = let h = stands c.before in omega arith
+bounds-keys-row c = let h = stands _ c.args.distances _ _ _ c.lengths_ok.ensures c.if-not-lengths_ok-row.false in omega arith
 
 pub gather-requires : goal.gather-requires
 gather-requires c =
     let e = c.around-near.ensures in
-    (stands c.before.before.before, count_few _ _ e, count_fits _ _ e)
+    (stands _ c.args.distances _ _ _ c.lengths_ok.ensures c.if-not-lengths_ok-row.false, count_few _ _ e, count_fits _ _ e)
 
 pub returns : goal.returns
 unfolding places_in
 returns c =
-    let i = c.before.before.before.before in
-    let a = i.args in
-    rw (yes (tested i.before) (ap not i.if-not-lengths_ok-row.false))
+    let a = c.args in
+    rw (yes (tested a.keys.now a.distances a.weights.now a.count a.row c.lengths_ok.ensures) (ap not c.if-not-lengths_ok-row.false))
     (c.gather.ensures
     ∙ ap (λ (l : List ℕ). held (gathered (found_above a.keys.now a.weights.now a.count a.row) l)) (front _ _ c.around-near.ensures))
