@@ -152,6 +152,10 @@ module _ (x r : Float) (X m k q : ℕ) (vx : num x * 2 ^ 149 ≡ X * den x) (e :
 nearer_all : (x r y : Float) (X m k q : ℕ) → num x * 2 ^ 149 ≡ X * den x → X * 2 ^ 149 ≡ m * (2 ^ k * 2 ^ k) → 2 ^ 46 ≤ m → Near m q
     → HasValue r false (q * 2 ^ k) (2 ^ 149) → T (fits binary32 y) → T (is_finite y) → Nearer x r y
 unfolding lt
+nearer_all x nan y X m k q vx e lo w v f t = elim v [ ]
+nearer_all x (inf _) y X m k q vx e lo w v f t = elim v [ ]
+nearer_all x (fin false a b) nan X m k q vx e lo w v f t = elim t [ ]
+nearer_all x (fin false a b) (inf _) X m k q vx e lo w v f t = elim t [ ]
 nearer_all x (fin true a b) y X m k q vx e lo w v f t = absurd (true≢false v.0)
 nearer_all x (fin false a b) (fin true n d) X m k q vx e lo w v f t = record {
   above = λ (g : T (lt (fin false a b) (fin true n d))). absurd g;
@@ -253,6 +257,10 @@ by_units x X m k f v p s =
     }
 
 pub correct : (x : Float) → T (fits binary32 x) → T (positive x) → IsNearest x (root_of x)
+correct nan f p = elim p [ ]
+correct (inf _) f p = elim p [ ]
+correct (fin false zero e) f p = elim p [ ]
+correct (fin true _ e) f p = elim p [ ]
 correct (fin false (suc n) e) f p =
     let g = fitting false n e f in
     let u = place (suc n) e g.low in

@@ -2,7 +2,7 @@
 -- above zero, -0, +0, the infinity, -1 and a NaN. By computation.
 -- Assumes nothing.
 use Rattle.std.proofs.Common.{◌≡◌, [], ◌∷◌, map, refl}
-use lib.Ieee.{binary32, of_bits, to_bits}
+use lib.Ieee.{of_bits}
 use Rattle.refusals.specs.declared.Refusal.TheVariants.{BadReading}
 use Rattle.floats.specs.Floats.{f32}
 use Rattle.root.specs.declared.Rooted.TheVariants.{Root, Refused}

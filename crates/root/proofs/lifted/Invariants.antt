@@ -1,5 +1,5 @@
 -- `root::lifted` meets its contract. The loop keeps n * 2 ^ j; while n has less than 24 digits, j is large enough to fall. Assumes nothing.
-use Rattle.std.proofs.Common.{◌≡◌, ◌*◌, ◌^◌, ◌<◌, ◌≤◌, arith}
+use Rattle.std.proofs.Common.{◌≡◌, ◌*◌, ◌^◌, ◌<◌, ◌≤◌}
 use Rattle.root.specs.Steps.{units_of_one}
 use Rattle.root.proofs.lifted.Given as goal
 

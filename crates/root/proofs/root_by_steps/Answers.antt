@@ -9,10 +9,6 @@ small r m a b = square_lt r (2 ^ 24) (omega arith)
 square_fits : (c : ℕ) → c ≤ 2 ^ 25 → c * c ≤ 2 ^ 50
 square_fits c h = mul-le-mul h h
 
--- r, and r with the halved step
-r_small : (c : goal.At-loop-step) → c.loop-step.r < 2 ^ 24
-r_small c = small c.loop-step.r c.args.m c.loop-step.invariant.0 c.requires.1
-
 -- the step is halved, rounded up
 wider : (m r s h : ℕ) → s ≤ h + h → m < (r + s) * (r + s) → m < (r + h + h) * (r + h + h)
 wider m r s h l g = let k : r + s ≤ r + h + h = omega arith in omega (arith, mul-le-mul k k)
@@ -28,12 +24,12 @@ pub overflow_sub-step : goal.overflow_sub-step
 overflow_sub-step c = omega arith
 
 pub overflow_add-c : goal.overflow_add-c
-overflow_add-c c = omega (arith, r_small c.before)
+overflow_add-c c = omega (arith, small c.loop-step.r c.args.m c.loop-step.invariant.0 c.requires.1)
 
 pub overflow_mul-c : goal.overflow_mul-c
 overflow_mul-c c =
     let l = c.loop-step in
-    let g = square_fits (l.r + (l.step - l.step / 2)) (omega (arith, r_small c.before)) in
+    let g = square_fits (l.r + (l.step - l.step / 2)) (omega (arith, small c.loop-step.r c.args.m c.loop-step.invariant.0 c.requires.1)) in
     omega arith
 
 pub loop-step-smaller-then-c-m : goal.loop-step-smaller-then-c-m
@@ -57,7 +53,7 @@ pub overflow_sub-m : goal.overflow_sub-m
 overflow_sub-m c = c.loop-step.invariant.0
 
 pub overflow_add-result : goal.overflow_add-result
-overflow_add-result c = omega (arith, r_small c.before.before)
+overflow_add-result c = omega (arith, small c.loop-step.r c.args.m c.loop-step.invariant.0 c.requires.1)
 
 pub returns-then-m-r : goal.returns-then-m-r
 returns-then-m-r c =

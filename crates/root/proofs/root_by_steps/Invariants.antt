@@ -1,5 +1,5 @@
 -- `root::root_by_steps` meets its contract. The loop keeps the root between r and r + step. Assumes nothing.
-use Rattle.std.proofs.Common.{◌+◌, ◌-◌, ◌*◌, ◌^◌, ◌<◌, ◌≤◌, arith}
+use Rattle.std.proofs.Common.{◌+◌, ◌*◌, ◌^◌, ◌<◌, ◌≤◌}
 use Rattle.root.proofs.root_by_steps.Given as goal
 
 -- the root of m lies from r up to below r + step
