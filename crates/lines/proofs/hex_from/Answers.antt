@@ -1,5 +1,5 @@
 -- `lines::hex_from` meets its contract. The loop's invariant: the digits that are left, after those read, say what all say.
-use Prim.Native.Nat.{◌-◌, ◌<◌}
+use Prim.Native.Nat.{◌-◌}
 use native.Mathlib.Nat.{add-zero}
 use native.Mathlib.Numerals.{add-one}
 use native.Mathlib.Omega.{arith}

@@ -1,7 +1,6 @@
 -- `lines::hex_from` meets its contract. The loop's invariant: the digits that are left, after those read, say what all say.
 -- Assumes nothing.
 use Prim.Native.Nat.{◌+◌, ◌-◌, ◌^◌, ◌<◌, ◌≤◌}
-use native.Mathlib.Omega.{arith}
 use mathlib.Core.Path.{◌≡◌}
 use Rattle.lines.specs.Lines.{hex_from}
 use Rattle.lines.proofs.hex_from.Given as goal
