@@ -16,7 +16,11 @@ unfolding admitted admit_if
 returns-then-not-reading_ok c = rw (yes c.is_on_lattice.ensures (ap not c.if-not-is_on_lattice.false), no c.reading_ok.ensures (ap not c.if-not-reading_ok.true))
 
 pub measure-m-requires : goal.measure-m-requires
-measure-m-requires c = ((settings_known _ c.requires).size, yes c.reading_ok.ensures (ap not c.if-not-reading_ok.false))
+measure-m-requires c =
+    record {
+      size_value = (settings_known _ c.requires).size;
+      reading_value = yes c.reading_ok.ensures (ap not c.if-not-reading_ok.false);
+    }
 
 pub returns-then-beyond : goal.returns-then-beyond
 unfolding admitted admit_if
