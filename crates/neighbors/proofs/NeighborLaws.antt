@@ -2,7 +2,7 @@
 -- Assumes nothing.
 use mathlib.Core.Path.{◌≡◌, refl, sym}
 use mathlib.Core.Bool.{Bool, true, false, cond}
-use Prim.Native.Nat.{ℕ, zero, suc, ◌+◌, ◌<◌, ◌≤◌, zero-le}
+use Prim.Native.Nat.{ℕ, suc, ◌+◌, ◌<◌, ◌≤◌, zero-le}
 use native.Mathlib.Omega.{arith}
 use borrow.Author.Tests.{lt-ltb, le-ltb, le-leb, leb-true}
 use mathlib.Core.List.{List, [], ◌∷◌, ◌++◌, append-nil, append_assoc}
@@ -10,7 +10,7 @@ use lib.ListN.{length, get_or, set, take, replicate, length-append, length-take}
 use lib.Seq.{take-suc}
 use native.Mathlib.Numerals.{add-one}
 use Rattle.lists.specs.Padding.{padded}
-use Rattle.lists.specs.Listing.{room_for, count_of, held_for}
+use Rattle.lists.specs.Listing.{count_of, held_for}
 use Rattle.lists.specs.declared.Listed.{Listed}
 use Rattle.lists.specs.declared.Listed.TheVariants as listed
 use Rattle.refusals.specs.declared.Refusal.TheVariants.{Lengths, OffLattice, NoPlace}
@@ -19,7 +19,7 @@ use Rattle.neighbors.specs.declared.Cell.{Cell}
 use Rattle.neighbors.specs.declared.Cell.TheVariants as cell
 use Rattle.neighbors.specs.Neighbors.{Offset, offsets, offset_at, in_box, reached, shown, neighbours_by, neighbours, listed_of, listing_of}
 use Rattle.ids.specs.Key.{on_lattice}
-use lib.Dec.{ltb, leb, lit≤}
+use lib.Dec.{ltb, leb}
 use native.Mathlib.Nat.{sub-zero}
 
 -- a step that stays inside
