@@ -1,5 +1,4 @@
 -- `rings::is_joint` meets its contract: what is left of the neighbours says what all of them say.
-use Prim.Native.Nat.{◌-◌}
 use Rattle.rings.specs.Rings.{joint_by}
 use Rattle.rings.proofs.NearLaws.{count_few, count_fits, front}
 use Rattle.rings.proofs.LoopLaws.{found, passed, ended}

@@ -1,5 +1,4 @@
 -- `rings::shares` meets its contract: what is left of the cells says what all of them say.
-use Prim.Native.Nat.{◌-◌}
 use mathlib.Core.Path.{refl}
 use Rattle.rings.proofs.LoopLaws.{found, passed, ended}
 use borrow.Author.Rules.{rules}
