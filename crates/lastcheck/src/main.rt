@@ -7,8 +7,11 @@ ghost use Rattle.lastlines.specs.Lastcheck.{unset};
 ghost use Rattle.lastcheck.specs.Run.{counted, longer, last_text};
 ghost use Rattle.lastcheck.specs.Steps.{state_of, LineTaken, ByteTaken, Finished, silenced, halted, Written, Fed};
 
-use libc::{STDIN_FILENO, STDOUT_FILENO};
+use std::io::Read;
 use table::{Settings, settings_of};
+
+// The descriptor of the standard output.
+const STDOUT_FILENO: i32 = 1;
 
 // Where a run stands: how many bytes of the present line are kept, its number, whether P came, its settings, whether
 // the run goes on, and how many bytes are to be printed.
@@ -239,8 +242,19 @@ fn feed(
     run
 }
 
+// Reads once: how many bytes came, 0 at the end of the input and where it cannot be read.
+fn read_part<R: Read>(input: &mut R, buffer: &mut [u8]) -> usize
+    ensures { result ≤ length buffer.new }
+{
+    match input.read(buffer) {
+        Ok(n) => n,
+        Err(_) => 0,
+    }
+}
+
 // Reads once and takes what came; the end of the input ends the run.
-fn read_some(
+fn read_some<R: Read>(
+    input: &mut R,
     run: Run,
     line: &mut [u8],
     keys: &mut [u64],
@@ -253,8 +267,7 @@ fn read_some(
     ensures { result.kept ≤ length line.old }
 {
     let mut buffer = io::buffer();
-    let got = libc::read(STDIN_FILENO, &mut buffer);
-    let n = io::count(got, &buffer);
+    let n = read_part(input, &mut buffer);
     if n == 0 {
         let last = finish(run, line, keys, distances, weights, count, out);
         print(out, last);
@@ -281,7 +294,8 @@ fn turns_left(going: bool, turns: u64) -> u64
 }
 
 // The run, on an empty table.
-fn main() {
+fn main(rt: HostRuntime) {
+    let mut input = rt.stdin();
     let mut line = [0u8; 38];
     let mut keys = [0u64; 256];
     let mut distances = [0.0f32; 256];
@@ -292,6 +306,7 @@ fn main() {
     let mut turns = u64::MAX;
     while 0 < turns {
         run = read_some(
+            &mut input,
             run,
             &mut line,
             &mut keys,
