@@ -1,13 +1,8 @@
 -- `texts::put_decimal` meets its contract. The loop's invariant: the digits put in stand behind those that are left.
-use Prim.Native.Nat.{◌-◌}
 use mathlib.Core.Path.{refl}
 use native.Mathlib.Omega.{arith}
-use lib.ListN.{length-set}
 use Rattle.texts.proofs.WritingLaws.{digit_again, digits_wrote, two_digits}
 use Rattle.texts.proofs.put_decimal.Goals as goal
-
--- LEFT part-put-text-end : tie.Need-slice-bounds-put-text-end invariant-loop decreases-loop
--- part-put-text-end c = rw length-set (omega (arith, c.before.before.before.loop.invariant.2))
 
 pub loop-rest-init : goal.loop-rest-init
 loop-rest-init c = (omega arith, omega arith, refl, refl)

@@ -1,8 +1,7 @@
 -- `texts::put_decimal` meets its contract. The loop's invariant: the digits put in stand behind those that are left.
 -- Assumes nothing.
-use Prim.Native.Nat.{suc, ◌-◌, ◌<◌, ◌^◌}
+use Prim.Native.Nat.{suc, ◌<◌, ◌^◌}
 use mathlib.Core.Path.{◌≡◌}
-use native.Mathlib.Omega.{arith}
 use lib.ListN.{length, drop}
 use Rattle.texts.specs.Texts.{decimal, decimal_from}
 use Rattle.texts.proofs.put_decimal.Given as goal

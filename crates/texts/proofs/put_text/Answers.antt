@@ -1,5 +1,4 @@
 -- `texts::put_text` meets its contract. The loop's invariant: the bytes passed are written.
-use Prim.Native.Nat.{◌-◌}
 use mathlib.Core.Path.{◌≡◌, refl, ◌∙◌}
 use native.Mathlib.Omega.{arith}
 use lib.ListN.{length}

@@ -7,13 +7,8 @@ use Rattle.texts.proofs.refused_line.Goals as goal
 pub returns : goal.returns
 unfolding refused_line
 returns c =
+    let line = whole (more c.put_text-a0.ensures (more c.put_decimal-a1.ensures.wrote c.put.ensures)) in
     record {
-      value = (rw (← c.number.ensures)
-          (whole (more c.put_text-a0.ensures
-          (more c.put_decimal-a1.ensures.wrote
-          c.put.ensures)))).0;
-      out_after = (rw (← c.number.ensures)
-          (whole (more c.put_text-a0.ensures
-          (more c.put_decimal-a1.ensures.wrote
-          c.put.ensures)))).1;
+      value = rw (← c.number.ensures) line.0;
+      out_after = rw (← c.number.ensures) line.1;
     }
