@@ -13,7 +13,7 @@ use lib.Ieee.{Float}
 use Rattle.lists.proofs.ListLaws.{ordered_at}
 use Rattle.search.specs.Keys.{ascending}
 use Rattle.search.proofs.KeyLaws.{ascending_keys}
-use Rattle.table.specs.Table.{Row, Table, table, rows_of, lengths_ok, laid, relaid}
+use Rattle.table.specs.Table.{Row, table, rows_of, lengths_ok, laid, relaid}
 use Rattle.table.specs.Rows.{keys_of}
 use Rattle.table.proofs.RowLaws.{lengths_known}
 use Rattle.table.proofs.Laying.{distances_of, weights_of, columns}
@@ -99,14 +99,14 @@ module _ (most : Float) (ks : List ℕ) (ds ws : List Float) (n : ℕ) (known : 
   here = columns ks ds ws n fit.1 fit.2
 
   there : (keys_of mine ≡ take own oks) × (distances_of mine ≡ take own ods) × (weights_of mine ≡ take own ows)
-  there = columns oks ods ows own own-fit.1 own-fit.2
+  there = columns oks ods ows own own_fit.1 own_fit.2
 
   -- one column: any of a row's values
   module _ {A : Type 0} (f : Row → A) (xs vs : List A) (p : map f rs ≡ take n xs) (q : map f mine ≡ take own vs) where
     settles : map f (puts most mine rs) ≡ seated (take own ss') (take own vs) (take n xs)
     settles =
         puts_seated f most mine rs (rw there.0 up)
-        ∙ rw (here.0, there.0, there.2, ← held_located (take n ks) oks ss own located own-fit.0 seats most (take own ows) ss' held, p, q) refl
+        ∙ rw (here.0, there.0, there.2, ← held_located (take n ks) oks ss own located own_fit.0 seats most (take own ows) ss' held, p, q) refl
 
     many : length (puts most mine rs) ≡ length (seated (take own ss') (take own vs) (take n xs))
     many = sym (length-map (puts most mine rs) f) ∙ ap length settles
@@ -119,9 +119,9 @@ module _ (most : Float) (ks : List ℕ) (ds ws : List Float) (n : ℕ) (known : 
   planned =
       record {
         within =
-            held_within (take n ks) oks ss own located own-fit.0 seats most (take own ows) ss' held n
+            held_within (take n ks) oks ss own located own_fit.0 seats most (take own ows) ss' held n
             (omega (arith, length-take-le n ks fit.0));
-        order = held_order (take n ks) oks ss own located own-fit.0 seats most (take own ows) ss' held up;
+        order = held_order (take n ks) oks ss own located own_fit.0 seats most (take own ows) ss' held up;
         keys = many (λ (r : Row). r.key) ks oks here.0 there.0;
         distances = many (λ (r : Row). r.distance) ds ods here.1 there.1;
         weights = many (λ (r : Row). r.weight) ws ows here.2 there.2;

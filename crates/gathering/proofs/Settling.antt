@@ -1,11 +1,11 @@
 -- Settling a column from the last own value down: what is left of both makes, and what is written already behind it, is the whole.
 -- Assumes nothing.
 use mathlib.Core.Path.{◌≡◌, refl, sym, ap, ◌∙◌}
-use mathlib.Core.List.{List, [], ◌∷◌, ◌++◌, append_assoc}
+use mathlib.Core.List.{List, ◌∷◌, ◌++◌, append_assoc}
 use Prim.Native.Nat.{ℕ, suc, ◌+◌, ◌-◌, ◌<◌, ◌≤◌}
 use native.Mathlib.Omega.{arith}
 use lib.ListN.{length, get_or, take, drop, set, length-append, length-take, length-drop, length-set, take-append-drop}
-use lib.Seq.{length-take-le, take-take, take-append-le, drop-append-le, drop-cons, get_or-set_same, take-set-le, drop-set-lt, drop_at}
+use lib.Seq.{length-take-le, take-take, take-append-le, drop-cons, get_or-set_same, take-set-le, drop-set-lt, drop_at}
 use Rattle.table.specs.Table.{laid}
 use Rattle.gathering.specs.Gathering.{below, above, Within, InOrder, seated, settled_in, Settles}
 use Rattle.gathering.specs.Steps.{slid, seat_place, seated_at}

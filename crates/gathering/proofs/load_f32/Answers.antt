@@ -1,5 +1,5 @@
 -- `gathering::load_f32` meets its contract: the first i own values are those at their seats.
-use Prim.Native.Nat.{ℕ, ◌-◌, ◌<◌}
+use Prim.Native.Nat.{ℕ, ◌<◌}
 use mathlib.Core.Path.{◌≡◌, refl, ◌∙◌}
 use native.Mathlib.Omega.{arith}
 use lib.ListN.{length-set}
@@ -19,9 +19,9 @@ loop-i-preserved c =
     let l = c.loop-i in
     let more : l.i < c.args.own = c.loop-i-test.true in (
       omega (arith, more),
-      filled_more (λ (t : ℕ). value_at c.args.column.now c.args.absent t) 0 c.args.seats.now l.own-column l.i
+      filled_more (λ (t : ℕ). value_at c.args.column.now c.args.absent t) 0 c.args.seats.now l.own_column l.i
           c.value_f32.result c.value_f32.ensures (omega (arith, more, c.requires.own_in_bounds)) (omega (arith, more, c.requires.own_in_bounds, l.invariant.2)) l.invariant.1,
-      length-set l.own-column l.i c.value_f32.result ∙ l.invariant.2,
+      length-set l.own_column l.i c.value_f32.result ∙ l.invariant.2,
     )
 
 pub returns : goal.returns

@@ -1,5 +1,5 @@
 -- `gathering::locate` meets its contract: the first i own keys have their seats, and the next one is at the place or past it.
-use Prim.Native.Nat.{ℕ, ◌-◌, ◌<◌}
+use Prim.Native.Nat.{ℕ, ◌<◌}
 use mathlib.Core.Path.{◌≡◌, refl, ◌∙◌}
 use native.Mathlib.Omega.{arith}
 use lib.ListN.{take, length-set}
@@ -21,7 +21,10 @@ loop-i-init c = (
 pub place_past-place-requires : goal.place_past-place-requires
 place_past-place-requires c =
     let l = c.loop-i in
-    ((c.requires.count_in_bounds.0, c.requires.count_in_bounds.2), l.invariant.3 c.loop-i-test.true)
+    record {
+      count_in_bounds = (c.requires.count_in_bounds.0, c.requires.count_in_bounds.2);
+      start_bound = l.invariant.3 c.loop-i-test.true;
+    }
 
 pub loop-i-preserved : goal.loop-i-preserved
 loop-i-preserved c =

@@ -2,7 +2,6 @@
 -- Assumes nothing.
 use Prim.Native.Nat.{◌-◌, ◌<◌, ◌≤◌}
 use mathlib.Core.Path.{◌≡◌}
-use native.Mathlib.Omega.{arith}
 use lib.ListN.{length, get_or, take}
 use Rattle.search.specs.Keys.{place_of}
 use Rattle.gathering.specs.Gathering.{seats_of}

@@ -1,7 +1,6 @@
 -- `gathering::settle` meets its contract: each turn puts the last own row that stands behind what is left, in each column by one law.
 -- Assumes nothing.
-use Prim.Native.Nat.{ℕ, ◌-◌}
-use native.Mathlib.Omega.{arith}
+use Prim.Native.Nat.{ℕ}
 use lib.Ieee.{Float}
 use Rattle.gathering.proofs.Settling.{Settling}
 use Rattle.gathering.proofs.settle.Given as goal

@@ -1,7 +1,7 @@
 -- `gathering::skip_fours` meets its contract: the walk never passes the key's place.
 use native.Mathlib.Omega.{arith}
 use Rattle.gathering.proofs.Placing.{goes, not_past, place_within}
-use Prim.Native.Nat.{◌-◌, ◌+◌}
+use Prim.Native.Nat.{◌+◌}
 use Rattle.gathering.proofs.skip_fours.Goals as goal
 
 pub loop-place-init : goal.loop-place-init

@@ -1,6 +1,5 @@
 -- `gathering::skip_fours` meets its contract: the walk never passes the key's place.
 -- Assumes nothing.
-use native.Mathlib.Omega.{arith}
 use Prim.Native.Nat.{◌≤◌, ◌-◌}
 use lib.ListN.{take}
 use Rattle.search.specs.Keys.{place_of}

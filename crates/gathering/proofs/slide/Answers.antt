@@ -10,19 +10,12 @@ use Rattle.gathering.proofs.slide.Goals as goal
 
 pub returns-then-end-to : goal.returns-then-end-to
 returns-then-end-to c =
-    record {
-      end_value = (let h = c.requires.from_le_end.0 in
-          let e = c.if-end-to.true in
-          (omega arith, (stays 0 _ _ _ _ h e, (stays nan _ _ _ _ h e, stays nan _ _ _ _ h e)))).0;
-      keys_after = (let h = c.requires.from_le_end.0 in
-          let e = c.if-end-to.true in
-          (omega arith, (stays 0 _ _ _ _ h e, (stays nan _ _ _ _ h e, stays nan _ _ _ _ h e)))).1;
-      distances_after = (let h = c.requires.from_le_end.0 in
-          let e = c.if-end-to.true in
-          (omega arith, (stays 0 _ _ _ _ h e, (stays nan _ _ _ _ h e, stays nan _ _ _ _ h e)))).2;
-      weights_after = (let h = c.requires.from_le_end.0 in
-          let e = c.if-end-to.true in
-          (omega arith, (stays 0 _ _ _ _ h e, (stays nan _ _ _ _ h e, stays nan _ _ _ _ h e)))).3;
+    let h = c.requires.from_le_end.0 in
+    let e = c.if-end-to.true in record {
+      end_value = omega arith;
+      keys_after = stays 0 _ _ _ _ h e;
+      distances_after = stays nan _ _ _ _ h e;
+      weights_after = stays nan _ _ _ _ h e;
     }
 
 pub loop-i-init : goal.loop-i-init
@@ -59,17 +52,10 @@ loop-i-preserved c =
 
 pub returns : goal.returns
 returns c =
-    record {
-      end_value = (let l = c.loop-i in
-          let e : l.i ≡ c.args.from = omega (arith, c.loop-i-test.false, l.invariant.0) in
-          (rw e at l.invariant.2, (rw e at l.invariant.6, (rw e at l.invariant.7, rw e at l.invariant.8)))).0;
-      keys_after = (let l = c.loop-i in
-          let e : l.i ≡ c.args.from = omega (arith, c.loop-i-test.false, l.invariant.0) in
-          (rw e at l.invariant.2, (rw e at l.invariant.6, (rw e at l.invariant.7, rw e at l.invariant.8)))).1;
-      distances_after = (let l = c.loop-i in
-          let e : l.i ≡ c.args.from = omega (arith, c.loop-i-test.false, l.invariant.0) in
-          (rw e at l.invariant.2, (rw e at l.invariant.6, (rw e at l.invariant.7, rw e at l.invariant.8)))).2;
-      weights_after = (let l = c.loop-i in
-          let e : l.i ≡ c.args.from = omega (arith, c.loop-i-test.false, l.invariant.0) in
-          (rw e at l.invariant.2, (rw e at l.invariant.6, (rw e at l.invariant.7, rw e at l.invariant.8)))).3;
+    let l = c.loop-i in
+    let e : l.i ≡ c.args.from = omega (arith, c.loop-i-test.false, l.invariant.0) in record {
+      end_value = rw e at l.invariant.2;
+      keys_after = rw e at l.invariant.6;
+      distances_after = rw e at l.invariant.7;
+      weights_after = rw e at l.invariant.8;
     }

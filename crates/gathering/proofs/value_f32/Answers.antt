@@ -1,6 +1,5 @@
 -- `gathering::value_f32` meets its contract: a seat over a row has as many rows below as its place says.
 -- Assumes nothing.
-use native.Mathlib.Omega.{arith}
 use lib.Ieee.{nan}
 use Rattle.gathering.proofs.Filling.{value_over, value_before}
 use Rattle.gathering.proofs.value_f32.Goals as goal

@@ -1,7 +1,6 @@
 -- `gathering::walk_from` meets its contract: the walk never passes the key's place.
 use native.Mathlib.Omega.{arith}
 use Rattle.gathering.proofs.Placing.{goes, stops, ends}
-use Prim.Native.Nat.{◌-◌}
 use Rattle.gathering.proofs.walk_from.Goals as goal
 
 pub returns-then-key-keys : goal.returns-then-key-keys
