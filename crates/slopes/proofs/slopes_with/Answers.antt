@@ -7,4 +7,4 @@ pub returns : goal.returns
 returns c =
     slopes_stored _ _ _ _ _ _ _ _ _ _ _ _ c.in-Distance.is
     c.morton_decode-c1.ensures c.morton_decode-c2.ensures
-    c.step_of_lem.ensures c.step_of-2.ensures c.step_of-3.ensures
+    c.step_of.ensures c.step_of-2.ensures c.step_of-3.ensures
