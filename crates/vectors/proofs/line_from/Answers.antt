@@ -1,5 +1,5 @@
 -- `vectors::line_from` meets its contract: the line so far with the bytes left says what the whole says, and the place never falls below the start.
-use Rattle.std.proofs.Common.{◌-◌, arith, rules, eq-eqb, ne_eqb}
+use Rattle.std.proofs.Common.{arith, rules, eq-eqb, ne_eqb}
 use Rattle.vectors.proofs.LineLaws.{turn, at_newline, at_end}
 use Rattle.vectors.proofs.line_from.Goals as goal
 

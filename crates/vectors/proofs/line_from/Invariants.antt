@@ -1,6 +1,6 @@
 -- `vectors::line_from` meets its contract: the line so far with the bytes left says what the whole says, and the place never falls below the start.
 -- Assumes nothing.
-use Rattle.std.proofs.Common.{◌≡◌, ◌-◌, ◌≤◌, length, drop, arith}
+use Rattle.std.proofs.Common.{◌≡◌, ◌-◌, ◌≤◌, length, drop}
 use Rattle.vectors.specs.Vectors.{taken_from}
 use Rattle.vectors.proofs.LineLaws.{taken_after}
 use Rattle.vectors.proofs.line_from.Given as goal
