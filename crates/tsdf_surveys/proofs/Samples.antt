@@ -13,7 +13,7 @@ use Rattle.ids.specs.Morton.{respaced}
 use Rattle.lists.specs.Lists.{kept}
 use Rattle.table.specs.declared.Settings.{Settings}
 use Rattle.search.specs.Keys.{rises_from, ascending, next, find}
-use Rattle.table.specs.Table.{Table, table, settings_of, rows, beside, rows_ok, need, check_with, table_check}
+use Rattle.table.specs.Table.{Table, table, settings_of, rows, rows_ok, need, check_with}
 use Rattle.tsdf_questions.specs.declared.Distance.{Distance}
 use Rattle.tsdf_questions.specs.declared.Distance.TheVariants as distance
 use Rattle.tsdf_questions.specs.declared.Surface.{Surface}

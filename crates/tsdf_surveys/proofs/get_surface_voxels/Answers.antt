@@ -14,7 +14,7 @@ returns c =
     let t = table a.keys.now a.distances.now a.weights.now a.count in
     let verdict = c.check_list-verdict.ensures in
     let done = c.list_checked-listed.ensures in record {
-      value = answered a.settings t _ _ _ verdict _ done.0;
-      out_after = cleared_to a.settings t _ _ _ verdict _ done.0 _ c.count_of.ensures _ _
-          c.clear_from_u64.ensures done.1;
+      value = answered a.settings t _ _ _ verdict _ done.value;
+      out_after = cleared_to a.settings t _ _ _ verdict _ done.value _ c.count_of.ensures _ _
+          c.clear_from_u64.ensures done.out_after;
     }

@@ -28,6 +28,6 @@ returns c =
     let w = c.list_surface-n.ensures in
     let e = c.room_for.ensures in
     record {
-      value = rw passed (answer_room xs a.out.now _ _ w.0 w.1 _ e);
-      out_after = keys_held xs a.out.now _ _ w.0 w.1 _ e;
+      value = rw passed (answer_room xs a.out.now _ _ w.value w.out_after _ e);
+      out_after = keys_held xs a.out.now _ _ w.value w.out_after _ e;
     }

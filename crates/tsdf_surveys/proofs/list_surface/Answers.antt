@@ -1,6 +1,5 @@
 -- `tsdf_surveys::list_surface` meets its contract: what is left of the rows is written after what was.
 use mathlib.Core.Path.{refl, sym, ap, ◌∙◌}
-use Prim.Native.Nat.{◌-◌}
 use native.Mathlib.Omega.{arith}
 use lib.ListN.{length}
 use lib.Seq.{sets}
@@ -22,7 +21,7 @@ loop-i-preserved-then-is_surface c =
       omega arith,
       omega (arith, c.loop-i.invariant.2, ap length k),
       wrote_more _ _ _ _ _ _ _ c.loop-i.invariant.3 k c.put_key.ensures,
-      c.put_key.auto.0 ∙ c.loop-i.invariant.4,
+      c.put_key.auto.out ∙ c.loop-i.invariant.4,
     )
 
 pub loop-i-preserved : goal.loop-i-preserved

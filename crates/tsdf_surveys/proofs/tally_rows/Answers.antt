@@ -1,6 +1,6 @@
 -- `tsdf_surveys::tally_rows` meets its contract: what is left of the rows, tallied onto what was, says what all say.
 use mathlib.Core.Path.{refl, sym, ap, ◌∙◌}
-use Prim.Native.Nat.{◌+◌, ◌-◌}
+use Prim.Native.Nat.{◌+◌}
 use native.Mathlib.Omega.{arith}
 use lib.Ieee.{nan, of_bits, neg}
 use lib.ListN.{get_or}

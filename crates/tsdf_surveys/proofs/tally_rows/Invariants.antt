@@ -2,7 +2,6 @@
 -- Assumes nothing.
 use mathlib.Core.Path.{◌≡◌}
 use Prim.Native.Nat.{◌-◌, ◌≤◌}
-use native.Mathlib.Omega.{arith}
 use Rattle.table.specs.Table.{rows_of}
 use Rattle.tsdf_surveys.specs.Statistics.{no_tally, tallied_all}
 use Rattle.tsdf_surveys.proofs.RowByRow.{rest}
