@@ -1,5 +1,6 @@
 -- `slopes::slopes_with` meets its contract, axis by axis.
 -- Assumes nothing.
+use Rattle.slopes.specs.Normals.{slopes_with}
 use Rattle.slopes.proofs.Working.{slopes_stored}
 use Rattle.slopes.proofs.slopes_with.Goals as goal
 
@@ -8,3 +9,7 @@ returns c =
     slopes_stored _ _ _ _ _ _ _ _ _ _ _ _ c.in-Distance.is
     c.morton_decode-c1.ensures c.morton_decode-c2.ensures
     c.step_of.ensures c.step_of-2.ensures c.step_of-3.ensures
+
+pub returns-in_default : goal.returns-in_default
+unfolding slopes_with
+returns-in_default c = rw c.in_default.is
