@@ -15,7 +15,7 @@ use Rattle.lists.specs.Listing.{room_for, count_of, held_for}
 use Rattle.lists.specs.declared.Listed.{Listed}
 use Rattle.lists.proofs.Bools.{and_first}
 use Rattle.lists.proofs.Held.{written_held}
-use Rattle.table.specs.Table.{Table, table, rows, rows_of}
+use Rattle.table.specs.Table.{Table, table, rows}
 use Rattle.table.specs.declared.Settings.{Settings}
 use Rattle.table.specs.declared.Checked.{Checked}
 use Rattle.table.specs.declared.Checked.TheVariants.{Passed}

@@ -1,6 +1,6 @@
 -- The neighbours on the lattice and the zero-crossing test are symmetric, a product of floats being so; so the zero-crossing edges meet demand 3.
 -- Assumes nothing.
-use Prim.Native.Nat.{ℕ, ◌-◌, ◌*◌}
+use Prim.Native.Nat.{ℕ, ◌*◌}
 use native.Mathlib.Nat.{mul_comm, sub_self}
 use mathlib.Core.Path.{◌≡◌, refl}
 use mathlib.Core.Bool.{Bool, true, false, ◌&&◌, and-false}

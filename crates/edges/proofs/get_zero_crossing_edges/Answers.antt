@@ -14,26 +14,12 @@ list_tested-requires c =
 
 pub returns : goal.returns
 returns c =
+    let verdict = c.check-verdict.ensures in
+    let a = c.args in
+    let t = table a.keys.now a.distances.now a.weights.now a.count in
+    let done = c.list_tested.ensures in
     record {
-      value = (let verdict = c.check-verdict.ensures in
-          let a = c.args in
-          let t = table a.keys.now a.distances.now a.weights.now a.count in
-          let done = c.list_tested.ensures in (
-            answered Open a.settings t _ _ _ verdict _ done.0,
-            (held_by Open a.settings t _ _ _ verdict _ done.0 _ _ _ done.1.0, held_by Open a.settings t _ _ _ verdict _ done.0 _ _ _ done.1.1),
-          )).0;
-      first_after = (let verdict = c.check-verdict.ensures in
-          let a = c.args in
-          let t = table a.keys.now a.distances.now a.weights.now a.count in
-          let done = c.list_tested.ensures in (
-            answered Open a.settings t _ _ _ verdict _ done.0,
-            (held_by Open a.settings t _ _ _ verdict _ done.0 _ _ _ done.1.0, held_by Open a.settings t _ _ _ verdict _ done.0 _ _ _ done.1.1),
-          )).1;
-      second_after = (let verdict = c.check-verdict.ensures in
-          let a = c.args in
-          let t = table a.keys.now a.distances.now a.weights.now a.count in
-          let done = c.list_tested.ensures in (
-            answered Open a.settings t _ _ _ verdict _ done.0,
-            (held_by Open a.settings t _ _ _ verdict _ done.0 _ _ _ done.1.0, held_by Open a.settings t _ _ _ verdict _ done.0 _ _ _ done.1.1),
-          )).2;
+      value = answered Open a.settings t _ _ _ verdict _ done.value;
+      first_after = held_by Open a.settings t _ _ _ verdict _ done.value _ _ _ done.first_after;
+      second_after = held_by Open a.settings t _ _ _ verdict _ done.value _ _ _ done.second_after;
     }

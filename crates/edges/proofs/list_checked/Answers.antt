@@ -11,16 +11,12 @@ use Rattle.edges.proofs.list_checked.Goals as goal
 pub returns-in-Refused : goal.returns-in-Refused
 unfolding answer_if
 returns-in-Refused c =
+    let a = c.args in
+    let es = edges_on a.surface (rows_of a.keys.now a.distances.now a.weights.now a.count) in
     record {
-      value = (let a = c.args in
-          let es = edges_on a.surface (rows_of a.keys.now a.distances.now a.weights.now a.count) in
-          (rw c.in-Refused.is refl, (refused_held 0 _ a.first.now (firsts es), refused_held 0 _ a.second.now (seconds es)))).0;
-      first_after = (let a = c.args in
-          let es = edges_on a.surface (rows_of a.keys.now a.distances.now a.weights.now a.count) in
-          (rw c.in-Refused.is refl, (refused_held 0 _ a.first.now (firsts es), refused_held 0 _ a.second.now (seconds es)))).1;
-      second_after = (let a = c.args in
-          let es = edges_on a.surface (rows_of a.keys.now a.distances.now a.weights.now a.count) in
-          (rw c.in-Refused.is refl, (refused_held 0 _ a.first.now (firsts es), refused_held 0 _ a.second.now (seconds es)))).2;
+      value = rw c.in-Refused.is refl;
+      first_after = refused_held 0 _ a.first.now (firsts es);
+      second_after = refused_held 0 _ a.second.now (seconds es);
     }
 
 pub list_edges-n-requires : goal.list_edges-n-requires
@@ -30,17 +26,11 @@ list_edges-n-requires c =
 
 pub returns : goal.returns
 returns c =
+    let passed = c.in_default.is in
+    let w = c.list_edges-n.ensures in
+    let e = c.room_for.ensures in
     record {
-      value = (let passed = c.in_default.is in
-          let w = c.list_edges-n.ensures in
-          let e = c.room_for.ensures in
-          (rw passed (answer_room _ _ _ _ _ _ w _ e), (firsts_held _ _ _ _ _ _ w _ e, seconds_held _ _ _ _ _ _ w _ e (outputs_same _ _ (c.requires passed).1)))).0;
-      first_after = (let passed = c.in_default.is in
-          let w = c.list_edges-n.ensures in
-          let e = c.room_for.ensures in
-          (rw passed (answer_room _ _ _ _ _ _ w _ e), (firsts_held _ _ _ _ _ _ w _ e, seconds_held _ _ _ _ _ _ w _ e (outputs_same _ _ (c.requires passed).1)))).1;
-      second_after = (let passed = c.in_default.is in
-          let w = c.list_edges-n.ensures in
-          let e = c.room_for.ensures in
-          (rw passed (answer_room _ _ _ _ _ _ w _ e), (firsts_held _ _ _ _ _ _ w _ e, seconds_held _ _ _ _ _ _ w _ e (outputs_same _ _ (c.requires passed).1)))).2;
+      value = rw passed (answer_room _ _ _ _ _ _ w _ e);
+      first_after = firsts_held _ _ _ _ _ _ w _ e;
+      second_after = seconds_held _ _ _ _ _ _ w _ e (outputs_same _ _ (c.requires passed).1);
     }

@@ -1,5 +1,5 @@
 -- `edges::list_edges` meets its contract: what is left of the rows says what all of them say.
-use Prim.Native.Nat.{◌≤◌, ◌-◌}
+use Prim.Native.Nat.{◌≤◌}
 use native.Mathlib.Omega.{arith}
 use lib.ListN.{length, length-take}
 use Rattle.table.specs.Table.{rows_of, beside}

@@ -1,7 +1,6 @@
 -- `edges::list_edges` meets its contract: what is left of the rows says what all of them say.
 -- Assumes nothing.
 use Prim.Native.Nat.{◌*◌, ◌≤◌, ◌-◌}
-use native.Mathlib.Omega.{arith}
 use Rattle.table.specs.Table.{rows_of}
 use Rattle.neighbors.specs.Neighbors.{neighbours}
 use Rattle.edges.specs.Surfaces.{crosses_on}

@@ -5,29 +5,10 @@ use Rattle.edges.proofs.list_tested.Goals as goal
 
 pub returns : goal.returns
 returns c =
+    let n = c.count_of-n.ensures in
+    let done = c.list_checked-listed.ensures in
     record {
-      value = (let n = c.count_of-n.ensures in
-          let done = c.list_checked-listed.ensures in (
-            done.0,
-            (
-              cleared_held _ _ n _ _ _ _ c.clear_from_u64.ensures done.1.0,
-              cleared_held _ _ n _ _ _ _ c.clear_from_u64-2.ensures done.1.1,
-            ),
-          )).0;
-      first_after = (let n = c.count_of-n.ensures in
-          let done = c.list_checked-listed.ensures in (
-            done.0,
-            (
-              cleared_held _ _ n _ _ _ _ c.clear_from_u64.ensures done.1.0,
-              cleared_held _ _ n _ _ _ _ c.clear_from_u64-2.ensures done.1.1,
-            ),
-          )).1;
-      second_after = (let n = c.count_of-n.ensures in
-          let done = c.list_checked-listed.ensures in (
-            done.0,
-            (
-              cleared_held _ _ n _ _ _ _ c.clear_from_u64.ensures done.1.0,
-              cleared_held _ _ n _ _ _ _ c.clear_from_u64-2.ensures done.1.1,
-            ),
-          )).2;
+      value = done.value;
+      first_after = cleared_held _ _ n _ _ _ _ c.clear_from_u64.ensures done.first_after;
+      second_after = cleared_held _ _ n _ _ _ _ c.clear_from_u64-2.ensures done.second_after;
     }
