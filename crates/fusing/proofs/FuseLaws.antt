@@ -1,12 +1,11 @@
 -- What each answer tells of the table: New that the key was not stored, and there is a row more; Changed that it was, and there are as many rows;
 -- a far or refused reading leaves the table as it stood, its count and every place with it.
 -- Assumes nothing.
-use mathlib.Core.Path.{◌≡◌, refl, sym, ap, subst, ◌∙◌}
+use mathlib.Core.Path.{◌≡◌, refl, ap, subst, ◌∙◌}
 use mathlib.Core.Logic.{◌⊎◌, inl, inr}
 use mathlib.Core.Bool.{Bool, true, false, cond}
 use Prim.Native.Nat.{ℕ, suc}
 use native.Mathlib.Numerals.{add-one}
-use native.Mathlib.Omega.{arith}
 use borrow.Author.Tests.{ltb-true}
 use lib.ListN.{length, take}
 use Rattle.floats.specs.Floats.{million, within}
@@ -15,7 +14,6 @@ use Rattle.refusals.specs.declared.Refusal.{Refusal}
 use Rattle.refusals.specs.declared.Refusal.TheVariants.{TooLarge}
 use Rattle.table.specs.declared.Settings.{Settings}
 use Rattle.table.specs.declared.Checked.{Checked}
-use Rattle.table.specs.declared.Checked.TheVariants as Checked
 use Rattle.search.specs.declared.Found.{Found}
 use Rattle.search.specs.declared.Found.TheVariants.{At, Absent}
 use Rattle.search.specs.Keys.{find}
@@ -29,7 +27,6 @@ use Rattle.measuring.specs.declared.Admitted.{Admitted}
 use Rattle.measuring.specs.declared.Admitted.TheVariants.{Near, Far, No}
 use Rattle.fusing.specs.declared.Step.TheVariants as Step
 use Rattle.fusing.specs.declared.Fused.{Fused}
-use Rattle.fusing.specs.declared.Fused.TheVariants as Fused
 use Rattle.measuring.specs.Readings.{admitted}
 use Rattle.fusing.specs.Steps.{says_far, answers_far}
 use Rattle.fusing.specs.Fusing.{Outcome, outcome, effect, averaging_of, fused_voxel, voxel_at, has_place, step_at, stored, fused_near, fused_if, fuse_if, effect_of, stored_key, fused_of, answered, fuse}

@@ -35,7 +35,6 @@ use Rattle.fusing.specs.declared.Voxel.{Voxel}
 use Rattle.measuring.specs.declared.Reading.{Reading}
 use Rattle.fusing.specs.declared.Averaging.{Averaging}
 use Rattle.fusing.specs.declared.Step.{Step}
-use Rattle.fusing.specs.declared.Step.TheVariants as Step
 use Rattle.measuring.specs.declared.Admitted.{Admitted}
 use Rattle.measuring.specs.declared.Admitted.TheVariants.{Near, Far, No}
 use Rattle.measuring.specs.Readings.{admitted}

@@ -17,7 +17,7 @@ use Rattle.ids.specs.Morton.{respaced}
 use Rattle.root.specs.Root.{root_below, isqrt, rounded, root_of}
 use Rattle.table.specs.declared.Settings.{Settings}
 use Rattle.search.specs.Keys.{rises_from, ascending, next, find}
-use Rattle.table.specs.Table.{Row, Table, table, settings_of, beside, rows, rows_ok, need, check_with, table_check, put, relaid}
+use Rattle.table.specs.Table.{Row, Table, table, settings_of, rows, rows_ok, need, check_with, put, relaid}
 use Rattle.measuring.specs.declared.Reading.{Reading}
 use Rattle.measuring.specs.declared.Reading.TheVariants.{Direct, Ray}
 use Rattle.measuring.specs.Readings.{squares, ray_distance, admit_if, admitted}

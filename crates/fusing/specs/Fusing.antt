@@ -9,19 +9,15 @@ use Rattle.table.specs.declared.Settings.{Settings}
 use Rattle.search.specs.declared.Found.{Found}
 use Rattle.search.specs.declared.Found.TheVariants.{At, Absent}
 use Rattle.table.specs.declared.Checked.{Checked}
-use Rattle.table.specs.declared.Checked.TheVariants as Checked
 use Rattle.search.specs.Keys.{member, find, place_of}
 use Rattle.table.specs.Table.{row, Table, rows, table_check, put, relaid}
 use Rattle.fusing.specs.declared.Averaging.{Averaging}
 use Rattle.fusing.specs.declared.Voxel.{Voxel}
 use Rattle.fusing.specs.declared.Step.{Step}
-use Rattle.fusing.specs.declared.Step.TheVariants as Step
 use Rattle.measuring.specs.declared.Reading.{Reading}
 use Rattle.measuring.specs.declared.Measured.{Measured}
 use Rattle.measuring.specs.declared.Admitted.{Admitted}
-use Rattle.measuring.specs.declared.Admitted.TheVariants as Admitted
 use Rattle.fusing.specs.declared.Fused.{Fused}
-use Rattle.fusing.specs.declared.Fused.TheVariants as Fused
 use Rattle.measuring.specs.Readings.{admitted}
 
 -- what a fuse answers, and the table that it leaves

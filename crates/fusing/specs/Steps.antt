@@ -1,9 +1,7 @@
 -- Far, as the tests of a reading say it and as it is answered: what serves the counting of a batch.
 use Rattle.std.specs.Prelude.{Bool, true, false}
 use Rattle.measuring.specs.declared.Admitted.{Admitted}
-use Rattle.measuring.specs.declared.Admitted.TheVariants as Admitted
 use Rattle.fusing.specs.declared.Fused.{Fused}
-use Rattle.fusing.specs.declared.Fused.TheVariants as Fused
 
 -- the tests of a reading say that it is far
 unfoldable pub says_far : Admitted → Bool

@@ -6,16 +6,16 @@ use Rattle.fusing.proofs.Storing.{no_place, too_large_new, added}
 use Rattle.fusing.proofs.add_row.Goals as goal
 
 pub returns-then-keys-n : goal.returns-then-keys-n
-returns-then-keys-n c = no_place _ _ _ _ _ _ _ c.requires.keys_value.1 c.if-keys-n.true
+returns-then-keys-n c = no_place _ _ _ _ _ _ _ c.requires.keys_value_2 c.if-keys-n.true
 
 pub returns-then-not-within : goal.returns-then-not-within
 returns-then-not-within c =
-    too_large_new _ _ _ _ _ _ _ c.requires.keys_value.1 c.if-keys-n.false _
+    too_large_new _ _ _ _ _ _ _ c.requires.keys_value_2 c.if-keys-n.false _
     c.fused_voxel-v.ensures (no c.within.ensures (ap not c.if-not-within.true))
 
 pub returns : goal.returns
 returns c =
-    added _ _ _ _ _ _ _ c.requires.keys_value.1 c.if-keys-n.false _
+    added _ _ _ _ _ _ _ c.requires.keys_value_2 c.if-keys-n.false _
     c.fused_voxel-v.ensures (yes c.within.ensures (ap not c.if-not-within.false)) c.requires.count_value
-    c.requires.keys_value.0
+    c.requires.keys_value
     _ c.place_of-place.ensures _ _ _ c.insert_u64.ensures c.insert_f32.ensures c.insert_f32-2.ensures
