@@ -72,7 +72,7 @@ distance_grows n r (s ∷ rs) {d} o h =
     (λ f g. g) (λ f g. distance_grows n r rs (or_second (eqb s.key r.key) (is_stored r.key rs) o) g) h)
     (λ e.
     cases (λ (b : Bool). eqb r.key n ≡ b → cond b (some r.distance) (distance_of n (s ∷ rs)) ≡ some d) (eqb r.key n)
-    (λ _ f. absurd (true≢false (sym (stored_distance n (s ∷ rs) h) ∙ rw (← (eqb-true r.key n f)) o)))
+    (λ _ f. absurd (true≢false (sym (stored_distance n (s ∷ rs) h) ∙ subst (λ (j : ℕ). is_stored j (s ∷ rs) ≡ false) (eqb-true r.key n f) o)))
     (λ _ f. h)
     refl)
 
