@@ -1,5 +1,5 @@
 -- `vertices::list_normals` meets its contract: what is left of the edges says what all of them say.
-use Prim.Native.Nat.{◌≤◌, ◌<◌, ◌-◌, min}
+use Prim.Native.Nat.{◌≤◌, ◌<◌, min}
 use mathlib.Core.Path.{refl, ◌∙◌}
 use native.Mathlib.Omega.{arith}
 use lib.ListN.{length}
@@ -35,42 +35,40 @@ loop-i-preserved c =
     let a = c.args in
     let h : i < min a.edges (length a.first.now) = omega (arith, v.0, c.loop-i-test.true) in
     let t = c.next_normal-normal.ensures in
-    let next = normal_next (distance_by a.keys.now a.distances.now a.count) a.voxel-size.0 a.edges a.first.now i h in
+    let next = normal_next (distance_by a.keys.now a.distances.now a.count) a.voxel_size.0 a.edges a.first.now i h in
     let nx = c.put.ensures in
     let ny = c.put-in-loop-i.ensures in
     let nz = c.put-in-loop-i-2.ensures in (
       v.0,
       t,
-      c.put.auto.0 ∙ v.2,
-      c.put-in-loop-i.auto.0 ∙ v.3,
-      c.put-in-loop-i-2.auto.0 ∙ v.4,
+      c.put.auto.list ∙ v.2,
+      c.put-in-loop-i.auto.list ∙ v.3,
+      c.put-in-loop-i-2.auto.list ∙ v.4,
       v.5 ∙ column_more (λ (u : Normal). u.x) _ i _ _ _ _ next (nx ∙ rw t),
       v.6 ∙ column_more (λ (u : Normal). u.y) _ i _ _ _ _ next (ny ∙ rw t),
       v.7 ∙ column_more (λ (u : Normal). u.z) _ i _ _ _ _ next (nz ∙ rw t),
     )
 
-pub returns : goal.returns
-returns c =
-    record {
-      nx_after = (let v = c.loop-i.invariant in
-          let a = c.args in
-          let h : min a.edges (length a.first.now) ≤ c.loop-i.i = omega (arith, v.0) in
-          let end = normals_end (distance_by a.keys.now a.distances.now a.count) a.voxel-size.0 a.edges a.first.now c.loop-i.i h in (
-            column_done (λ (u : Normal). u.x) _ c.loop-i.i _ _ v.5 end,
-            (column_done (λ (u : Normal). u.y) _ c.loop-i.i _ _ v.6 end, column_done (λ (u : Normal). u.z) _ c.loop-i.i _ _ v.7 end),
-          )).0;
-      ny_after = (let v = c.loop-i.invariant in
-          let a = c.args in
-          let h : min a.edges (length a.first.now) ≤ c.loop-i.i = omega (arith, v.0) in
-          let end = normals_end (distance_by a.keys.now a.distances.now a.count) a.voxel-size.0 a.edges a.first.now c.loop-i.i h in (
-            column_done (λ (u : Normal). u.x) _ c.loop-i.i _ _ v.5 end,
-            (column_done (λ (u : Normal). u.y) _ c.loop-i.i _ _ v.6 end, column_done (λ (u : Normal). u.z) _ c.loop-i.i _ _ v.7 end),
-          )).1;
-      nz_after = (let v = c.loop-i.invariant in
-          let a = c.args in
-          let h : min a.edges (length a.first.now) ≤ c.loop-i.i = omega (arith, v.0) in
-          let end = normals_end (distance_by a.keys.now a.distances.now a.count) a.voxel-size.0 a.edges a.first.now c.loop-i.i h in (
-            column_done (λ (u : Normal). u.x) _ c.loop-i.i _ _ v.5 end,
-            (column_done (λ (u : Normal). u.y) _ c.loop-i.i _ _ v.6 end, column_done (λ (u : Normal). u.z) _ c.loop-i.i _ _ v.7 end),
-          )).2;
-    }
+pub returns-clause-nx_after : goal.returns-clause-nx_after
+returns-clause-nx_after c =
+    let v = c.loop-i.invariant in
+    let a = c.args in
+    let h : min a.edges (length a.first.now) ≤ c.loop-i.i = omega (arith, v.0) in
+    column_done (λ (u : Normal). u.x) _ c.loop-i.i _ _ v.5
+    (normals_end (distance_by a.keys.now a.distances.now a.count) a.voxel_size.0 a.edges a.first.now c.loop-i.i h)
+
+pub returns-clause-ny_after : goal.returns-clause-ny_after
+returns-clause-ny_after c =
+    let v = c.loop-i.invariant in
+    let a = c.args in
+    let h : min a.edges (length a.first.now) ≤ c.loop-i.i = omega (arith, v.0) in
+    column_done (λ (u : Normal). u.y) _ c.loop-i.i _ _ v.6
+    (normals_end (distance_by a.keys.now a.distances.now a.count) a.voxel_size.0 a.edges a.first.now c.loop-i.i h)
+
+pub returns-clause-nz_after : goal.returns-clause-nz_after
+returns-clause-nz_after c =
+    let v = c.loop-i.invariant in
+    let a = c.args in
+    let h : min a.edges (length a.first.now) ≤ c.loop-i.i = omega (arith, v.0) in
+    column_done (λ (u : Normal). u.z) _ c.loop-i.i _ _ v.7
+    (normals_end (distance_by a.keys.now a.distances.now a.count) a.voxel_size.0 a.edges a.first.now c.loop-i.i h)

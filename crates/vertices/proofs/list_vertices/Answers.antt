@@ -4,23 +4,13 @@ use Rattle.vertices.proofs.list_vertices.Goals as goal
 
 pub returns : goal.returns
 returns c =
+    let p = c.list_places.ensures in
+    let n = c.list_normals.ensures in
     record {
-      px_after = (let p = c.list_places.ensures in
-          let n = c.list_normals.ensures in
-          (p.0, (p.1.0, (p.1.1, (n.0, (n.1.0, n.1.1)))))).0;
-      py_after = (let p = c.list_places.ensures in
-          let n = c.list_normals.ensures in
-          (p.0, (p.1.0, (p.1.1, (n.0, (n.1.0, n.1.1)))))).1;
-      pz_after = (let p = c.list_places.ensures in
-          let n = c.list_normals.ensures in
-          (p.0, (p.1.0, (p.1.1, (n.0, (n.1.0, n.1.1)))))).2;
-      nx_after = (let p = c.list_places.ensures in
-          let n = c.list_normals.ensures in
-          (p.0, (p.1.0, (p.1.1, (n.0, (n.1.0, n.1.1)))))).3;
-      ny_after = (let p = c.list_places.ensures in
-          let n = c.list_normals.ensures in
-          (p.0, (p.1.0, (p.1.1, (n.0, (n.1.0, n.1.1)))))).4;
-      nz_after = (let p = c.list_places.ensures in
-          let n = c.list_normals.ensures in
-          (p.0, (p.1.0, (p.1.1, (n.0, (n.1.0, n.1.1)))))).5;
+      px_after = p.px_after;
+      py_after = p.py_after;
+      pz_after = p.pz_after;
+      nx_after = n.nx_after;
+      ny_after = n.ny_after;
+      nz_after = n.nz_after;
     }
