@@ -5,16 +5,9 @@ use mathlib.Core.Path.{ap, ◌∙◌}
 use native.Mathlib.Omega.{arith}
 use Rattle.lists.proofs.Bools.{yes, no}
 use Rattle.groups.specs.CellEdges.{span_in, cell_span}
-use Rattle.groups.specs.Steps.{Pairs}
 use Rattle.groups.specs.declared.Ends.{Ends}
 use Rattle.groups.proofs.CountingLaws.{lists_known, ends_few}
 use Rattle.groups.proofs.cell_span.Goals as goal
-
--- the lengths that passed
-known : (c : goal.Else-not-is_on_lattice) → let a = c.args in Pairs a.first.now a.second.now a.count
-known c = let a = c.args in
-    lists_known a.groups a.first.now a.second.now a.count
-    (yes c.edge_lists_ok.ensures (ap not c.if-not-edge_lists_ok.false))
 
 pub returns-then-not-edge_lists_ok : goal.returns-then-not-edge_lists_ok
 unfolding cell_span
@@ -29,12 +22,14 @@ returns-then-not-is_on_lattice c =
     )
 
 pub count_ends-ends-requires : goal.count_ends-ends-requires
-count_ends-ends-requires c = known c
+count_ends-ends-requires c =
+    let a = c.args in
+    lists_known a.groups a.first.now a.second.now a.count (yes c.edge_lists_ok.ensures (ap not c.if-not-edge_lists_ok.false))
 
 pub span_in-requires : goal.span_in-requires
 span_in-requires c =
-    let k = known c.before in
     let a = c.args in
+    let k = lists_known a.groups a.first.now a.second.now a.count (yes c.edge_lists_ok.ensures (ap not c.if-not-edge_lists_ok.false)) in
     rw c.count_ends-ends.ensures (ends_few a.first.now a.second.now a.count a.cell (omega (arith, k.fits, k.few)))
 
 pub returns : goal.returns

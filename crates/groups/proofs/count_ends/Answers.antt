@@ -1,5 +1,4 @@
 -- `groups::count_ends` meets its contract: what is left of the edges says what all of them say.
-use Prim.Native.Nat.{◌-◌}
 use mathlib.Core.Path.{◌≡◌, sym, ◌∙◌}
 use native.Mathlib.Omega.{arith}
 use Rattle.groups.specs.Groups.{start_of, count_of}

@@ -2,7 +2,6 @@
 -- Assumes nothing.
 use Prim.Native.Nat.{◌+◌, ◌-◌, ◌≤◌}
 use mathlib.Core.Path.{◌≡◌}
-use native.Mathlib.Omega.{arith}
 use lib.ListN.{drop}
 use Rattle.groups.specs.Groups.{start_of, count_of}
 use Rattle.groups.specs.CellEdges.{edges_in}

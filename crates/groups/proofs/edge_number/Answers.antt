@@ -1,5 +1,4 @@
 -- `groups::edge_number` meets its contract: the edges from a place on say what all of them say.
-use Prim.Native.Nat.{◌-◌}
 use mathlib.Core.Path.{refl, sym, ◌∙◌}
 use Rattle.groups.proofs.NumberLaws.{number_here, number_next, number_gone, number_ended}
 use Rattle.groups.proofs.edge_number.Goals as goal
