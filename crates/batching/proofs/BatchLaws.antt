@@ -15,17 +15,13 @@ use Rattle.lists.proofs.BesideLaws.{by_length, by_append}
 use Rattle.refusals.specs.declared.Refusal.{Refusal}
 use Rattle.table.specs.declared.Settings.{Settings}
 use Rattle.table.specs.declared.Checked.{Checked}
-use Rattle.table.specs.declared.Checked.TheVariants as Checked
 use Rattle.table.specs.Table.{Table, lengths_ok, table_check}
 use Rattle.table.proofs.RowLaws.{lengths_known}
 use Rattle.table.proofs.Checking.{with_fit, with_passed}
 use Rattle.fusing.specs.declared.Fused.{Fused}
-use Rattle.fusing.specs.declared.Fused.TheVariants as Fused
 use Rattle.batching.specs.declared.Counts.{Counts}
 use Rattle.batching.specs.declared.Batched.{Batched}
-use Rattle.batching.specs.declared.Batched.TheVariants as Batched
 use Rattle.batching.specs.declared.Ending.{Ending}
-use Rattle.batching.specs.declared.Ending.TheVariants as Ending
 use Rattle.fusing.specs.Fusing.{Outcome, fuse_if, effect_of, fuse}
 use Rattle.batching.specs.Batches.{BatchOutcome, batch_outcome, BatchEnd, batch_end, readings_taken, batched_of, answer_of, Entry, entry, entries, direct_of, stop_or, batch_from, ahead_of, answers_from, counts, counts_of, batch_if, batch_check, batch, batched_counts}
 use Rattle.fusing.proofs.Keeping.{fuse_keeps}

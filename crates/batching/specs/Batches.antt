@@ -4,17 +4,13 @@ use Rattle.lists.specs.Beside.{beside_by}
 use Rattle.refusals.specs.Refusals.{number_of}
 use Rattle.table.specs.declared.Settings.{Settings}
 use Rattle.table.specs.declared.Checked.{Checked}
-use Rattle.table.specs.declared.Checked.TheVariants as Checked
 use Rattle.table.specs.Table.{Table, lengths_ok, check_with}
 use Rattle.measuring.specs.declared.Reading.{Reading}
 use Rattle.measuring.specs.declared.Reading.TheVariants.{Direct}
 use Rattle.fusing.specs.declared.Fused.{Fused}
-use Rattle.fusing.specs.declared.Fused.TheVariants as Fused
 use Rattle.batching.specs.declared.Counts.{Counts}
 use Rattle.batching.specs.declared.Batched.{Batched}
-use Rattle.batching.specs.declared.Batched.TheVariants as Batched
 use Rattle.batching.specs.declared.Ending.{Ending}
-use Rattle.batching.specs.declared.Ending.TheVariants as Ending
 use Rattle.fusing.specs.Fusing.{fuse}
 
 -- what a batch answers, and the table that it leaves
