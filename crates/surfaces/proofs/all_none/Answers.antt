@@ -1,6 +1,5 @@
 -- `surfaces::all_none` meets its contract: the entries that are left pass exactly when all do.
 use Rattle.std.proofs.Common.{ap, not}
-use Prim.Native.Nat.{◌-◌}
 use mathlib.Core.Path.{refl, sym, ◌∙◌}
 use native.Mathlib.Omega.{arith}
 use lib.Ieee.{nan}

@@ -2,7 +2,6 @@
 -- Assumes nothing.
 use Prim.Native.Nat.{◌≤◌, ◌-◌}
 use mathlib.Core.Path.{◌≡◌}
-use native.Mathlib.Omega.{arith}
 use lib.ListN.{drop}
 use Rattle.corners.specs.Corners.{every}
 use Rattle.surfaces.specs.Stats.{is_none, normals_in}

@@ -3,7 +3,6 @@
 use Prim.Native.Nat.{◌≤◌, ◌-◌}
 use mathlib.Core.Path.{◌≡◌}
 use mathlib.Core.Bool.{true}
-use native.Mathlib.Omega.{arith}
 use lib.ListN.{drop}
 use Rattle.floats.specs.Floats.{zero32}
 use Rattle.corners.specs.Corners.{every, vertices_in, triangles_in, triangle_ok}

@@ -1,5 +1,4 @@
 -- `surfaces::box_of` meets its contract: what is left of the vertices says what all of them say.
-use Prim.Native.Nat.{◌-◌}
 use mathlib.Core.Path.{sym, ◌∙◌}
 use native.Mathlib.Omega.{arith}
 use Rattle.surfaces.proofs.BoxLaws.{box_none, box_first, box_more, box_done}
