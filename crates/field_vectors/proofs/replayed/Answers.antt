@@ -1,5 +1,4 @@
 -- `field_vectors::replayed` is safe and ends: each line leaves fewer bytes. Assumes nothing.
-use Prim.Native.Nat.{◌-◌}
 use native.Mathlib.Omega.{arith}
 use Rattle.field_vectors.proofs.replayed.Goals as goal
 
