@@ -2,9 +2,13 @@
 -- Assumes nothing.
 use mathlib.Core.Path.{sym, ◌∙◌}
 use native.Mathlib.Omega.{arith}
-use lib.Ieee.{of_bits}
+use lib.Ieee.{of_bits, nan_bits}
 use Rattle.hearing.proofs.Saying.{place_in, known_at, known_absent}
 use Rattle.hearing.proofs.known.Goals as goal
+
+pub float_from_bits-absent : goal.float_from_bits-absent
+unfolding nan_bits
+float_from_bits-absent c = tt
 
 pub returns-in_default : goal.returns-in_default
 unfolding of_bits
