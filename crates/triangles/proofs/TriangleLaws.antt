@@ -100,5 +100,5 @@ module _ (es : List Edge) (cells : List ℕ) (h : Covers es cells) (once : Disti
   pub triangles_only : (l : List (Three ℕ)) → IsTriangleList es l → l ≡ triangles es cells
   triangles_only l g =
       one_order (Before es) before_asym l (triangles es cells) g.ordered all_ordered
-      (λ t m. let c = g.only t m in triangles-are.every c.0 t c.1)
-      (λ t m. let c = triangles-are.only t m in g.every c.0 t c.1)
+      (λ t m. let c = g.only t m in triangles_are.every c.0 t c.1)
+      (λ t m. let c = triangles_are.only t m in g.every c.0 t c.1)

@@ -16,205 +16,23 @@ fill-filled-requires c =
 
 pub returns : goal.returns
 returns c =
+    let a = c.args in
+    let f = c.fill-filled.ensures in
+    let l = c.fill-filled.new in
     record {
-      value = (let a = c.args in
-          let f = c.fill-filled.ensures in
-          let l = c.fill-filled.new.1.1.1.1.1 in (
-            built_answer_lem a.keys.now a.rows a.first.now a.second.now a.edges a.groups.now a.t0.now
-                a.t1.now a.t2.now c.lengths_ok-ok.result c.rows_taken-n.result
-                c.fill-filled.result c.answer-listed.result l.0 l.1.0 l.1.1.0 l.1.1.1.0
-                c.lengths_ok-ok.ensures c.rows_taken-n.ensures f.0 f.1.0 f.1.1.0
-                f.1.1.1.0 f.1.1.1.1 c.answer-listed.ensures,
-            (
-              groups_settled a.keys.now a.rows a.first.now a.second.now a.edges a.groups.now
-                  a.t0.now a.t1.now a.t2.now c.lengths_ok-ok.result c.rows_taken-n.result
-                  c.fill-filled.result c.answer-listed.result l.0 l.1.0 l.1.1.0 l.1.1.1.0
-                  c.lengths_ok-ok.ensures c.rows_taken-n.ensures f.0 f.1.0 f.1.1.0
-                  f.1.1.1.0 f.1.1.1.1 c.answer-listed.ensures _ c.kept-numbers.ensures _
-                  c.clear_from_u32.ensures,
-              (
-                ones_settled a.keys.now a.rows a.first.now a.second.now a.edges a.groups.now
-                    a.t0.now a.t1.now a.t2.now c.lengths_ok-ok.result
-                    c.rows_taken-n.result c.fill-filled.result c.answer-listed.result l.0 l.1.0
-                    l.1.1.0 l.1.1.1.0 c.lengths_ok-ok.ensures c.rows_taken-n.ensures
-                    f.0 f.1.0 f.1.1.0 f.1.1.1.0 f.1.1.1.1 c.answer-listed.ensures _
-                    c.count_of-count.ensures _ c.clear_from_u32-2.ensures,
-                (
-                  twos_settled a.keys.now a.rows a.first.now a.second.now a.edges a.groups.now
-                      a.t0.now a.t1.now a.t2.now c.lengths_ok-ok.result
-                      c.rows_taken-n.result c.fill-filled.result c.answer-listed.result l.0 l.1.0
-                      l.1.1.0 l.1.1.1.0 c.lengths_ok-ok.ensures c.rows_taken-n.ensures
-                      f.0 f.1.0 f.1.1.0 f.1.1.1.0 f.1.1.1.1 c.answer-listed.ensures _
-                      c.count_of-count.ensures _
-                      c.clear_from_u32-3.ensures,
-                  threes_settled a.keys.now a.rows a.first.now a.second.now a.edges a.groups.now
-                      a.t0.now a.t1.now a.t2.now c.lengths_ok-ok.result
-                      c.rows_taken-n.result c.fill-filled.result c.answer-listed.result l.0 l.1.0
-                      l.1.1.0 l.1.1.1.0 c.lengths_ok-ok.ensures c.rows_taken-n.ensures
-                      f.0 f.1.0 f.1.1.0 f.1.1.1.0 f.1.1.1.1 c.answer-listed.ensures _
-                      c.count_of-count.ensures _ c.clear_from_u32-4.ensures,
-                ),
-              ),
-            ),
-          )).0;
-      groups_after = (let a = c.args in
-          let f = c.fill-filled.ensures in
-          let l = c.fill-filled.new.1.1.1.1.1 in (
-            built_answer_lem a.keys.now a.rows a.first.now a.second.now a.edges a.groups.now a.t0.now
-                a.t1.now a.t2.now c.lengths_ok-ok.result c.rows_taken-n.result
-                c.fill-filled.result c.answer-listed.result l.0 l.1.0 l.1.1.0 l.1.1.1.0
-                c.lengths_ok-ok.ensures c.rows_taken-n.ensures f.0 f.1.0 f.1.1.0
-                f.1.1.1.0 f.1.1.1.1 c.answer-listed.ensures,
-            (
-              groups_settled a.keys.now a.rows a.first.now a.second.now a.edges a.groups.now
-                  a.t0.now a.t1.now a.t2.now c.lengths_ok-ok.result c.rows_taken-n.result
-                  c.fill-filled.result c.answer-listed.result l.0 l.1.0 l.1.1.0 l.1.1.1.0
-                  c.lengths_ok-ok.ensures c.rows_taken-n.ensures f.0 f.1.0 f.1.1.0
-                  f.1.1.1.0 f.1.1.1.1 c.answer-listed.ensures _ c.kept-numbers.ensures _
-                  c.clear_from_u32.ensures,
-              (
-                ones_settled a.keys.now a.rows a.first.now a.second.now a.edges a.groups.now
-                    a.t0.now a.t1.now a.t2.now c.lengths_ok-ok.result
-                    c.rows_taken-n.result c.fill-filled.result c.answer-listed.result l.0 l.1.0
-                    l.1.1.0 l.1.1.1.0 c.lengths_ok-ok.ensures c.rows_taken-n.ensures
-                    f.0 f.1.0 f.1.1.0 f.1.1.1.0 f.1.1.1.1 c.answer-listed.ensures _
-                    c.count_of-count.ensures _ c.clear_from_u32-2.ensures,
-                (
-                  twos_settled a.keys.now a.rows a.first.now a.second.now a.edges a.groups.now
-                      a.t0.now a.t1.now a.t2.now c.lengths_ok-ok.result
-                      c.rows_taken-n.result c.fill-filled.result c.answer-listed.result l.0 l.1.0
-                      l.1.1.0 l.1.1.1.0 c.lengths_ok-ok.ensures c.rows_taken-n.ensures
-                      f.0 f.1.0 f.1.1.0 f.1.1.1.0 f.1.1.1.1 c.answer-listed.ensures _
-                      c.count_of-count.ensures _
-                      c.clear_from_u32-3.ensures,
-                  threes_settled a.keys.now a.rows a.first.now a.second.now a.edges a.groups.now
-                      a.t0.now a.t1.now a.t2.now c.lengths_ok-ok.result
-                      c.rows_taken-n.result c.fill-filled.result c.answer-listed.result l.0 l.1.0
-                      l.1.1.0 l.1.1.1.0 c.lengths_ok-ok.ensures c.rows_taken-n.ensures
-                      f.0 f.1.0 f.1.1.0 f.1.1.1.0 f.1.1.1.1 c.answer-listed.ensures _
-                      c.count_of-count.ensures _ c.clear_from_u32-4.ensures,
-                ),
-              ),
-            ),
-          )).1;
-      t0_after = (let a = c.args in
-          let f = c.fill-filled.ensures in
-          let l = c.fill-filled.new.1.1.1.1.1 in (
-            built_answer_lem a.keys.now a.rows a.first.now a.second.now a.edges a.groups.now a.t0.now
-                a.t1.now a.t2.now c.lengths_ok-ok.result c.rows_taken-n.result
-                c.fill-filled.result c.answer-listed.result l.0 l.1.0 l.1.1.0 l.1.1.1.0
-                c.lengths_ok-ok.ensures c.rows_taken-n.ensures f.0 f.1.0 f.1.1.0
-                f.1.1.1.0 f.1.1.1.1 c.answer-listed.ensures,
-            (
-              groups_settled a.keys.now a.rows a.first.now a.second.now a.edges a.groups.now
-                  a.t0.now a.t1.now a.t2.now c.lengths_ok-ok.result c.rows_taken-n.result
-                  c.fill-filled.result c.answer-listed.result l.0 l.1.0 l.1.1.0 l.1.1.1.0
-                  c.lengths_ok-ok.ensures c.rows_taken-n.ensures f.0 f.1.0 f.1.1.0
-                  f.1.1.1.0 f.1.1.1.1 c.answer-listed.ensures _ c.kept-numbers.ensures _
-                  c.clear_from_u32.ensures,
-              (
-                ones_settled a.keys.now a.rows a.first.now a.second.now a.edges a.groups.now
-                    a.t0.now a.t1.now a.t2.now c.lengths_ok-ok.result
-                    c.rows_taken-n.result c.fill-filled.result c.answer-listed.result l.0 l.1.0
-                    l.1.1.0 l.1.1.1.0 c.lengths_ok-ok.ensures c.rows_taken-n.ensures
-                    f.0 f.1.0 f.1.1.0 f.1.1.1.0 f.1.1.1.1 c.answer-listed.ensures _
-                    c.count_of-count.ensures _ c.clear_from_u32-2.ensures,
-                (
-                  twos_settled a.keys.now a.rows a.first.now a.second.now a.edges a.groups.now
-                      a.t0.now a.t1.now a.t2.now c.lengths_ok-ok.result
-                      c.rows_taken-n.result c.fill-filled.result c.answer-listed.result l.0 l.1.0
-                      l.1.1.0 l.1.1.1.0 c.lengths_ok-ok.ensures c.rows_taken-n.ensures
-                      f.0 f.1.0 f.1.1.0 f.1.1.1.0 f.1.1.1.1 c.answer-listed.ensures _
-                      c.count_of-count.ensures _
-                      c.clear_from_u32-3.ensures,
-                  threes_settled a.keys.now a.rows a.first.now a.second.now a.edges a.groups.now
-                      a.t0.now a.t1.now a.t2.now c.lengths_ok-ok.result
-                      c.rows_taken-n.result c.fill-filled.result c.answer-listed.result l.0 l.1.0
-                      l.1.1.0 l.1.1.1.0 c.lengths_ok-ok.ensures c.rows_taken-n.ensures
-                      f.0 f.1.0 f.1.1.0 f.1.1.1.0 f.1.1.1.1 c.answer-listed.ensures _
-                      c.count_of-count.ensures _ c.clear_from_u32-4.ensures,
-                ),
-              ),
-            ),
-          )).2;
-      t1_after = (let a = c.args in
-          let f = c.fill-filled.ensures in
-          let l = c.fill-filled.new.1.1.1.1.1 in (
-            built_answer_lem a.keys.now a.rows a.first.now a.second.now a.edges a.groups.now a.t0.now
-                a.t1.now a.t2.now c.lengths_ok-ok.result c.rows_taken-n.result
-                c.fill-filled.result c.answer-listed.result l.0 l.1.0 l.1.1.0 l.1.1.1.0
-                c.lengths_ok-ok.ensures c.rows_taken-n.ensures f.0 f.1.0 f.1.1.0
-                f.1.1.1.0 f.1.1.1.1 c.answer-listed.ensures,
-            (
-              groups_settled a.keys.now a.rows a.first.now a.second.now a.edges a.groups.now
-                  a.t0.now a.t1.now a.t2.now c.lengths_ok-ok.result c.rows_taken-n.result
-                  c.fill-filled.result c.answer-listed.result l.0 l.1.0 l.1.1.0 l.1.1.1.0
-                  c.lengths_ok-ok.ensures c.rows_taken-n.ensures f.0 f.1.0 f.1.1.0
-                  f.1.1.1.0 f.1.1.1.1 c.answer-listed.ensures _ c.kept-numbers.ensures _
-                  c.clear_from_u32.ensures,
-              (
-                ones_settled a.keys.now a.rows a.first.now a.second.now a.edges a.groups.now
-                    a.t0.now a.t1.now a.t2.now c.lengths_ok-ok.result
-                    c.rows_taken-n.result c.fill-filled.result c.answer-listed.result l.0 l.1.0
-                    l.1.1.0 l.1.1.1.0 c.lengths_ok-ok.ensures c.rows_taken-n.ensures
-                    f.0 f.1.0 f.1.1.0 f.1.1.1.0 f.1.1.1.1 c.answer-listed.ensures _
-                    c.count_of-count.ensures _ c.clear_from_u32-2.ensures,
-                (
-                  twos_settled a.keys.now a.rows a.first.now a.second.now a.edges a.groups.now
-                      a.t0.now a.t1.now a.t2.now c.lengths_ok-ok.result
-                      c.rows_taken-n.result c.fill-filled.result c.answer-listed.result l.0 l.1.0
-                      l.1.1.0 l.1.1.1.0 c.lengths_ok-ok.ensures c.rows_taken-n.ensures
-                      f.0 f.1.0 f.1.1.0 f.1.1.1.0 f.1.1.1.1 c.answer-listed.ensures _
-                      c.count_of-count.ensures _
-                      c.clear_from_u32-3.ensures,
-                  threes_settled a.keys.now a.rows a.first.now a.second.now a.edges a.groups.now
-                      a.t0.now a.t1.now a.t2.now c.lengths_ok-ok.result
-                      c.rows_taken-n.result c.fill-filled.result c.answer-listed.result l.0 l.1.0
-                      l.1.1.0 l.1.1.1.0 c.lengths_ok-ok.ensures c.rows_taken-n.ensures
-                      f.0 f.1.0 f.1.1.0 f.1.1.1.0 f.1.1.1.1 c.answer-listed.ensures _
-                      c.count_of-count.ensures _ c.clear_from_u32-4.ensures,
-                ),
-              ),
-            ),
-          )).3;
-      t2_after = (let a = c.args in
-          let f = c.fill-filled.ensures in
-          let l = c.fill-filled.new.1.1.1.1.1 in (
-            built_answer_lem a.keys.now a.rows a.first.now a.second.now a.edges a.groups.now a.t0.now
-                a.t1.now a.t2.now c.lengths_ok-ok.result c.rows_taken-n.result
-                c.fill-filled.result c.answer-listed.result l.0 l.1.0 l.1.1.0 l.1.1.1.0
-                c.lengths_ok-ok.ensures c.rows_taken-n.ensures f.0 f.1.0 f.1.1.0
-                f.1.1.1.0 f.1.1.1.1 c.answer-listed.ensures,
-            (
-              groups_settled a.keys.now a.rows a.first.now a.second.now a.edges a.groups.now
-                  a.t0.now a.t1.now a.t2.now c.lengths_ok-ok.result c.rows_taken-n.result
-                  c.fill-filled.result c.answer-listed.result l.0 l.1.0 l.1.1.0 l.1.1.1.0
-                  c.lengths_ok-ok.ensures c.rows_taken-n.ensures f.0 f.1.0 f.1.1.0
-                  f.1.1.1.0 f.1.1.1.1 c.answer-listed.ensures _ c.kept-numbers.ensures _
-                  c.clear_from_u32.ensures,
-              (
-                ones_settled a.keys.now a.rows a.first.now a.second.now a.edges a.groups.now
-                    a.t0.now a.t1.now a.t2.now c.lengths_ok-ok.result
-                    c.rows_taken-n.result c.fill-filled.result c.answer-listed.result l.0 l.1.0
-                    l.1.1.0 l.1.1.1.0 c.lengths_ok-ok.ensures c.rows_taken-n.ensures
-                    f.0 f.1.0 f.1.1.0 f.1.1.1.0 f.1.1.1.1 c.answer-listed.ensures _
-                    c.count_of-count.ensures _ c.clear_from_u32-2.ensures,
-                (
-                  twos_settled a.keys.now a.rows a.first.now a.second.now a.edges a.groups.now
-                      a.t0.now a.t1.now a.t2.now c.lengths_ok-ok.result
-                      c.rows_taken-n.result c.fill-filled.result c.answer-listed.result l.0 l.1.0
-                      l.1.1.0 l.1.1.1.0 c.lengths_ok-ok.ensures c.rows_taken-n.ensures
-                      f.0 f.1.0 f.1.1.0 f.1.1.1.0 f.1.1.1.1 c.answer-listed.ensures _
-                      c.count_of-count.ensures _
-                      c.clear_from_u32-3.ensures,
-                  threes_settled a.keys.now a.rows a.first.now a.second.now a.edges a.groups.now
-                      a.t0.now a.t1.now a.t2.now c.lengths_ok-ok.result
-                      c.rows_taken-n.result c.fill-filled.result c.answer-listed.result l.0 l.1.0
-                      l.1.1.0 l.1.1.1.0 c.lengths_ok-ok.ensures c.rows_taken-n.ensures
-                      f.0 f.1.0 f.1.1.0 f.1.1.1.0 f.1.1.1.1 c.answer-listed.ensures _
-                      c.count_of-count.ensures _ c.clear_from_u32-4.ensures,
-                ),
-              ),
-            ),
-          )).4;
+      value = built_answer_lem a.keys.now a.rows a.first.now a.second.now a.edges a.groups.now a.t0.now a.t1.now a.t2.now
+          c.lengths_ok-ok.result c.rows_taken-n.result c.fill-filled.result c.answer-listed.result l.groups l.t0 l.t1 l.t2
+          c.lengths_ok-ok.ensures c.rows_taken-n.ensures f.value f.groups_after f.t0_after f.t1_after f.t2_after c.answer-listed.ensures;
+      groups_after = groups_settled a.keys.now a.rows a.first.now a.second.now a.edges a.groups.now a.t0.now a.t1.now a.t2.now
+          c.lengths_ok-ok.result c.rows_taken-n.result c.fill-filled.result c.answer-listed.result l.groups l.t0 l.t1 l.t2
+          c.lengths_ok-ok.ensures c.rows_taken-n.ensures f.value f.groups_after f.t0_after f.t1_after f.t2_after c.answer-listed.ensures _ c.kept-numbers.ensures _ c.clear_from_u32.ensures;
+      t0_after = ones_settled a.keys.now a.rows a.first.now a.second.now a.edges a.groups.now a.t0.now a.t1.now a.t2.now
+          c.lengths_ok-ok.result c.rows_taken-n.result c.fill-filled.result c.answer-listed.result l.groups l.t0 l.t1 l.t2
+          c.lengths_ok-ok.ensures c.rows_taken-n.ensures f.value f.groups_after f.t0_after f.t1_after f.t2_after c.answer-listed.ensures _ c.count_of-count.ensures _ c.clear_from_u32-2.ensures;
+      t1_after = twos_settled a.keys.now a.rows a.first.now a.second.now a.edges a.groups.now a.t0.now a.t1.now a.t2.now
+          c.lengths_ok-ok.result c.rows_taken-n.result c.fill-filled.result c.answer-listed.result l.groups l.t0 l.t1 l.t2
+          c.lengths_ok-ok.ensures c.rows_taken-n.ensures f.value f.groups_after f.t0_after f.t1_after f.t2_after c.answer-listed.ensures _ c.count_of-count.ensures _ c.clear_from_u32-3.ensures;
+      t2_after = threes_settled a.keys.now a.rows a.first.now a.second.now a.edges a.groups.now a.t0.now a.t1.now a.t2.now
+          c.lengths_ok-ok.result c.rows_taken-n.result c.fill-filled.result c.answer-listed.result l.groups l.t0 l.t1 l.t2
+          c.lengths_ok-ok.ensures c.rows_taken-n.ensures f.value f.groups_after f.t0_after f.t1_after f.t2_after c.answer-listed.ensures _ c.count_of-count.ensures _ c.clear_from_u32-4.ensures;
     }

@@ -1,7 +1,6 @@
 -- `triangles::fill` meets its contract: the cells that are left say what all of them say.
 -- Assumes nothing.
 use Prim.Native.Nat.{◌≤◌, ◌*◌, ◌-◌}
-use native.Mathlib.Omega.{arith}
 use lib.ListN.{take}
 use Rattle.triangles.specs.Building.{source}
 use Rattle.triangles.proofs.FillingLaws.{Filling}

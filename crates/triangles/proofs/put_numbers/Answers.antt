@@ -1,5 +1,4 @@
 -- `triangles::put_numbers` meets its contract: the numbers that are left say what all of them say.
-use Prim.Native.Nat.{◌-◌}
 use native.Mathlib.Omega.{arith}
 use lib.ListN.{drop_of_length-le}
 use Rattle.lists.proofs.Parts.{written_begun, numbers_turn, written_ended, written_full}

@@ -1,7 +1,6 @@
 -- `triangles::put_numbers` meets its contract: the numbers that are left say what all of them say.
 -- Assumes nothing.
 use Prim.Native.Nat.{◌≤◌, ◌-◌}
-use native.Mathlib.Omega.{arith}
 use lib.ListN.{length, drop}
 use Rattle.lists.proofs.Parts.{Written}
 use Rattle.triangles.proofs.put_numbers.Given as goal

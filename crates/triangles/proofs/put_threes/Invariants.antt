@@ -1,7 +1,6 @@
 -- `triangles::put_threes` meets its contract: what is left in each of the three loops says what was left where the loop began.
 -- Assumes nothing.
 use Prim.Native.Nat.{◌≤◌, ◌-◌}
-use native.Mathlib.Omega.{arith}
 use lib.ListN.{length}
 use Rattle.lists.proofs.Putting.{Putting}
 use Rattle.triangles.proofs.PuttingLaws.{outer, middle, inner}
