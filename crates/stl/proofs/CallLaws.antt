@@ -16,7 +16,7 @@ use Rattle.lists.specs.Listing.{held_for}
 use Rattle.lists.specs.declared.Listed.TheVariants.{Count}
 use Rattle.lists.proofs.Bools.{and_eq}
 use Rattle.lists.proofs.PaddingLaws.{padded_front}
-use Rattle.floats.specs.Floats.{f32, zero32}
+use Rattle.floats.specs.Floats.{zero32}
 use Rattle.slopes.specs.declared.Vertex.{Vertex}
 use Rattle.corners.specs.Corners.{every, vertex, vertex_ok, vertices_in, Triangle, triangles_in}
 use Rattle.surfaces.specs.Areas.{numbered}
@@ -85,7 +85,7 @@ module _ (xs ys zs : List Float) (n : ℕ) (is js ks : List ℕ) (m room k : ℕ
       rw (e, same) (padded_front 0 room (file_of fs))
 
   pub few : length fs < 2 ^ 32
-  few = let w = export_counted xs ys zs n is js ks m room k e in rw written-length.2 (omega (arith, w.0.few))
+  few = let w = export_counted xs ys zs n is js ks m room k e in rw written_length.2 (omega (arith, w.0.few))
 
   module _ (bx : All Binary xs) (by : All Binary ys) (bz : All Binary zs) where
     pub binary : All BinaryFacet fs

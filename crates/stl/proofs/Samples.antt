@@ -8,10 +8,9 @@ use lib.ListN.{take}
 use Rattle.lists.specs.Beside.{beside_by}
 use Rattle.refusals.specs.declared.Refusal.TheVariants.{BadLength}
 use Rattle.lists.specs.Lists.{joined}
-use Rattle.lists.specs.Threes.{three}
 use Rattle.lists.specs.declared.Listed.TheVariants.{Count, Refused}
 use Rattle.floats.specs.Floats.{f32}
-use Rattle.corners.specs.Corners.{every, vertex}
+use Rattle.corners.specs.Corners.{every}
 use Rattle.words.specs.Words.{zeros, bytes_of}
 use Rattle.stl.specs.Files.{facet_bytes, file_of, facet_from, facets_from, facets_in}
 use Rattle.stl.specs.Calls.{facets_lent, export_answer, import_answer}

@@ -129,7 +129,7 @@ module _ (xs ys zs : List Float) (n : ℕ) (is js ks : List ℕ) (m room : ℕ) 
     facet_next =
         drop_map _ i ts
         ∙ ap (map _) (next triangle 0 is js ks m w.triangles i h)
-        ∙ rw (corner _ a ea k.0, corner _ b eb k.1, corner _ c ec k.2, ← drop_map _ (i + 1) ts)
+        ∙ rw (corner _ a ea k.0, corner _ b eb k.1, corner _ c ec k.2) (ap (λ (z : List Facet). three a b c ∷ z) (sym (drop_map _ (i + 1) ts)))
 
     -- one triangle more
     pub facet_written : (l l' l'' : List ℕ)
