@@ -18,8 +18,8 @@ spread-requires c =
     let k = c.store.auto in
     let p = c.requires in
     record {
-      lent = (p.0.0, (k.1.0 ∙ p.0.1.0 ∙ sym k.0, p.0.1.1));
-      key_value = p.1.0;
+      lent = (p.lent.0, (k.distances ∙ p.lent.1.0 ∙ sym k.keys, p.lent.1.1));
+      key_value = p.key_value.0;
     }
 
 pub returns-in-Not : goal.returns-in-Not
@@ -30,9 +30,9 @@ returns-in-Not c =
     λ s h told room.
     settle_no_row
     a.course c.requires.key_value.1 a.lean
-    (seed_in a.threshold (rows_of a.fused-keys.now a.fused-distances.now a.fused-weights.now a.fused-count))
+    (seed_in a.threshold (rows_of a.fused_keys.now a.fused_distances.now a.fused_weights.now a.fused_count))
     a.key a.count a.keys.now a.distances.now a.waiting a.estimates.now a.cells.now s h told room x.result
-    (x.ensures s.stored (marking_also a.lean a.key s.waiting) h.marked) r.result r.new.0 r.new.1.0 r.auto.0
+    (x.ensures s.stored (marking_also a.lean a.key s.waiting) h.marked) r.result r.new.keys r.new.distances r.auto.keys
     r.ensures _ c.in-Not.is
 
 pub returns-in-Not-spread : goal.returns-in-Not-spread
@@ -44,12 +44,12 @@ returns-in-Not-spread c =
     λ s h told room.
     settle_no_cell
     a.course c.requires.key_value.1 a.lean
-    (seed_in a.threshold (rows_of a.fused-keys.now a.fused-distances.now a.fused-weights.now a.fused-count))
+    (seed_in a.threshold (rows_of a.fused_keys.now a.fused_distances.now a.fused_weights.now a.fused_count))
     a.key a.count a.keys.now a.distances.now a.waiting a.estimates.now a.cells.now s h told room x.result
-    (x.ensures s.stored (marking_also a.lean a.key s.waiting) h.marked) r.result r.new.0 r.new.1.0 r.auto.0
+    (x.ensures s.stored (marking_also a.lean a.key s.waiting) h.marked) r.result r.new.keys r.new.distances r.auto.keys
     r.ensures _ c.in-Now.is d.result
-    d.new.1.1.1.1.1.1.1.0 d.new.1.1.1.1.1.1.1.1.0
-    d.new.1.1.1.1.1.1.1.1.1.0 d.new.1.1.1.1.1.1.1.1.1.1.0 d.ensures _ c.in-Not-spread.is
+    d.new.keys d.new.distances
+    d.new.estimates d.new.cells d.ensures _ c.in-Not-spread.is
 
 pub returns-in-Now-spread : goal.returns-in-Now-spread
 returns-in-Now-spread c =
@@ -60,9 +60,9 @@ returns-in-Now-spread c =
     λ s h told room.
     settle_done
     a.course c.requires.key_value.1 a.lean
-    (seed_in a.threshold (rows_of a.fused-keys.now a.fused-distances.now a.fused-weights.now a.fused-count))
+    (seed_in a.threshold (rows_of a.fused_keys.now a.fused_distances.now a.fused_weights.now a.fused_count))
     a.key a.count a.keys.now a.distances.now a.waiting a.estimates.now a.cells.now s h told room x.result
-    (x.ensures s.stored (marking_also a.lean a.key s.waiting) h.marked) r.result r.new.0 r.new.1.0 r.auto.0
+    (x.ensures s.stored (marking_also a.lean a.key s.waiting) h.marked) r.result r.new.keys r.new.distances r.auto.keys
     r.ensures _ c.in-Now.is d.result
-    d.new.1.1.1.1.1.1.1.0 d.new.1.1.1.1.1.1.1.1.0
-    d.new.1.1.1.1.1.1.1.1.1.0 d.new.1.1.1.1.1.1.1.1.1.1.0 d.ensures _ c.in-Now-spread.is
+    d.new.keys d.new.distances
+    d.new.estimates d.new.cells d.ensures _ c.in-Now-spread.is

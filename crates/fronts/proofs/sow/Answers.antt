@@ -15,8 +15,8 @@ wait_around-requires c =
     let k = c.store.auto in
     let p = c.requires in
     record {
-      lent = (p.0.0, (k.1.0 ∙ p.0.1.0 ∙ sym k.0, p.0.1.1));
-      key_value = (p.1.0, rw c.size.ensures (seed_number c.args.distance p.1.1));
+      lent = (p.lent.0, (k.distances ∙ p.lent.1.0 ∙ sym k.keys, p.lent.1.1));
+      key_value = (p.key_value.0, rw c.size.ensures (seed_number c.args.distance p.key_value.1));
     }
 
 pub returns-in-Not : goal.returns-in-Not
@@ -25,9 +25,9 @@ returns-in-Not c =
     let r = c.store in
     λ s h o told room.
     sow_no_row
-    a.course a.lean (seed_in a.threshold (rows_of a.fused-keys.now a.fused-distances.now a.fused-weights.now a.fused-count))
+    a.course a.lean (seed_in a.threshold (rows_of a.fused_keys.now a.fused_distances.now a.fused_weights.now a.fused_count))
     a.key a.count a.keys.now a.distances.now a.waiting a.estimates.now a.cells.now s h o told room a.distance c.requires.key_value.1
-    r.result r.new.0 r.new.1.0 r.auto.0 r.ensures _ c.in-Not.is
+    r.result r.new.keys r.new.distances r.auto.keys r.ensures _ c.in-Not.is
 
 pub returns-in-Not-wait_around : goal.returns-in-Not-wait_around
 returns-in-Not-wait_around c =
@@ -36,11 +36,11 @@ returns-in-Not-wait_around c =
     let d = c.wait_around in
     λ s h o told room.
     sow_no_cell
-    a.course a.lean (seed_in a.threshold (rows_of a.fused-keys.now a.fused-distances.now a.fused-weights.now a.fused-count))
+    a.course a.lean (seed_in a.threshold (rows_of a.fused_keys.now a.fused_distances.now a.fused_weights.now a.fused_count))
     a.key a.count a.keys.now a.distances.now a.waiting a.estimates.now a.cells.now s h o told room a.distance c.requires.key_value.1
-    r.result r.new.0 r.new.1.0 r.auto.0 r.ensures _ c.in-Now.is c.size.result c.size.ensures d.result
-    d.new.1.1.1.1.1.1.1.0 d.new.1.1.1.1.1.1.1.1.0
-    d.new.1.1.1.1.1.1.1.1.1.0 d.new.1.1.1.1.1.1.1.1.1.1.0 d.ensures _ c.in-Not-wait_around.is
+    r.result r.new.keys r.new.distances r.auto.keys r.ensures _ c.in-Now.is c.size.result c.size.ensures d.result
+    d.new.keys d.new.distances
+    d.new.estimates d.new.cells d.ensures _ c.in-Not-wait_around.is
 
 pub returns-in-Now-wait_around : goal.returns-in-Now-wait_around
 returns-in-Now-wait_around c =
@@ -49,8 +49,8 @@ returns-in-Now-wait_around c =
     let d = c.wait_around in
     λ s h o told room.
     sow_done
-    a.course a.lean (seed_in a.threshold (rows_of a.fused-keys.now a.fused-distances.now a.fused-weights.now a.fused-count))
+    a.course a.lean (seed_in a.threshold (rows_of a.fused_keys.now a.fused_distances.now a.fused_weights.now a.fused_count))
     a.key a.count a.keys.now a.distances.now a.waiting a.estimates.now a.cells.now s h o told room a.distance c.requires.key_value.1
-    r.result r.new.0 r.new.1.0 r.auto.0 r.ensures _ c.in-Now.is c.size.result c.size.ensures d.result
-    d.new.1.1.1.1.1.1.1.0 d.new.1.1.1.1.1.1.1.1.0
-    d.new.1.1.1.1.1.1.1.1.1.0 d.new.1.1.1.1.1.1.1.1.1.1.0 d.ensures _ c.in-Now-wait_around.is
+    r.result r.new.keys r.new.distances r.auto.keys r.ensures _ c.in-Now.is c.size.result c.size.ensures d.result
+    d.new.keys d.new.distances
+    d.new.estimates d.new.cells d.ensures _ c.in-Now-wait_around.is

@@ -19,15 +19,15 @@ pub returns-then-spreads : goal.returns-then-spreads
 returns-then-spreads c =
     let a = c.args in
     let d = c.wait_around in
-    spread_waits a.lean (seed_in a.threshold (rows_of a.fused-keys.now a.fused-distances.now a.fused-weights.now a.fused-count))
+    spread_waits a.lean (seed_in a.threshold (rows_of a.fused_keys.now a.fused_distances.now a.fused_weights.now a.fused_count))
     (lattice_of a.course) (marched_row a.key a.distance) a.keys.now a.distances.now a.waiting a.estimates.now a.cells.now
     c.onward-estimate.result c.onward-estimate.ensures c.spreads.result c.spreads.ensures
-    c.if-spreads.true d.result d.new.1.1.1.1.1.1.1.0 d.new.1.1.1.1.1.1.1.1.0
-    d.new.1.1.1.1.1.1.1.1.1.0 d.new.1.1.1.1.1.1.1.1.1.1.0 d.ensures
+    c.if-spreads.true d.result d.new.keys d.new.distances
+    d.new.estimates d.new.cells d.ensures
 
 pub returns-else-spreads : goal.returns-else-spreads
 returns-else-spreads c =
     let a = c.args in
-    spread_stays a.lean (seed_in a.threshold (rows_of a.fused-keys.now a.fused-distances.now a.fused-weights.now a.fused-count))
+    spread_stays a.lean (seed_in a.threshold (rows_of a.fused_keys.now a.fused_distances.now a.fused_weights.now a.fused_count))
     (lattice_of a.course) (marched_row a.key a.distance) a.keys.now a.distances.now a.waiting a.estimates.now a.cells.now
     c.onward-estimate.result c.onward-estimate.ensures c.spreads.result c.spreads.ensures c.if-spreads.false

@@ -19,16 +19,16 @@ pub overflow_sub-left : goal.overflow_sub-left
 overflow_sub-left c = omega (arith, c.requires.waiting_nonzero.0)
 
 pub known-requires : goal.known-requires
-known-requires c = (c.pre.0.1.0, real_key _ c.pre.1.1.1.1)
+known-requires c = (c.requires.lent.1.0, real_key _ c.requires.waiting_nonzero.1.1.1)
 
 pub returns-then-is_finite : goal.returns-then-is_finite
 returns-then-is_finite c =
     let a = c.args in
     let p = c.pop in
     λ s h told room.
-    take_skips a.lean (seed_in a.threshold (rows_of a.fused-keys.now a.fused-distances.now a.fused-weights.now a.fused-count))
+    take_skips a.lean (seed_in a.threshold (rows_of a.fused_keys.now a.fused_distances.now a.fused_weights.now a.fused_count))
     (lattice_of a.course) s a.count a.keys.now a.distances.now a.waiting a.estimates.now a.cells.now h c.requires.waiting_nonzero.0
-    p.new.0 p.new.1.0 p.ensures p.auto.1.0 c.known.result c.known.ensures
+    p.new.estimates p.new.cells p.ensures p.auto.cells c.known.result c.known.ensures
     (sym c.is_finite.ensures ∙ c.if-is_finite.true)
 
 pub settle-requires : goal.settle-requires
@@ -36,8 +36,8 @@ settle-requires c =
     let k = c.pop.auto in
     let p = c.requires in
     record {
-      lent = (p.0.0, (p.0.1.0, k.0 ∙ p.0.1.1 ∙ sym k.1.0));
-      key_value = (p.1.1.1.1, p.1.1.1.0);
+      lent = (p.lent.0, (p.lent.1.0, k.estimates ∙ p.lent.1.1 ∙ sym k.cells));
+      key_value = (p.waiting_nonzero.1.1.1, p.waiting_nonzero.1.1.0);
     }
 
 pub returns : goal.returns
@@ -46,9 +46,9 @@ returns c =
     let p = c.pop in
     let d = c.settle in
     λ s h told room.
-    take_settles a.lean (seed_in a.threshold (rows_of a.fused-keys.now a.fused-distances.now a.fused-weights.now a.fused-count))
+    take_settles a.lean (seed_in a.threshold (rows_of a.fused_keys.now a.fused_distances.now a.fused_weights.now a.fused_count))
     (lattice_of a.course) s a.count a.keys.now a.distances.now a.waiting a.estimates.now a.cells.now h c.requires.waiting_nonzero.0
-    p.new.0 p.new.1.0 p.ensures p.auto.1.0 c.known.result c.known.ensures
+    p.new.estimates p.new.cells p.ensures p.auto.cells c.known.result c.known.ensures
     (sym c.is_finite.ensures ∙ c.if-is_finite.false) told room d.result
-    d.new.1.1.1.1.1.1.1.0 d.new.1.1.1.1.1.1.1.1.0
-    d.new.1.1.1.1.1.1.1.1.1.1.0 d.new.1.1.1.1.1.1.1.1.1.1.1.0 d.ensures
+    d.new.keys d.new.distances
+    d.new.estimates d.new.cells d.ensures

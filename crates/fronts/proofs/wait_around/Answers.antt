@@ -34,23 +34,23 @@ pub wait-requires : goal.wait-requires
 wait-requires c =
     let i = c.loop-i.invariant in
     let p = c.requires in record {
-      lent = (p.0.0, (i.5 ∙ p.0.1.0 ∙ sym i.4, i.6 ∙ p.0.1.1 ∙ sym i.7));
-      key_value = (near_lattice c.args.key p.1.0 _ i.0 _ (omega (arith, c.loop-i-test.true, i.1)), p.1.1);
+      lent = (p.lent.0, (i.5 ∙ p.lent.1.0 ∙ sym i.4, i.6 ∙ p.lent.1.1 ∙ sym i.7));
+      key_value = (near_lattice c.args.key p.key_value.0 _ i.0 _ (omega (arith, c.loop-i-test.true, i.1)), p.key_value.1);
     }
 
 pub returns-in-Not : goal.returns-in-Not
 returns-in-Not c =
     let d = c.wait in
     let a = c.args in
-    rest_stop a.lean (seed_in a.threshold (rows_of a.fused-keys.now a.fused-distances.now a.fused-weights.now a.fused-count))
+    rest_stop a.lean (seed_in a.threshold (rows_of a.fused_keys.now a.fused_distances.now a.fused_weights.now a.fused_count))
     (lattice_of a.course) a.key a.estimate (neighbours a.key) _ c.loop-i.invariant.0 (neighbours_once a.key) a.keys.now a.distances.now
     a.waiting
     a.estimates.now a.cells.now
     c.loop-i.i c.loop-i.keys c.loop-i.distances c.loop-i.held
     c.loop-i.estimates c.loop-i.cells c.loop-i.invariant.8 c.loop-i.invariant.7
     (omega (arith, c.loop-i-test.true, c.loop-i.invariant.1)) d.result
-    d.new.1.1.1.1.1.1.1.0 d.new.1.1.1.1.1.1.1.1.0
-    d.new.1.1.1.1.1.1.1.1.1.0 d.new.1.1.1.1.1.1.1.1.1.1.0 d.ensures _ c.in-Not.is
+    d.new.keys d.new.distances
+    d.new.estimates d.new.cells d.ensures _ c.in-Not.is
 
 pub loop-i-preserved : goal.loop-i-preserved
 loop-i-preserved c =
@@ -62,26 +62,26 @@ loop-i-preserved c =
       i.1,
       i.2,
       omega (arith, c.loop-i-test.true),
-      ◌∙◌ {b = length c.loop-i.keys} k.1.1.1.1.1.1.1.0 i.4,
-      ◌∙◌ {b = length c.loop-i.distances} k.1.1.1.1.1.1.1.1.0 i.5,
-      ◌∙◌ {b = length c.loop-i.estimates} k.1.1.1.1.1.1.1.1.1.0 i.6,
-      ◌∙◌ {b = length c.loop-i.cells} k.1.1.1.1.1.1.1.1.1.1.0 i.7,
-      rest_more a.lean (seed_in a.threshold (rows_of a.fused-keys.now a.fused-distances.now a.fused-weights.now a.fused-count))
+      ◌∙◌ {b = length c.loop-i.keys} k.keys i.4,
+      ◌∙◌ {b = length c.loop-i.distances} k.distances i.5,
+      ◌∙◌ {b = length c.loop-i.estimates} k.estimates i.6,
+      ◌∙◌ {b = length c.loop-i.cells} k.cells i.7,
+      rest_more a.lean (seed_in a.threshold (rows_of a.fused_keys.now a.fused_distances.now a.fused_weights.now a.fused_count))
           (lattice_of a.course) a.key a.estimate (neighbours a.key) _ c.loop-i.invariant.0 (neighbours_once a.key) a.keys.now
           a.distances.now a.waiting
           a.estimates.now a.cells.now
           c.loop-i.i c.loop-i.keys c.loop-i.distances c.loop-i.held
           c.loop-i.estimates c.loop-i.cells c.loop-i.invariant.8 i.7
           (omega (arith, c.loop-i-test.true, i.1)) d.result
-          d.new.1.1.1.1.1.1.1.0 d.new.1.1.1.1.1.1.1.1.0
-          d.new.1.1.1.1.1.1.1.1.1.0 d.new.1.1.1.1.1.1.1.1.1.1.0 d.ensures k.1.1.1.1.1.1.1.0 _
+          d.new.keys d.new.distances
+          d.new.estimates d.new.cells d.ensures k.keys _
           c.in-Now.is,
     )
 
 pub returns : goal.returns
 returns c =
     let a = c.args in
-    rest_none a.lean (seed_in a.threshold (rows_of a.fused-keys.now a.fused-distances.now a.fused-weights.now a.fused-count))
+    rest_none a.lean (seed_in a.threshold (rows_of a.fused_keys.now a.fused_distances.now a.fused_weights.now a.fused_count))
     (lattice_of a.course) a.key a.estimate (neighbours a.key) _ c.loop-i.invariant.0 (neighbours_once a.key) a.keys.now a.distances.now
     a.waiting
     a.estimates.now a.cells.now

@@ -1,12 +1,16 @@
 -- `fronts::wait_marked` meets its contract: a cell without a mark neither is stored nor waits.
 -- Assumes nothing.
 use native.Mathlib.Omega.{arith}
-use lib.Ieee.{of_bits}
+use lib.Ieee.{of_bits, nan_bits}
 use Rattle.fronts.proofs.Marking.{mark_full, mark_placed, waits_entered}
 use Rattle.fronts.proofs.wait_marked.Goals as goal
 
 pub returns-then-cells-waiting : goal.returns-then-cells-waiting
 returns-then-cells-waiting c = λ s h few. mark_full _ _ c.requires.keys_value.1.0 s _ _ _ _ _ h _ c.requires.keys_value.0 c.if-cells-waiting.true
+
+pub float_from_bits-enter : goal.float_from_bits-enter
+unfolding nan_bits
+float_from_bits-enter c = tt
 
 pub enter-requires : goal.enter-requires
 enter-requires c = c.requires.paired.0
