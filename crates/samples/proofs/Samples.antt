@@ -21,14 +21,14 @@ use Rattle.search.specs.Keys.{member, rises_from, ascending, next, find, place_o
 use Rattle.root.specs.declared.Rooted.{Rooted}
 use Rattle.root.specs.declared.Rooted.TheVariants.{Root, Refused}
 use Rattle.root.specs.Root.{root_answer}
-use Rattle.bcc_utils.specs.Snapping.{Point, even, on_lattice, even_down, even_up, odd_up, odd_down, square_of, squared_distance, nearest, nearer, nearest_candidate, is_end, snapped, snapped_number, snapped_place}
+use Rattle.bcc_utils.specs.Snapping.{even, on_lattice, even_down, even_up, odd_up, odd_down, square_of, squared_distance, nearest, nearer, nearest_candidate, is_end, snapped, snapped_number, snapped_place}
 use Rattle.table.specs.Table.{Row, row, Table, table, rows, rows_ok, settings_of, need, check_with, put, relaid}
 use Rattle.table.specs.Rows.{stored}
 use Rattle.measuring.specs.declared.Reading.TheVariants.{Direct}
 use Rattle.measuring.specs.Readings.{admit_if, admitted}
 use Rattle.fusing.specs.Fusing.{new_weight, fused_voxel, voxel_at, has_place, step_at, stored as fused-stored, fused_near, fused_if, fuse_if, effect_of, fuse, fused_number}
 use Rattle.batching.specs.Batches.{stop_or, batch_from, ahead_of, answers_from, counting, counts_of, batch_if, batch, batched_number, batched_counts, batched_at}
-use Rattle.edges.specs.Edges.{Edge, edges}
+use Rattle.edges.specs.Edges.{edges}
 use Rattle.edges.specs.ZeroCrossing.{crossing, zero_crossing_edges}
 use Rattle.edges.specs.Listing.{firsts, seconds}
 use Rattle.slopes.specs.declared.Vertex.{Vertex}
