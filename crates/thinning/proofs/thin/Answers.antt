@@ -22,10 +22,10 @@ loop-i-preserved c =
     let l = c.loop-i in
     let d = c.forget in (
       omega (arith, c.loop-i-test.true),
-      ◌∙◌ {b = length l.keys} d.auto.0 l.invariant.1,
-      ◌∙◌ {b = length l.distances} d.auto.1.0 l.invariant.2,
+      ◌∙◌ {b = length l.keys} d.auto.keys l.invariant.1,
+      ◌∙◌ {b = length l.distances} d.auto.distances l.invariant.2,
       thin_more a.waiting a.cells.now a.keys.now a.distances.now l.i l.keys l.distances l.invariant.3 c.requires.1
-          c.loop-i-test.true l.invariant.1 d.new.0 d.new.1.0 d.ensures,
+          c.loop-i-test.true l.invariant.1 d.new.keys d.new.distances d.ensures,
     )
 
 pub returns : goal.returns
