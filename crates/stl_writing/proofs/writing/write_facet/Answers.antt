@@ -6,8 +6,6 @@ use mathlib.Core.Path.{refl}
 use Rattle.words.specs.Words.{zeros}
 use Rattle.stl.specs.Files.{vertex_bytes, facet_bytes}
 use Rattle.stl.proofs.WritingLaws.{five_parts}
-use Rattle.stl_writing.proofs.writing.write_vertex.Reads as write-vertex-reads
-use Rattle.words.proofs.write_zeros.Reads as write-zeros-reads
 use Rattle.stl_writing.proofs.writing.write_facet.Goals as goal
 
 pub returns : goal.returns

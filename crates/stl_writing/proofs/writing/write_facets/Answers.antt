@@ -1,35 +1,21 @@
 -- `stl::writing::write_facets` meets its contract: the triangles that are left are written from where they go on.
-use Prim.Native.Nat.{ℕ, ◌-◌, ◌<◌}
+use Prim.Native.Nat.{ℕ, ◌<◌}
 use native.Mathlib.Omega.{arith}
-use mathlib.Core.Bool.{true}
-use lib.ListN.{length, get_or}
+use mathlib.Core.List.{List}
+use lib.Ieee.{Float}
+use lib.ListN.{length}
 use Rattle.lists.proofs.Parts.{written_begun, written_ended}
 use Rattle.corners.specs.Corners.{triangle, triangle_ok}
+use Rattle.corners.specs.Steps.{Lent}
 use Rattle.corners.proofs.Sets.{others_pass}
 use Rattle.surfaces.proofs.AreaLaws.{named}
 use Rattle.stl.proofs.WritingLaws.{corners_ok, facet_written, facets_end}
 use borrow.Author.Rules.{rules}
-use Rattle.stl_writing.proofs.writing.write_facet.Reads as write-facet-reads
-use Rattle.surfaces.proofs.vertex_at.Reads as vertex-at-reads
 use Rattle.stl_writing.proofs.writing.write_facets.Goals as goal
 
--- the triangle at hand names three vertices
-name : (c : goal.In-loop-i) →
-    let l = c.before in
-    let a = l.args in
-    (get_or a.t0.now l.loop-i.i 0 < a.vertices) × (get_or a.t1.now l.loop-i.i 0 < a.vertices) × (get_or a.t2.now l.loop-i.i 0 < a.vertices)
-name c =
-    let l = c.before in
-    let s = l.before.before.before.before.before.before.before.before in
-    named _ _ _ _ s.requires.vertices _ _ _ _ s.requires.triangles l.loop-i.i c.loop-i-test.true l.loop-i.invariant.1
-
 -- what is asked of a number below the count: it is a place of all three lists
-asked : (c : goal.In-loop-i) (k : ℕ) →
-    let a = c.args in
-    k < a.vertices → (k < length a.px.now) × (k < length a.py.now) × (k < length a.pz.now)
-asked c k h =
-    let s = c.before.before.before.before.before.before.before.before.before in
-    omega (arith, s.requires.vertices.fits, s.requires.vertices.second, s.requires.vertices.third)
+asked : {px py pz : List Float} {n : ℕ} (k : ℕ) → Lent px py pz n → k < n → (k < length px) × (k < length py) × (k < length pz)
+asked k l h = omega (arith, l.fits, l.second, l.third)
 
 pub loop-i-init : goal.loop-i-init
 loop-i-init c = (search rules, c.requires.named, written_begun _ 84 c.args.file.now)
@@ -41,10 +27,10 @@ pub bounds-t0-i : goal.bounds-t0-i
 bounds-t0-i c = omega (arith, c.loop-i-test.true, c.requires.triangles.fits, c.requires.triangles.second, c.requires.triangles.third)
 
 pub overflow_cast-t0 : goal.overflow_cast-t0
-overflow_cast-t0 c = omega (arith, (name c.before).0, c.ranges.vertices)
+overflow_cast-t0 c = omega (arith, (named _ _ _ _ c.requires.vertices _ _ _ _ c.requires.triangles c.loop-i.i c.loop-i-test.true c.loop-i.invariant.1).0, c.ranges.vertices)
 
 pub vertex_at-a-requires : goal.vertex_at-a-requires
-vertex_at-a-requires c = asked c.before _ (name c.before).0
+vertex_at-a-requires c = asked _ c.requires.vertices (named _ _ _ _ c.requires.vertices _ _ _ _ c.requires.triangles c.loop-i.i c.loop-i-test.true c.loop-i.invariant.1).0
 
 pub offset_bounds-t1-i : goal.offset_bounds-t1-i
 offset_bounds-t1-i c = omega (arith, c.loop-i-test.true, c.requires.triangles.fits, c.requires.triangles.second, c.requires.triangles.third)
@@ -54,11 +40,10 @@ bounds-t1-i c = omega (arith, c.loop-i-test.true, c.requires.triangles.fits, c.r
 
 pub overflow_cast-t1 : goal.overflow_cast-t1
 overflow_cast-t1 c =
-    let at-loop-test = c.before.before.before in
-    omega (arith, (name at-loop-test).1, at-loop-test.ranges.vertices)
+    omega (arith, (named _ _ _ _ c.requires.vertices _ _ _ _ c.requires.triangles c.loop-i.i c.loop-i-test.true c.loop-i.invariant.1).1, c.ranges.vertices)
 
 pub vertex_at-b-requires : goal.vertex_at-b-requires
-vertex_at-b-requires c = asked c.before.before.before _ (name c.before.before.before).1
+vertex_at-b-requires c = asked _ c.requires.vertices (named _ _ _ _ c.requires.vertices _ _ _ _ c.requires.triangles c.loop-i.i c.loop-i-test.true c.loop-i.invariant.1).1
 
 pub offset_bounds-t2-i : goal.offset_bounds-t2-i
 offset_bounds-t2-i c = omega (arith, c.loop-i-test.true, c.requires.triangles.fits, c.requires.triangles.second, c.requires.triangles.third)
@@ -68,11 +53,10 @@ bounds-t2-i c = omega (arith, c.loop-i-test.true, c.requires.triangles.fits, c.r
 
 pub overflow_cast-t2 : goal.overflow_cast-t2
 overflow_cast-t2 c =
-    let at-loop-test = c.before.before.before.before.before in
-    omega (arith, (name at-loop-test).2, at-loop-test.ranges.vertices)
+    omega (arith, (named _ _ _ _ c.requires.vertices _ _ _ _ c.requires.triangles c.loop-i.i c.loop-i-test.true c.loop-i.invariant.1).2, c.ranges.vertices)
 
 pub vertex_at-c-requires : goal.vertex_at-c-requires
-vertex_at-c-requires c = asked c.before.before.before.before.before _ (name c.before.before.before.before.before).2
+vertex_at-c-requires c = asked _ c.requires.vertices (named _ _ _ _ c.requires.vertices _ _ _ _ c.requires.triangles c.loop-i.i c.loop-i-test.true c.loop-i.invariant.1).2
 
 pub overflow_mul-i : goal.overflow_mul-i
 overflow_mul-i c = omega (arith, c.loop-i-test.true, c.requires.few)

@@ -1,7 +1,6 @@
 -- `stl::writing::write_facets` meets its contract: the triangles that are left are written from where they go on.
 -- Assumes nothing.
 use Prim.Native.Nat.{◌+◌, ◌*◌, ◌-◌, ◌≤◌}
-use native.Mathlib.Omega.{arith}
 use mathlib.Core.Path.{◌≡◌}
 use mathlib.Core.Bool.{true}
 use lib.ListN.{drop}
@@ -10,8 +9,6 @@ use Rattle.lists.proofs.Parts.{Written}
 use Rattle.corners.specs.Corners.{every, triangles_in, triangle_ok}
 use Rattle.stl.specs.Files.{facet_bytes}
 use Rattle.stl.specs.Calls.{facets_lent}
-use Rattle.stl_writing.proofs.writing.write_facet.Reads as write-facet-reads
-use Rattle.surfaces.proofs.vertex_at.Reads as vertex-at-reads
 use Rattle.stl_writing.proofs.writing.write_facets.Given as goal
 
 abbrev pub invariant-loop-i : goal.invariant-loop-i

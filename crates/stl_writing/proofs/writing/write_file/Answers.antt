@@ -8,9 +8,6 @@ use Rattle.stl.specs.Files.{facet_bytes, file_of}
 use Rattle.stl.specs.Calls.{facets_lent}
 use Rattle.stl.proofs.WritingLaws.{three_parts}
 use Rattle.stl.proofs.AnswerLaws.{facets_length}
-use Rattle.stl_writing.proofs.writing.write_facets.Reads as write-facets-reads
-use Rattle.words.proofs.write_word.Reads as write-word-reads
-use Rattle.words.proofs.write_zeros.Reads as write-zeros-reads
 use Rattle.stl_writing.proofs.writing.write_file.Goals as goal
 
 pub returns : goal.returns

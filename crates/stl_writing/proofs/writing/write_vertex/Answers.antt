@@ -7,7 +7,6 @@ use mathlib.Core.List.{List}
 use lib.Ieee.{Float, binary32, to_bits}
 use Rattle.words.specs.Words.{bytes_of}
 use Rattle.stl.proofs.WritingLaws.{three_parts, numbers}
-use Rattle.words.proofs.write_word.Reads as write-word-reads
 use Rattle.stl_writing.proofs.writing.write_vertex.Goals as goal
 
 pub float_to_bits-v : goal.float_to_bits-v
