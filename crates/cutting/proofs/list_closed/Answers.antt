@@ -9,7 +9,7 @@ use Rattle.cutting.proofs.list_closed.Goals as goal
 pub cut_checked-triangles-requires : goal.cut_checked-triangles-requires
 cut_checked-triangles-requires c =
     let e = c.list_tested-edges.ensures in
-    own_listed _ _ _ _ _ _ _ c.requires _ e.0 _ _ e.1.0 e.1.1
+    own_listed _ _ _ _ _ _ _ c.requires _ e.value _ _ e.first_after e.second_after
 
 pub returns : goal.returns
 returns c =
@@ -19,13 +19,13 @@ returns c =
     let k = c.cut_checked-triangles.ensures in
     let n = c.count_of-n.ensures in
     let edges =
-    e.0 ∙ closed_answer_lem a.verdict a.keys.now a.distances.now a.weights.now a.count _ _ c.requires in
+    e.value ∙ closed_answer_lem a.verdict a.keys.now a.distances.now a.weights.now a.count _ _ c.requires in
     let triangles = cut_answered a.verdict t _ _ _ _ _ _ edges k.answer in
-    let held = held_closed a.verdict a.keys.now a.distances.now a.weights.now a.count _ _ c.requires _ e.0 in
+    let held = held_closed a.verdict a.keys.now a.distances.now a.weights.now a.count _ _ c.requires _ e.value in
     record {
       edges = edges;
-      first = held (λ (x : Edge). x.first) _ _ e.1.0;
-      second = held (λ (x : Edge). x.second) _ _ e.1.1;
+      first = held (λ (x : Edge). x.first) _ _ e.first_after;
+      second = held (λ (x : Edge). x.second) _ _ e.second_after;
       triangles = triangles;
       t0 = cleared_to _ _ triangles _ n _ _ _ _ c.clear_from_u32.ensures k.t0;
       t1 = cleared_to _ _ triangles _ n _ _ _ _ c.clear_from_u32-2.ensures k.t1;
