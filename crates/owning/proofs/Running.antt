@@ -16,9 +16,7 @@ use Rattle.measuring.specs.declared.Measured.{Measured}
 use Rattle.measuring.specs.declared.Admitted.TheVariants.{Near, Far, No}
 use Rattle.fusing.specs.declared.Averaging.{Averaging}
 use Rattle.owning.specs.declared.Owned.{Owned}
-use Rattle.owning.specs.declared.Owned.TheVariants as Owned
 use Rattle.owning.specs.declared.Run.{Run}
-use Rattle.owning.specs.declared.Run.TheVariants as Run
 use Rattle.batching.specs.declared.Ending.TheVariants as Ending
 use Rattle.measuring.specs.Readings.{admitted}
 use Rattle.fusing.specs.Fusing.{fused_if, fuse_if, effect_of, fuse}

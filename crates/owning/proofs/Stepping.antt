@@ -35,11 +35,9 @@ use Rattle.fusing.specs.declared.Averaging.{Averaging}
 use Rattle.fusing.specs.declared.Voxel.{Voxel}
 use Rattle.measuring.specs.declared.Measured.{Measured}
 use Rattle.fusing.specs.declared.Fused.{Fused}
-use Rattle.fusing.specs.declared.Fused.TheVariants as Fused
 use Rattle.batching.specs.declared.Ending.TheVariants as Ending
 use Rattle.measuring.specs.declared.Admitted.TheVariants.{Near}
 use Rattle.owning.specs.declared.Owned.{Owned}
-use Rattle.owning.specs.declared.Owned.TheVariants as Owned
 use Rattle.measuring.specs.Readings.{admitted}
 use Rattle.fusing.specs.Fusing.{Outcome, outcome, averaging_of, fused_voxel, voxel_at, has_place, step_at, stored, fused_near, fused_if, fuse_if, effect_of, fused_of, answered, fuse}
 use Rattle.batching.specs.Batches.{BatchEnd, batch_end, Entry, direct_of, stop_or, batch_from}

@@ -13,9 +13,7 @@ use Rattle.fusing.specs.declared.Averaging.{Averaging}
 use Rattle.fusing.specs.declared.Voxel.{Voxel}
 use Rattle.measuring.specs.declared.Measured.{Measured}
 use Rattle.owning.specs.declared.Owned.{Owned}
-use Rattle.owning.specs.declared.Owned.TheVariants as Owned
 use Rattle.owning.specs.declared.Run.{Run}
-use Rattle.owning.specs.declared.Run.TheVariants as Run
 use Rattle.owning.specs.declared.Ran.{Ran}
 use Rattle.batching.specs.declared.Ending.TheVariants as Ending
 use Rattle.fusing.specs.Fusing.{fused_voxel}

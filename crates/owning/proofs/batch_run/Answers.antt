@@ -12,79 +12,52 @@ use borrow.Author.Rules.{rules}
 use Rattle.owning.proofs.batch_run.Goals as goal
 
 pub own_rows-own-requires : goal.own_rows-own-requires
-own_rows-own-requires c = (
-  (
-    c.end_of-to.ensures.0,
-    c.end_of-to.ensures.2,
-    c.end_of-to.ensures.1,
-  ),
-  search rules,
-)
+own_rows-own-requires c = record {
+  from_le_to = (c.end_of-to.ensures.0, c.end_of-to.ensures.2, c.end_of-to.ensures.1);
+  in_bounds = search rules;
+}
 
 pub load_own-requires : goal.load_own-requires
 load_own-requires c =
-    record {
-      count_value = (let k = sound c.args.settings (table c.args.keys.now c.args.distances.now c.args.weights.now c.args.count.now) c.requires.count_value in
-          let f =
-          lengths_known (length c.args.keys.now) (length c.args.distances.now) (length c.args.weights.now)
-          c.args.count.now k.lengths in
-          let few = c.own_rows-own.ensures.upper_bound.0 in
-          (k.lengths, ((k.order, rw length-replicate few, c.own_rows-own.ensures.upper_bound.1), simp (c.own_rows-own.auto.0, length-replicate, le-leb _ _ few)))).0;
-      keys_value = (let k = sound c.args.settings (table c.args.keys.now c.args.distances.now c.args.weights.now c.args.count.now) c.requires.count_value in
-          let f =
-          lengths_known (length c.args.keys.now) (length c.args.distances.now) (length c.args.weights.now)
-          c.args.count.now k.lengths in
-          let few = c.own_rows-own.ensures.upper_bound.0 in
-          (k.lengths, ((k.order, rw length-replicate few, c.own_rows-own.ensures.upper_bound.1), simp (c.own_rows-own.auto.0, length-replicate, le-leb _ _ few)))).1;
-      own_value = (let k = sound c.args.settings (table c.args.keys.now c.args.distances.now c.args.weights.now c.args.count.now) c.requires.count_value in
-          let f =
-          lengths_known (length c.args.keys.now) (length c.args.distances.now) (length c.args.weights.now)
-          c.args.count.now k.lengths in
-          let few = c.own_rows-own.ensures.upper_bound.0 in
-          (k.lengths, ((k.order, rw length-replicate few, c.own_rows-own.ensures.upper_bound.1), simp (c.own_rows-own.auto.0, length-replicate, le-leb _ _ few)))).2;
+    let k = sound c.args.settings (table c.args.keys.now c.args.distances.now c.args.weights.now c.args.count.now) c.requires.count_value in
+    let few = c.own_rows-own.ensures.upper_bound.0 in record {
+      count_value = k.lengths;
+      keys_value = (k.order, rw length-replicate few, c.own_rows-own.ensures.upper_bound.1);
+      own_value = simp (c.own_rows-own.auto.own_keys, length-replicate, le-leb _ _ few);
     }
 
 pub overflow_sub-keys : goal.overflow_sub-keys
 overflow_sub-keys c =
     let k = sound c.args.settings (table c.args.keys.now c.args.distances.now c.args.weights.now c.args.count.now) c.requires.count_value in
-    let f =
-    lengths_known (length c.args.keys.now) (length c.args.distances.now) (length c.args.weights.now)
-    c.args.count.now k.lengths in
+    let f = lengths_known (length c.args.keys.now) (length c.args.distances.now) (length c.args.weights.now) c.args.count.now k.lengths in
     omega (arith, f)
 
 pub fuse_run-ran-requires : goal.fuse_run-ran-requires
 fuse_run-ran-requires c =
     let k = sound c.args.settings (table c.args.keys.now c.args.distances.now c.args.weights.now c.args.count.now) c.requires.count_value in
-    let f =
-    lengths_known (length c.args.keys.now) (length c.args.distances.now) (length c.args.weights.now)
-    c.args.count.now k.lengths in (
-      k.settings,
-      (
-        simp (
-          c.own_rows-own.auto.0,
-          c.load_own.auto.1.1.1.1.1.0,
-          c.load_own.auto.1.1.1.1.1.1.0,
-          length-replicate,
-          le-leb _ _ c.own_rows-own.ensures.upper_bound.0,
-        ),
-        (
-          (c.end_of-to.ensures.0, c.end_of-to.ensures.2, c.end_of-to.ensures.1),
-          (c.requires.from_in_bounds.1, (rw (c.own_rows-own.auto.1.0, length-replicate) (omega arith), c.own_rows-own.ensures.own_slots)),
-        ),
-      ),
-    )
+    record {
+      settings_value = k.settings;
+      own_value = simp (
+        c.own_rows-own.auto.own_keys,
+        c.load_own.auto.own_distances,
+        c.load_own.auto.own_weights,
+        length-replicate,
+        le-leb _ _ c.own_rows-own.ensures.upper_bound.0,
+      );
+      from_le_to = (c.end_of-to.ensures.0, c.end_of-to.ensures.2, c.end_of-to.ensures.1);
+      batch_distances_len = c.requires.batch_distances_len;
+      in_bounds = (rw (c.own_rows-own.auto.slots, length-replicate) (omega arith), c.own_rows-own.ensures.own_slots);
+    }
 
 pub overflow_add-total : goal.overflow_add-total
 overflow_add-total c =
     let k = sound c.args.settings (table c.args.keys.now c.args.distances.now c.args.weights.now c.args.count.now) c.requires.count_value in
-    let f =
-    lengths_known (length c.args.keys.now) (length c.args.distances.now) (length c.args.weights.now)
-    c.args.count.now k.lengths in
+    let f = lengths_known (length c.args.keys.now) (length c.args.distances.now) (length c.args.weights.now) c.args.count.now k.lengths in
     omega (
       arith,
       (counted c.args.settings c.args.keys.now c.args.distances.now c.args.weights.now
-          c.args.count.now c.requires.count_value _ _ _ _ _ c.load_own.auto.1.1.1.1.1.1.1.0 c.own_rows-own.auto.0
-          c.load_own.auto.1.1.1.1.1.0 c.load_own.auto.1.1.1.1.1.1.0
+          c.args.count.now c.requires.count_value _ _ _ _ _ c.load_own.auto.seats c.own_rows-own.auto.own_keys
+          c.load_own.auto.own_distances c.load_own.auto.own_weights
           c.own_rows-own.ensures.upper_bound.0 c.own_rows-own.ensures.upper_bound.1 c.load_own.ensures _ _ _ _ _ _
           c.fuse_run-ran.ensures (omega (arith, f))).1,
       f,
@@ -92,134 +65,38 @@ overflow_add-total c =
 
 pub settle_own-requires : goal.settle_own-requires
 settle_own-requires c =
+    let k = sound c.args.settings (table c.args.keys.now c.args.distances.now c.args.weights.now c.args.count.now) c.requires.count_value in
+    let f = lengths_known (length c.args.keys.now) (length c.args.distances.now) (length c.args.weights.now) c.args.count.now k.lengths in
     record {
-      count_value = (let k = sound c.args.settings (table c.args.keys.now c.args.distances.now c.args.weights.now c.args.count.now) c.requires.count_value in
-          let f =
-          lengths_known (length c.args.keys.now) (length c.args.distances.now) (length c.args.weights.now)
-          c.args.count.now k.lengths in (
-            k.lengths,
-            (
-              simp (
-                c.own_rows-own.auto.0,
-                c.fuse_run-ran.auto.1.1.0,
-                c.fuse_run-ran.auto.1.1.1.0,
-                c.load_own.auto.1.1.1.1.1.0,
-                c.load_own.auto.1.1.1.1.1.1.0,
-                length-replicate,
-                le-leb _ _ c.own_rows-own.ensures.upper_bound.0,
-              ),
-              (
-                (
-                  c.own_rows-own.ensures.upper_bound.1,
-                  omega (arith, c.load_own.auto.1.1.1.1.1.1.1.0, length-replicate {A = ℕ} 4096 0, c.own_rows-own.ensures.upper_bound.0),
-                  c.load_own.ensures.seats,
-                ),
-                counted c.args.settings c.args.keys.now c.args.distances.now c.args.weights.now
-                    c.args.count.now c.requires.count_value _ _ _ _ _ c.load_own.auto.1.1.1.1.1.1.1.0 c.own_rows-own.auto.0
-                    c.load_own.auto.1.1.1.1.1.0 c.load_own.auto.1.1.1.1.1.1.0
-                    c.own_rows-own.ensures.upper_bound.0 c.own_rows-own.ensures.upper_bound.1 c.load_own.ensures _ _ _ _ _ _
-                    c.fuse_run-ran.ensures (omega (arith, f)),
-              ),
-            ),
-          )).0;
-      own_value = (let k = sound c.args.settings (table c.args.keys.now c.args.distances.now c.args.weights.now c.args.count.now) c.requires.count_value in
-          let f =
-          lengths_known (length c.args.keys.now) (length c.args.distances.now) (length c.args.weights.now)
-          c.args.count.now k.lengths in (
-            k.lengths,
-            (
-              simp (
-                c.own_rows-own.auto.0,
-                c.fuse_run-ran.auto.1.1.0,
-                c.fuse_run-ran.auto.1.1.1.0,
-                c.load_own.auto.1.1.1.1.1.0,
-                c.load_own.auto.1.1.1.1.1.1.0,
-                length-replicate,
-                le-leb _ _ c.own_rows-own.ensures.upper_bound.0,
-              ),
-              (
-                (
-                  c.own_rows-own.ensures.upper_bound.1,
-                  omega (arith, c.load_own.auto.1.1.1.1.1.1.1.0, length-replicate {A = ℕ} 4096 0, c.own_rows-own.ensures.upper_bound.0),
-                  c.load_own.ensures.seats,
-                ),
-                counted c.args.settings c.args.keys.now c.args.distances.now c.args.weights.now
-                    c.args.count.now c.requires.count_value _ _ _ _ _ c.load_own.auto.1.1.1.1.1.1.1.0 c.own_rows-own.auto.0
-                    c.load_own.auto.1.1.1.1.1.0 c.load_own.auto.1.1.1.1.1.1.0
-                    c.own_rows-own.ensures.upper_bound.0 c.own_rows-own.ensures.upper_bound.1 c.load_own.ensures _ _ _ _ _ _
-                    c.fuse_run-ran.ensures (omega (arith, f)),
-              ),
-            ),
-          )).1;
-      own_keys_value = (let k = sound c.args.settings (table c.args.keys.now c.args.distances.now c.args.weights.now c.args.count.now) c.requires.count_value in
-          let f =
-          lengths_known (length c.args.keys.now) (length c.args.distances.now) (length c.args.weights.now)
-          c.args.count.now k.lengths in (
-            k.lengths,
-            (
-              simp (
-                c.own_rows-own.auto.0,
-                c.fuse_run-ran.auto.1.1.0,
-                c.fuse_run-ran.auto.1.1.1.0,
-                c.load_own.auto.1.1.1.1.1.0,
-                c.load_own.auto.1.1.1.1.1.1.0,
-                length-replicate,
-                le-leb _ _ c.own_rows-own.ensures.upper_bound.0,
-              ),
-              (
-                (
-                  c.own_rows-own.ensures.upper_bound.1,
-                  omega (arith, c.load_own.auto.1.1.1.1.1.1.1.0, length-replicate {A = ℕ} 4096 0, c.own_rows-own.ensures.upper_bound.0),
-                  c.load_own.ensures.seats,
-                ),
-                counted c.args.settings c.args.keys.now c.args.distances.now c.args.weights.now
-                    c.args.count.now c.requires.count_value _ _ _ _ _ c.load_own.auto.1.1.1.1.1.1.1.0 c.own_rows-own.auto.0
-                    c.load_own.auto.1.1.1.1.1.0 c.load_own.auto.1.1.1.1.1.1.0
-                    c.own_rows-own.ensures.upper_bound.0 c.own_rows-own.ensures.upper_bound.1 c.load_own.ensures _ _ _ _ _ _
-                    c.fuse_run-ran.ensures (omega (arith, f)),
-              ),
-            ),
-          )).2;
-      total_value = (let k = sound c.args.settings (table c.args.keys.now c.args.distances.now c.args.weights.now c.args.count.now) c.requires.count_value in
-          let f =
-          lengths_known (length c.args.keys.now) (length c.args.distances.now) (length c.args.weights.now)
-          c.args.count.now k.lengths in (
-            k.lengths,
-            (
-              simp (
-                c.own_rows-own.auto.0,
-                c.fuse_run-ran.auto.1.1.0,
-                c.fuse_run-ran.auto.1.1.1.0,
-                c.load_own.auto.1.1.1.1.1.0,
-                c.load_own.auto.1.1.1.1.1.1.0,
-                length-replicate,
-                le-leb _ _ c.own_rows-own.ensures.upper_bound.0,
-              ),
-              (
-                (
-                  c.own_rows-own.ensures.upper_bound.1,
-                  omega (arith, c.load_own.auto.1.1.1.1.1.1.1.0, length-replicate {A = ℕ} 4096 0, c.own_rows-own.ensures.upper_bound.0),
-                  c.load_own.ensures.seats,
-                ),
-                counted c.args.settings c.args.keys.now c.args.distances.now c.args.weights.now
-                    c.args.count.now c.requires.count_value _ _ _ _ _ c.load_own.auto.1.1.1.1.1.1.1.0 c.own_rows-own.auto.0
-                    c.load_own.auto.1.1.1.1.1.0 c.load_own.auto.1.1.1.1.1.1.0
-                    c.own_rows-own.ensures.upper_bound.0 c.own_rows-own.ensures.upper_bound.1 c.load_own.ensures _ _ _ _ _ _
-                    c.fuse_run-ran.ensures (omega (arith, f)),
-              ),
-            ),
-          )).3;
+      count_value = k.lengths;
+      own_value = simp (
+        c.own_rows-own.auto.own_keys,
+        c.fuse_run-ran.auto.own_distances,
+        c.fuse_run-ran.auto.own_weights,
+        c.load_own.auto.own_distances,
+        c.load_own.auto.own_weights,
+        length-replicate,
+        le-leb _ _ c.own_rows-own.ensures.upper_bound.0,
+      );
+      own_keys_value = (
+        c.own_rows-own.ensures.upper_bound.1,
+        omega (arith, c.load_own.auto.seats, length-replicate {A = ℕ} 4096 0, c.own_rows-own.ensures.upper_bound.0),
+        c.load_own.ensures.seats,
+      );
+      total_value = counted c.args.settings c.args.keys.now c.args.distances.now c.args.weights.now
+          c.args.count.now c.requires.count_value _ _ _ _ _ c.load_own.auto.seats c.own_rows-own.auto.own_keys
+          c.load_own.auto.own_distances c.load_own.auto.own_weights
+          c.own_rows-own.ensures.upper_bound.0 c.own_rows-own.ensures.upper_bound.1 c.load_own.ensures _ _ _ _ _ _
+          c.fuse_run-ran.ensures (omega (arith, f));
     }
 
 pub returns : goal.returns
 returns c =
     let k = sound c.args.settings (table c.args.keys.now c.args.distances.now c.args.weights.now c.args.count.now) c.requires.count_value in
-    let f =
-    lengths_known (length c.args.keys.now) (length c.args.distances.now) (length c.args.weights.now)
-    c.args.count.now k.lengths in
+    let f = lengths_known (length c.args.keys.now) (length c.args.distances.now) (length c.args.weights.now) c.args.count.now k.lengths in
     settled c.args.settings c.args.keys.now c.args.distances.now c.args.weights.now
-    c.args.count.now c.requires.count_value _ _ _ _ _ c.load_own.auto.1.1.1.1.1.1.1.0
-    c.own_rows-own.auto.0 c.load_own.auto.1.1.1.1.1.0
-    c.load_own.auto.1.1.1.1.1.1.0 c.own_rows-own.ensures.upper_bound.0 c.own_rows-own.ensures.upper_bound.1
-    c.load_own.ensures _ _ _ _ _ _ c.fuse_run-ran.ensures (omega (arith, f)) _ _ _
+    c.args.count.now c.requires.count_value _ _ _ _ _ c.load_own.auto.seats c.own_rows-own.auto.own_keys
+    c.load_own.auto.own_distances c.load_own.auto.own_weights
+    c.own_rows-own.ensures.upper_bound.0 c.own_rows-own.ensures.upper_bound.1 c.load_own.ensures _ _ _ _ _ _
+    c.fuse_run-ran.ensures (omega (arith, f)) _ _ _
     c.settle_own.ensures

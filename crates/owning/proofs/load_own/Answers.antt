@@ -1,57 +1,50 @@
 -- `owning::load_own` meets its contract: the own keys get their seats, and each column its own values.
 -- Assumes nothing.
-use mathlib.Core.Path.{◌≡◌}
-use Prim.Native.Nat.{◌≤◌}
 use native.Mathlib.Omega.{arith}
 use lib.ListN.{length, take}
 use lib.Seq.{length-take-le}
-use lib.Ieee.{of_bits}
+use lib.Ieee.{of_bits, nan_bits}
 use Rattle.table.proofs.RowLaws.{lengths_known}
 use Rattle.gathering.proofs.Planning.{located_within}
 use Rattle.owning.proofs.load_own.Goals as goal
 
--- the table's lists and the own ones
-fit : (s : goal.Start)
-    → (s.args.count ≤ length s.args.keys.now)
-    × (length s.args.distances.now ≡ length s.args.keys.now)
-    × (length s.args.weights.now ≡ length s.args.keys.now)
-    × (length s.args.keys.now ≤ 65536)
-fit s = lengths_known (length s.args.keys.now) (length s.args.distances.now) (length s.args.weights.now) s.args.count s.requires.count_value
-
-own-fit : (s : goal.Start)
-    → (s.args.own ≤ length s.args.own_keys.now)
-    × (length s.args.own_distances.now ≡ length s.args.own_keys.now)
-    × (length s.args.own_weights.now ≡ length s.args.own_keys.now)
-    × (length s.args.own_keys.now ≤ 65536)
-own-fit s =
-    lengths_known (length s.args.own_keys.now) (length s.args.own_distances.now) (length s.args.own_weights.now) s.args.own s.requires.keys_value.1
-
 pub locate-requires : goal.locate-requires
 locate-requires c =
-    let s = c.before.before.before.before.before.before.before.before in record {
-      count_in_bounds = ((fit s).0, (fit s).3, s.requires.keys_value.0.0);
-      own_in_bounds = ((own-fit s).0, s.requires.keys_value.0.1, s.requires.keys_value.0.2);
+    let s = c.args in
+    let f = lengths_known (length s.keys.now) (length s.distances.now) (length s.weights.now) s.count c.requires.count_value in
+    let o = lengths_known (length s.own_keys.now) (length s.own_distances.now) (length s.own_weights.now) s.own c.requires.own_value in
+    record {
+      count_in_bounds = (f.0, f.3, c.requires.keys_value.0);
+      own_in_bounds = (o.0, c.requires.keys_value.1, c.requires.keys_value.2);
     }
 
 pub load_f32-requires : goal.load_f32-requires
 load_f32-requires c =
-    let s = c.before.before.before.before.before.before.before.before.before.before.before.before.before in
-    let at = c.locate in record {
-      own_in_bounds = (omega (arith, at.auto, s.requires.keys_value.0.1), omega (arith, own-fit s));
-      within = located_within (take s.args.count s.args.keys.now) s.args.own_keys.now _ s.args.own at.ensures (own-fit s).0
-          (omega (arith, at.auto, s.requires.keys_value.0.1)) _
-          (omega (arith, fit s, length-take-le s.args.count s.args.keys.now (fit s).0));
+    let s = c.args in
+    let f = lengths_known (length s.keys.now) (length s.distances.now) (length s.weights.now) s.count c.requires.count_value in
+    let o = lengths_known (length s.own_keys.now) (length s.own_distances.now) (length s.own_weights.now) s.own c.requires.own_value in
+    record {
+      own_in_bounds = (omega (arith, c.locate.auto.seats, c.requires.keys_value.1), omega (arith, o));
+      within = located_within (take s.count s.keys.now) s.own_keys.now _ s.own c.locate.ensures o.0
+          (omega (arith, c.locate.auto.seats, c.requires.keys_value.1)) _
+          (omega (arith, f, length-take-le s.count s.keys.now f.0));
     }
 
 pub load_f32-requires-2 : goal.load_f32-requires-2
 load_f32-requires-2 c =
-    let s = c.before.before.before.before.before.before.before.before.before.before.before.before.before.before.before.before.before.before in
-    let at = c.locate in record {
-      own_in_bounds = (omega (arith, at.auto, s.requires.keys_value.0.1), omega (arith, own-fit s));
-      within = located_within (take s.args.count s.args.keys.now) s.args.own_keys.now _ s.args.own at.ensures (own-fit s).0
-          (omega (arith, at.auto, s.requires.keys_value.0.1)) _
-          (omega (arith, fit s, length-take-le s.args.count s.args.keys.now (fit s).0));
+    let s = c.args in
+    let f = lengths_known (length s.keys.now) (length s.distances.now) (length s.weights.now) s.count c.requires.count_value in
+    let o = lengths_known (length s.own_keys.now) (length s.own_distances.now) (length s.own_weights.now) s.own c.requires.own_value in
+    record {
+      own_in_bounds = (omega (arith, c.locate.auto.seats, c.requires.keys_value.1), omega (arith, o));
+      within = located_within (take s.count s.keys.now) s.own_keys.now _ s.own c.locate.ensures o.0
+          (omega (arith, c.locate.auto.seats, c.requires.keys_value.1)) _
+          (omega (arith, f, length-take-le s.count s.keys.now f.0));
     }
+
+pub float_from_bits-load_f32 : goal.float_from_bits-load_f32
+unfolding nan_bits
+float_from_bits-load_f32 c = tt
 
 pub returns : goal.returns
 unfolding of_bits

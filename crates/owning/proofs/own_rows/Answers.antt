@@ -78,10 +78,10 @@ pub returns : goal.returns
 returns c =
     let copied = c.loop-i.invariant.3 in
     let d = c.distinct.ensures in record {
-      upper_bound = (omega (arith, d.0.0), d.0.1);
+      upper_bound = (omega (arith, d.upper_bound.0), d.upper_bound.1);
       own_slots = λ i l.
           renumbered (copied i (omega arith)).0
           (each_numbered (c.args.to - c.args.from) c.loop-i.sorted c.loop-i.places _ _
-          c.sort.ensures (λ j m. (copied j (omega arith)).1) _ _ d.1.1
-          (omega (arith, c.sort.auto)) (omega (arith, c.sort.auto)) (omega (arith, c.distinct.auto)) i (omega arith));
+          c.sort.ensures (λ j m. (copied j (omega arith)).1) _ _ d.slotted
+          (omega (arith, c.sort.auto.keys, c.sort.auto.places)) (omega (arith, c.sort.auto.keys, c.sort.auto.places)) (omega (arith, c.distinct.auto.slots)) i (omega arith));
     }
