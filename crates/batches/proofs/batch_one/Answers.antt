@@ -17,14 +17,14 @@ pub returns-in-Refused : goal.returns-in-Refused
 unfolding RunLeft RunFar
 returns-in-Refused c =
     let a = c.args in
-    let p = c.requires in
-    let h : a.from < length a.batch-keys.now = p.1.0 in (
+    let len = c.requires.batch_distances_len in
+    let h : a.from < length a.batch_keys.now = c.requires.from_in_bounds in (
       stops a.settings (table a.keys.now a.distances.now a.weights.now a.count.now)
-          a.batch-keys.now a.batch-distances.now a.batch-confidences.now a.from p.1.1.0 p.1.1.1 h
+          a.batch_keys.now a.batch_distances.now a.batch_confidences.now a.from len.0 len.1 h
           _ _ c.fuse_sound-step.ensures _ c.in-Refused.is,
       passes_again a.settings (table a.keys.now a.distances.now a.weights.now a.count.now)
-          a.batch-keys.now a.batch-distances.now a.batch-confidences.now a.from p.1.1.0 p.1.1.1 h
-          _ _ c.fuse_sound-step.ensures p.0,
+          a.batch_keys.now a.batch_distances.now a.batch_confidences.now a.from len.0 len.1 h
+          _ _ c.fuse_sound-step.ensures c.requires.count_value,
       sym (add-zero _),
     )
 
@@ -32,64 +32,64 @@ pub returns-in-Far : goal.returns-in-Far
 unfolding RunLeft RunFar
 returns-in-Far c =
     let a = c.args in
-    let p = c.requires in
-    let h : a.from < length a.batch-keys.now = p.1.0 in (
+    let len = c.requires.batch_distances_len in
+    let h : a.from < length a.batch_keys.now = c.requires.from_in_bounds in (
       (
         goes_on_far a.settings (table a.keys.now a.distances.now a.weights.now a.count.now)
-            a.batch-keys.now a.batch-distances.now a.batch-confidences.now a.from p.1.1.0 p.1.1.1
+            a.batch_keys.now a.batch_distances.now a.batch_confidences.now a.from len.0 len.1
             h _ _ c.fuse_sound-step.ensures c.in-Far.is,
         omega arith,
-        rw (by_length entry a.batch-keys.now a.batch-distances.now a.batch-confidences.now p.1.1.0
-            p.1.1.1) (omega arith),
+        rw (by_length entry a.batch_keys.now a.batch_distances.now a.batch_confidences.now len.0
+            len.1) (omega arith),
       ),
       passes_again a.settings (table a.keys.now a.distances.now a.weights.now a.count.now)
-          a.batch-keys.now a.batch-distances.now a.batch-confidences.now a.from p.1.1.0 p.1.1.1 h
-          _ _ c.fuse_sound-step.ensures p.0,
+          a.batch_keys.now a.batch_distances.now a.batch_confidences.now a.from len.0 len.1 h
+          _ _ c.fuse_sound-step.ensures c.requires.count_value,
       far_here a.settings (table a.keys.now a.distances.now a.weights.now a.count.now)
-          a.batch-keys.now a.batch-distances.now a.batch-confidences.now a.from p.1.1.0 p.1.1.1 h
-          _ _ c.fuse_sound-step.ensures p.0 c.in-Far.is,
+          a.batch_keys.now a.batch_distances.now a.batch_confidences.now a.from len.0 len.1 h
+          _ _ c.fuse_sound-step.ensures c.requires.count_value c.in-Far.is,
     )
 
 pub returns-in-Added : goal.returns-in-Added
 unfolding RunLeft RunFar answers_far
 returns-in-Added c =
     let a = c.args in
-    let p = c.requires in
-    let h : a.from < length a.batch-keys.now = p.1.0 in (
+    let len = c.requires.batch_distances_len in
+    let h : a.from < length a.batch_keys.now = c.requires.from_in_bounds in (
       (
         goes_on_added a.settings (table a.keys.now a.distances.now a.weights.now a.count.now)
-            a.batch-keys.now a.batch-distances.now a.batch-confidences.now a.from p.1.1.0 p.1.1.1
+            a.batch_keys.now a.batch_distances.now a.batch_confidences.now a.from len.0 len.1
             h _ _ c.fuse_sound-step.ensures _ c.in-Added.is,
         omega arith,
-        rw (by_length entry a.batch-keys.now a.batch-distances.now a.batch-confidences.now p.1.1.0
-            p.1.1.1) (omega arith),
+        rw (by_length entry a.batch_keys.now a.batch_distances.now a.batch_confidences.now len.0
+            len.1) (omega arith),
       ),
       passes_again a.settings (table a.keys.now a.distances.now a.weights.now a.count.now)
-          a.batch-keys.now a.batch-distances.now a.batch-confidences.now a.from p.1.1.0 p.1.1.1 h
-          _ _ c.fuse_sound-step.ensures p.0,
+          a.batch_keys.now a.batch_distances.now a.batch_confidences.now a.from len.0 len.1 h
+          _ _ c.fuse_sound-step.ensures c.requires.count_value,
       near_here a.settings (table a.keys.now a.distances.now a.weights.now a.count.now)
-          a.batch-keys.now a.batch-distances.now a.batch-confidences.now a.from p.1.1.0 p.1.1.1 h
-          _ _ c.fuse_sound-step.ensures p.0 (rw c.in-Added.is),
+          a.batch_keys.now a.batch_distances.now a.batch_confidences.now a.from len.0 len.1 h
+          _ _ c.fuse_sound-step.ensures c.requires.count_value (rw c.in-Added.is),
     )
 
 pub returns-in-Changed : goal.returns-in-Changed
 unfolding RunLeft RunFar answers_far
 returns-in-Changed c =
     let a = c.args in
-    let p = c.requires in
-    let h : a.from < length a.batch-keys.now = p.1.0 in (
+    let len = c.requires.batch_distances_len in
+    let h : a.from < length a.batch_keys.now = c.requires.from_in_bounds in (
       (
         goes_on_changed a.settings (table a.keys.now a.distances.now a.weights.now a.count.now)
-            a.batch-keys.now a.batch-distances.now a.batch-confidences.now a.from p.1.1.0 p.1.1.1
+            a.batch_keys.now a.batch_distances.now a.batch_confidences.now a.from len.0 len.1
             h _ _ c.fuse_sound-step.ensures _ c.in-Changed.is,
         omega arith,
-        rw (by_length entry a.batch-keys.now a.batch-distances.now a.batch-confidences.now p.1.1.0
-            p.1.1.1) (omega arith),
+        rw (by_length entry a.batch_keys.now a.batch_distances.now a.batch_confidences.now len.0
+            len.1) (omega arith),
       ),
       passes_again a.settings (table a.keys.now a.distances.now a.weights.now a.count.now)
-          a.batch-keys.now a.batch-distances.now a.batch-confidences.now a.from p.1.1.0 p.1.1.1 h
-          _ _ c.fuse_sound-step.ensures p.0,
+          a.batch_keys.now a.batch_distances.now a.batch_confidences.now a.from len.0 len.1 h
+          _ _ c.fuse_sound-step.ensures c.requires.count_value,
       near_here a.settings (table a.keys.now a.distances.now a.weights.now a.count.now)
-          a.batch-keys.now a.batch-distances.now a.batch-confidences.now a.from p.1.1.0 p.1.1.1 h
-          _ _ c.fuse_sound-step.ensures p.0 (rw c.in-Changed.is),
+          a.batch_keys.now a.batch_distances.now a.batch_confidences.now a.from len.0 len.1 h
+          _ _ c.fuse_sound-step.ensures c.requires.count_value (rw c.in-Changed.is),
     )

@@ -5,7 +5,11 @@ use Rattle.owning.proofs.Running.{run_goes, stops_too, goes_too, then_runs}
 use Rattle.batches.proofs.batch_step.Goals as goal
 
 pub batch_run-run-requires : goal.batch_run-run-requires
-batch_run-run-requires c = (c.requires.count_value, (omega arith, c.requires.from_in_bounds.1))
+batch_run-run-requires c = record {
+  count_value = c.requires.count_value;
+  from_in_bounds = omega arith;
+  batch_distances_len = c.requires.batch_distances_len;
+}
 
 pub returns-in-Refused : goal.returns-in-Refused
 returns-in-Refused c = stops_too _ _ _ _ _ _ _ c.batch_run-run.ensures _ _ _ c.in-Refused.is

@@ -25,7 +25,7 @@ pub batch_sound-went-requires : goal.batch_sound-went-requires
 batch_sound-went-requires c =
     let p = with_passed _ _ _ (sym c.check_with.ensures ∙ c.in-Passed.is) in
     let k = lengths_known _ _ _ _ (sym c.lengths_ok-fits.ensures ∙ p.0) in
-    (p.1, (k.1, k.2))
+    record { count_value = p.1; batch_distances_len = (k.1, k.2) }
 
 pub counts_of-counts-requires : goal.counts_of-counts-requires
 counts_of-counts-requires c =
