@@ -7,29 +7,10 @@ use Rattle.mesh.proofs.settle_places.Goals as goal
 
 pub returns : goal.returns
 returns c =
+    let a = c.args in
+    let e = c.kept-k.ensures in
     record {
-      x_after = (let a = c.args in
-          let e = c.kept-k.ensures in (
-            c.clear_from_f32.ensures ∙ ap (λ (k : ℕ). cleared_from zero_f k a.x.now) e,
-            (
-              c.clear_from_f32-2.ensures ∙ ap (λ (k : ℕ). cleared_from zero_f k a.y.now) e,
-              c.clear_from_f32-3.ensures ∙ ap (λ (k : ℕ). cleared_from zero_f k a.z.now) e,
-            ),
-          )).0;
-      y_after = (let a = c.args in
-          let e = c.kept-k.ensures in (
-            c.clear_from_f32.ensures ∙ ap (λ (k : ℕ). cleared_from zero_f k a.x.now) e,
-            (
-              c.clear_from_f32-2.ensures ∙ ap (λ (k : ℕ). cleared_from zero_f k a.y.now) e,
-              c.clear_from_f32-3.ensures ∙ ap (λ (k : ℕ). cleared_from zero_f k a.z.now) e,
-            ),
-          )).1;
-      z_after = (let a = c.args in
-          let e = c.kept-k.ensures in (
-            c.clear_from_f32.ensures ∙ ap (λ (k : ℕ). cleared_from zero_f k a.x.now) e,
-            (
-              c.clear_from_f32-2.ensures ∙ ap (λ (k : ℕ). cleared_from zero_f k a.y.now) e,
-              c.clear_from_f32-3.ensures ∙ ap (λ (k : ℕ). cleared_from zero_f k a.z.now) e,
-            ),
-          )).2;
+      x_after = c.clear_from_f32.ensures ∙ ap (λ (k : ℕ). cleared_from zero_f k a.x.now) e;
+      y_after = c.clear_from_f32-2.ensures ∙ ap (λ (k : ℕ). cleared_from zero_f k a.y.now) e;
+      z_after = c.clear_from_f32-3.ensures ∙ ap (λ (k : ℕ). cleared_from zero_f k a.z.now) e;
     }

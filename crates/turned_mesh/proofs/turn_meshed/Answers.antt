@@ -10,6 +10,6 @@ returns-in-Done c =
     let turned = c.turn_triangles.ensures in
     let told = c.in-Done.is in
     record {
-      t1_after = rw told turned.0;
-      t2_after = rw told turned.1;
+      t1_after = rw told turned.t1_after;
+      t2_after = rw told turned.t2_after;
     }

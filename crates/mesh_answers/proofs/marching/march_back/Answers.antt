@@ -3,4 +3,6 @@ use mathlib.Core.Path.{refl}
 use Rattle.mesh_answers.proofs.marching.march_back.Goals as goal
 
 pub returns-in-Refused : goal.returns-in-Refused
-returns-in-Refused c = record { number_value = (rw c.in-Refused.is (c.number.ensures, (refl, refl))).0; first_value = (rw c.in-Refused.is (c.number.ensures, (refl, refl))).1; second_value = (rw c.in-Refused.is (c.number.ensures, (refl, refl))).2 }
+returns-in-Refused c =
+    let told = c.in-Refused.is in
+    record { number_value = rw told c.number.ensures; first_value = rw told refl; second_value = rw told refl }
