@@ -26,7 +26,7 @@ loop-i-init c =
       refl,
       refl,
       sow_start false _ (lattice_of a.course) a.threshold (rooms_of a.keys.now a.cells.now)
-          (rows_of a.fused-keys.now a.fused-distances.now a.fused-weights.now a.fused-count) a.keys.now
+          (rows_of a.fused_keys.now a.fused_distances.now a.fused_weights.now a.fused_count) a.keys.now
           a.distances.now a.estimates.now a.cells.now (rows_ascend _ _ _ _ p.0.lent) (seeds_are a.threshold _ _ _ _ p.0.lent)
           (blank_ready false _ _ _ _ p.1),
     )
@@ -65,23 +65,23 @@ returns-in-Not c =
     let l = c.loop-i in
     let d = c.sow_if in
     let here =
-    row_at_lem a.fused-keys.now a.fused-distances.now a.fused-weights.now a.fused-count l.i p.distances p.weights
+    row_at_lem a.fused_keys.now a.fused_distances.now a.fused_weights.now a.fused_count l.i p.distances p.weights
     c.loop-i-test.true p.fits in
-    sow_stop l.lean (seed_in a.threshold (rows_of a.fused-keys.now a.fused-distances.now a.fused-weights.now a.fused-count))
+    sow_stop l.lean (seed_in a.threshold (rows_of a.fused_keys.now a.fused_distances.now a.fused_weights.now a.fused_count))
     (lattice_of a.course) back a.threshold (rooms_of a.keys.now a.cells.now)
-    (rows_of a.fused-keys.now a.fused-distances.now a.fused-weights.now a.fused-count) l.i l.rows l.keys l.distances l.held
+    (rows_of a.fused_keys.now a.fused_distances.now a.fused_weights.now a.fused_count) l.i l.rows l.keys l.distances l.held
     l.estimates l.cells l.invariant.5
-    (row (get_or a.fused-keys.now l.i 0) (get_or a.fused-distances.now l.i nan) (get_or a.fused-weights.now l.i nan))
-    here l.invariant.1 l.invariant.4 d.result d.new.1.1.1.1.1.1.1.0
-    d.new.1.1.1.1.1.1.1.1.0 d.new.1.1.1.1.1.1.1.1.1.1.0
-    d.new.1.1.1.1.1.1.1.1.1.1.1.0
+    (row (get_or a.fused_keys.now l.i 0) (get_or a.fused_distances.now l.i nan) (get_or a.fused_weights.now l.i nan))
+    here l.invariant.1 l.invariant.4 d.result d.new.keys
+    d.new.distances d.new.estimates
+    d.new.cells
     d.ensures _ c.in-Not.is
 
 pub overflow_add-i : goal.overflow_add-i
-overflow_add-i c = omega (arith, c.loop-i-test.taken, c.fits.fused-count)
+overflow_add-i c = omega (arith, c.loop-i-test.true, c.ranges.fused_count.fits)
 
 pub loop-i-smaller : goal.loop-i-smaller
-loop-i-smaller c = omega (arith, c.loop-i-test.taken)
+loop-i-smaller c = omega (arith, c.loop-i-test.true)
 
 pub loop-i-preserved : goal.loop-i-preserved
 loop-i-preserved c =
@@ -90,23 +90,23 @@ loop-i-preserved c =
     let l = c.loop-i in
     let d = c.sow_if in
     let here =
-    row_at_lem a.fused-keys.now a.fused-distances.now a.fused-weights.now a.fused-count l.i p.distances p.weights
+    row_at_lem a.fused_keys.now a.fused_distances.now a.fused_weights.now a.fused_count l.i p.distances p.weights
     c.loop-i-test.true p.fits in
     let k = d.auto in
     let i = l.invariant in (
       omega (arith, c.loop-i-test.true),
-      ◌∙◌ {b = length l.keys} k.1.1.1.1.1.1.1.0 i.1,
-      ◌∙◌ {b = length l.distances} k.1.1.1.1.1.1.1.1.0 i.2,
-      ◌∙◌ {b = length l.estimates} k.1.1.1.1.1.1.1.1.1.1.0 i.3,
-      ◌∙◌ {b = length l.cells} k.1.1.1.1.1.1.1.1.1.1.1.0 i.4,
-      sow_more l.lean (seed_in a.threshold (rows_of a.fused-keys.now a.fused-distances.now a.fused-weights.now a.fused-count))
+      ◌∙◌ {b = length l.keys} k.keys i.1,
+      ◌∙◌ {b = length l.distances} k.distances i.2,
+      ◌∙◌ {b = length l.estimates} k.estimates i.3,
+      ◌∙◌ {b = length l.cells} k.cells i.4,
+      sow_more l.lean (seed_in a.threshold (rows_of a.fused_keys.now a.fused_distances.now a.fused_weights.now a.fused_count))
           (lattice_of a.course) back a.threshold (rooms_of a.keys.now a.cells.now)
-          (rows_of a.fused-keys.now a.fused-distances.now a.fused-weights.now a.fused-count) l.i l.rows l.keys l.distances l.held
+          (rows_of a.fused_keys.now a.fused_distances.now a.fused_weights.now a.fused_count) l.i l.rows l.keys l.distances l.held
           l.estimates l.cells l.invariant.5
-          (row (get_or a.fused-keys.now l.i 0) (get_or a.fused-distances.now l.i nan) (get_or a.fused-weights.now l.i nan))
-          here i.1 i.4 d.result d.new.1.1.1.1.1.1.1.0
-          d.new.1.1.1.1.1.1.1.1.0 d.new.1.1.1.1.1.1.1.1.1.1.0
-          d.new.1.1.1.1.1.1.1.1.1.1.1.0
+          (row (get_or a.fused_keys.now l.i 0) (get_or a.fused_distances.now l.i nan) (get_or a.fused_weights.now l.i nan))
+          here i.1 i.4 d.result d.new.keys
+          d.new.distances d.new.estimates
+          d.new.cells
           d.ensures _ _ _ c.in-On.is,
     )
 
@@ -114,8 +114,8 @@ pub returns : goal.returns
 returns c =
     let a = c.args in
     let l = c.loop-i in
-    sow_finish l.lean (seed_in a.threshold (rows_of a.fused-keys.now a.fused-distances.now a.fused-weights.now a.fused-count))
+    sow_finish l.lean (seed_in a.threshold (rows_of a.fused_keys.now a.fused_distances.now a.fused_weights.now a.fused_count))
     (lattice_of a.course) back a.threshold (rooms_of a.keys.now a.cells.now)
-    (rows_of a.fused-keys.now a.fused-distances.now a.fused-weights.now a.fused-count) l.i l.rows l.keys l.distances l.held
-    l.estimates l.cells l.invariant.5 (rows_past a.fused-keys.now a.fused-distances.now a.fused-weights.now a.fused-count l.i
+    (rows_of a.fused_keys.now a.fused_distances.now a.fused_weights.now a.fused_count) l.i l.rows l.keys l.distances l.held
+    l.estimates l.cells l.invariant.5 (rows_past a.fused_keys.now a.fused_distances.now a.fused_weights.now a.fused_count l.i
     c.loop-i-test.false)

@@ -18,7 +18,10 @@ pub sow-step-requires : goal.sow-step-requires
 sow-step-requires c =
     let k = c.lighten-kind.auto in
     let p = c.requires in
-    ((p.0.0, (k.1.1.0 ∙ p.0.1.0 ∙ sym k.1.0, p.0.1.1)), (p.1.0, p.1.1.0))
+    record {
+      lent = (p.lent.0, (k.distances ∙ p.lent.1.0 ∙ sym k.keys, p.lent.1.1));
+      key_value = (p.key_value.0, p.key_value.1.0);
+    }
 
 pub returns : goal.returns
 returns c =
@@ -27,8 +30,8 @@ returns c =
     let d = c.sow-step in
     λ s h new told.
     let seeds = sym c.is_seed.ensures ∙ not-false _ (ap not c.if-not-is_seed.false) in
-    sown_goes a.lean a.count a.waiting a.keys.now a.distances.now a.estimates.now a.cells.now l.result l.ensures.0
-    l.new.1.0 l.new.1.1.0 l.ensures.1 l.auto.1.0 s h a.threshold (row a.key a.distance a.weight) seeds d.result
-    d.new.1.1.1.1.1.1.1.0 d.new.1.1.1.1.1.1.1.1.0 d.new.1.1.1.1.1.1.1.1.1.1.0
-    d.new.1.1.1.1.1.1.1.1.1.1.1.0
-    d.auto.1.1.1.1.1.1.1.0 (λ x room. d.ensures s x new (told seeds) room) c.leads_to.result c.leads_to.ensures
+    sown_goes a.lean a.count a.waiting a.keys.now a.distances.now a.estimates.now a.cells.now l.result l.ensures.kind
+    l.new.keys l.new.distances l.ensures.lists l.auto.keys s h a.threshold (row a.key a.distance a.weight) seeds d.result
+    d.new.keys d.new.distances d.new.estimates
+    d.new.cells
+    d.auto.keys (λ x room. d.ensures s x new (told seeds) room) c.leads_to.result c.leads_to.ensures

@@ -22,7 +22,7 @@ loop-held-init c =
       refl,
       refl,
       λ s h.
-          take_start a.lean _ (lattice_of a.course) back _ (seeds_are a.threshold _ _ _ _ p.0.0.lent) s a.count a.keys.now
+          take_start a.lean _ (lattice_of a.course) back _ (seeds_are a.threshold _ _ _ _ p.tabled.0.lent) s a.count a.keys.now
           a.distances.now
           a.waiting a.estimates.now a.cells.now h,
     )
@@ -32,12 +32,12 @@ surely_full-requires c =
     let a = c.args in
     let p = c.requires in
     let l = c.loop-held in
-    let at = l.invariant.4 p.1.0 p.1.1 in
+    let at = l.invariant.4 p.sown.0 p.sown.1 in
     let keys-fit = c.well_formed.1.1.1.1.1.1.1.0.1 in
     let cells_fit = c.well_formed.1.1.1.1.1.1.1.1.1.1.1.0.1 in
-    let taken = take_few l.kind (seed_in a.threshold (rows_of a.fused-keys.now a.fused-distances.now a.fused-weights.now a.fused-count))
+    let taken = take_few l.kind (seed_in a.threshold (rows_of a.fused_keys.now a.fused_distances.now a.fused_weights.now a.fused_count))
     (lattice_of a.course) back (rooms_of a.keys.now a.cells.now) _ l.takings l.rows
-    l.keys l.distances l.held l.estimates l.cells (l.invariant.4 p.1.0 p.1.1) in (
+    l.keys l.distances l.held l.estimates l.cells (l.invariant.4 p.sown.0 p.sown.1) in (
       omega (arith, keys-fit, l.invariant.0),
       omega (arith, at.ready.held.count, at.sound.rows_fit, l.invariant.0),
       omega (arith, cells_fit, at.ready.held.front.heap.fits, l.invariant.3),
@@ -50,7 +50,7 @@ returns-then-surely_full c =
     let a = c.args in
     let l = c.loop-held in
     λ s h.
-    take_crowded l.kind (seed_in a.threshold (rows_of a.fused-keys.now a.fused-distances.now a.fused-weights.now a.fused-count))
+    take_crowded l.kind (seed_in a.threshold (rows_of a.fused_keys.now a.fused_distances.now a.fused_weights.now a.fused_count))
     (lattice_of a.course) back (rooms_of a.keys.now a.cells.now) _ l.takings l.rows
     l.keys l.distances l.held l.estimates l.cells (l.invariant.4 s h)
     l.invariant.0 l.invariant.3 at_most_14 (sym c.surely_full.ensures ∙ c.if-surely_full.true)
@@ -58,11 +58,11 @@ returns-then-surely_full c =
 pub take_next-requires : goal.take_next-requires
 take_next-requires c =
     let p = c.requires in
-    let at = c.loop-held.invariant.4 p.1.0 p.1.1 in
+    let at = c.loop-held.invariant.4 p.sown.0 p.sown.1 in
     let h = at.ready.held in
     let l = c.loop-held-test.true in record {
-      lent = (p.0.0.lent, (h.front.marked.long, h.front.heap.long));
-      waiting_nonzero = (l, (h.front.heap.fits, (p.0.1, first_on_lattice _ _ _ _ _ _ _ _ h l)));
+      lent = (p.tabled.0.lent, (h.front.marked.long, h.front.heap.long));
+      waiting_nonzero = (l, (h.front.heap.fits, (p.tabled.1, first_on_lattice _ _ _ _ _ _ _ _ h l)));
     }
 
 pub returns-in-Not : goal.returns-in-Not
@@ -72,37 +72,37 @@ returns-in-Not c =
     let l = c.loop-held in
     let d = c.take_next in
     λ s h.
-    take_stop l.kind (seed_in a.threshold (rows_of a.fused-keys.now a.fused-distances.now a.fused-weights.now a.fused-count))
+    take_stop l.kind (seed_in a.threshold (rows_of a.fused_keys.now a.fused_distances.now a.fused_weights.now a.fused_count))
     (lattice_of a.course) back (rooms_of a.keys.now a.cells.now) _ l.takings l.rows
     l.keys l.distances l.held l.estimates l.cells (l.invariant.4 s h)
-    l.invariant.0 l.invariant.3 c.loop-held-test.true d.result d.new.1.1.1.1.1.1.1.0
-    d.new.1.1.1.1.1.1.1.1.0 d.new.1.1.1.1.1.1.1.1.1.1.0
-    d.new.1.1.1.1.1.1.1.1.1.1.1.0 d.ensures _ c.in-Not.is
+    l.invariant.0 l.invariant.3 c.loop-held-test.true d.result d.new.keys
+    d.new.distances d.new.estimates
+    d.new.cells d.ensures _ c.in-Not.is
 
 pub overflow_add-takings : goal.overflow_add-takings
 overflow_add-takings c =
     let a = c.args in
-    let p = c.pre in
+    let p = c.requires in
     let l = c.loop-held in
     omega (
       arith,
-      c.good.1.1.1.1.1.1.1.0.1,
-      take_few l.kind (seed_in a.threshold (rows_of a.fused-keys.now a.fused-distances.now a.fused-weights.now a.fused-count))
+      c.well_formed.1.1.1.1.1.1.1.0.1,
+      take_few l.kind (seed_in a.threshold (rows_of a.fused_keys.now a.fused_distances.now a.fused_weights.now a.fused_count))
           (lattice_of a.course) back (rooms_of a.keys.now a.cells.now) _ l.takings l.rows
-          l.keys l.distances l.held l.estimates l.cells (l.inv.4 p.1.0 p.1.1),
+          l.keys l.distances l.held l.estimates l.cells (l.invariant.4 p.sown.0 p.sown.1),
     )
 
 pub loop-held-smaller : goal.loop-held-smaller
 loop-held-smaller c =
     let a = c.args in
-    let p = c.pre in
+    let p = c.requires in
     let l = c.loop-held in
     omega (
       arith,
-      c.good.1.1.1.1.1.1.1.0.1,
-      take_few l.kind (seed_in a.threshold (rows_of a.fused-keys.now a.fused-distances.now a.fused-weights.now a.fused-count))
+      c.well_formed.1.1.1.1.1.1.1.0.1,
+      take_few l.kind (seed_in a.threshold (rows_of a.fused_keys.now a.fused_distances.now a.fused_weights.now a.fused_count))
           (lattice_of a.course) back (rooms_of a.keys.now a.cells.now) _ l.takings l.rows
-          l.keys l.distances l.held l.estimates l.cells (l.inv.4 p.1.0 p.1.1),
+          l.keys l.distances l.held l.estimates l.cells (l.invariant.4 p.sown.0 p.sown.1),
     )
 
 pub loop-held-preserved : goal.loop-held-preserved
@@ -112,17 +112,17 @@ loop-held-preserved c =
     let d = c.take_next in
     let k = d.auto in
     let i = l.invariant in (
-      ◌∙◌ {b = length l.keys} k.1.1.1.1.1.1.1.0 i.0,
-      ◌∙◌ {b = length l.distances} k.1.1.1.1.1.1.1.1.0 i.1,
-      ◌∙◌ {b = length l.estimates} k.1.1.1.1.1.1.1.1.1.1.0 i.2,
-      ◌∙◌ {b = length l.cells} k.1.1.1.1.1.1.1.1.1.1.1.0 i.3,
+      ◌∙◌ {b = length l.keys} k.keys i.0,
+      ◌∙◌ {b = length l.distances} k.distances i.1,
+      ◌∙◌ {b = length l.estimates} k.estimates i.2,
+      ◌∙◌ {b = length l.cells} k.cells i.3,
       λ s h.
-          take_more l.kind (seed_in a.threshold (rows_of a.fused-keys.now a.fused-distances.now a.fused-weights.now a.fused-count))
+          take_more l.kind (seed_in a.threshold (rows_of a.fused_keys.now a.fused_distances.now a.fused_weights.now a.fused_count))
           (lattice_of a.course) back (rooms_of a.keys.now a.cells.now) _ l.takings l.rows
           l.keys l.distances l.held l.estimates l.cells (i.4 s h)
-          i.0 i.3 c.loop-held-test.true d.result d.new.1.1.1.1.1.1.1.0
-          d.new.1.1.1.1.1.1.1.1.0 d.new.1.1.1.1.1.1.1.1.1.1.0
-          d.new.1.1.1.1.1.1.1.1.1.1.1.0 d.ensures _ _ _ c.in-On.is,
+          i.0 i.3 c.loop-held-test.true d.result d.new.keys
+          d.new.distances d.new.estimates
+          d.new.cells d.ensures _ _ _ c.in-On.is,
     )
 
 pub returns : goal.returns
@@ -130,6 +130,6 @@ returns c =
     let a = c.args in
     let l = c.loop-held in
     λ s h.
-    take_finish l.kind (seed_in a.threshold (rows_of a.fused-keys.now a.fused-distances.now a.fused-weights.now a.fused-count))
+    take_finish l.kind (seed_in a.threshold (rows_of a.fused_keys.now a.fused_distances.now a.fused_weights.now a.fused_count))
     (lattice_of a.course) back (rooms_of a.keys.now a.cells.now) _ l.takings l.rows
     l.keys l.distances l.held l.estimates l.cells (l.invariant.4 s h) l.invariant.0 c.loop-held-test.false

@@ -11,7 +11,10 @@ pub take-step-requires : goal.take-step-requires
 take-step-requires c =
     let k = c.lighten-kind.auto in
     let p = c.requires in
-    ((p.0.0, (k.1.1.0 ∙ p.0.1.0 ∙ sym k.1.0, p.0.1.1)), p.1)
+    record {
+      lent = (p.lent.0, (k.distances ∙ p.lent.1.0 ∙ sym k.keys, p.lent.1.1));
+      waiting_nonzero = p.waiting_nonzero;
+    }
 
 pub returns : goal.returns
 returns c =
@@ -19,8 +22,8 @@ returns c =
     let l = c.lighten-kind in
     let d = c.take-step in
     λ s h told.
-    taken_goes a.lean a.count a.waiting a.keys.now a.distances.now a.estimates.now a.cells.now l.result l.ensures.0
-    l.new.1.0 l.new.1.1.0 l.ensures.1 l.auto.1.0 s h a.course c.requires.waiting_nonzero.0 d.result
-    d.new.1.1.1.1.1.1.1.0 d.new.1.1.1.1.1.1.1.1.0 d.new.1.1.1.1.1.1.1.1.1.1.0
-    d.new.1.1.1.1.1.1.1.1.1.1.1.0
-    d.auto.1.1.1.1.1.1.1.0 (λ x room. d.ensures s x told room) c.leads_to.result c.leads_to.ensures
+    taken_goes a.lean a.count a.waiting a.keys.now a.distances.now a.estimates.now a.cells.now l.result l.ensures.kind
+    l.new.keys l.new.distances l.ensures.lists l.auto.keys s h a.course c.requires.waiting_nonzero.0 d.result
+    d.new.keys d.new.distances d.new.estimates
+    d.new.cells
+    d.auto.keys (λ x room. d.ensures s x told room) c.leads_to.result c.leads_to.ensures
