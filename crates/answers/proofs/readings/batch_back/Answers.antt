@@ -3,7 +3,17 @@ use mathlib.Core.Path.{refl}
 use Rattle.answers.proofs.readings.batch_back.Goals as goal
 
 pub returns-in-Done : goal.returns-in-Done
-returns-in-Done c = record { number_value = (rw c.in-Done.is (refl, (refl, refl))).0; counts_value = (rw c.in-Done.is (refl, (refl, refl))).1; at_value = (rw c.in-Done.is (refl, (refl, refl))).2 }
+returns-in-Done c =
+    record {
+      number_value = rw c.in-Done.is refl;
+      counts_value = rw c.in-Done.is refl;
+      at_value = rw c.in-Done.is refl;
+    }
 
 pub returns-in-Refused : goal.returns-in-Refused
-returns-in-Refused c = record { number_value = (rw c.in-Refused.is (c.number.ensures, (refl, refl))).0; counts_value = (rw c.in-Refused.is (c.number.ensures, (refl, refl))).1; at_value = (rw c.in-Refused.is (c.number.ensures, (refl, refl))).2 }
+returns-in-Refused c =
+    record {
+      number_value = rw c.in-Refused.is c.number.ensures;
+      counts_value = rw c.in-Refused.is refl;
+      at_value = rw c.in-Refused.is refl;
+    }
