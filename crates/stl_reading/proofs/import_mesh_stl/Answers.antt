@@ -11,77 +11,21 @@ read_facets-passed-requires c = stated_asks _ _ _ _ _ (c.count_of.ensures ∙ ap
 
 pub returns : goal.returns
 returns c =
+    let a = c.args in
+    let stated = c.stated-stated.ensures in
+    let m = c.count_of.ensures ∙ ap count_of stated in
+    let read = c.read_facets-passed.ensures in
+    let answered = import_answered a.file.now _ _ _ _ _ _ _ _ stated m read.value read.column_read.long c.answer-answer.ensures in
+    let n = c.count_of-n.ensures ∙ ap count_of answered in
     record {
-      value = (let a = c.args in
-          let stated = c.stated-stated.ensures in
-          let m = c.count_of.ensures ∙ ap count_of stated in
-          let read = c.read_facets-passed.ensures in
-          let answered = import_answered a.file.now _ _ _ _ _ _ _ _ stated m read.0 read.1.0.long c.answer-answer.ensures in
-          let n = c.count_of-n.ensures ∙ ap count_of answered in (
-            answered,
-            (
-              import_held a.file.now _ _ _ (λ (v : Vertex). v.x.0) a.px.now _ _ _ _ _ (λ k r. refl) m read.0 read.1.0 n
-                  c.clear_from_f32.ensures,
-              (
-                import_held a.file.now _ _ _ (λ (v : Vertex). v.y.0) a.py.now _ _ _ _ _ (λ k r. r.second) m read.0 read.1.1.0 n
-                    c.clear_from_f32-2.ensures,
-                import_held a.file.now _ _ _ (λ (v : Vertex). v.z.0) a.pz.now _ _ _ _ _ (λ k r. r.third) m read.0 read.1.1.1 n
-                    c.clear_from_f32-3.ensures,
-              ),
-            ),
-          )).0;
-      px_after = (let a = c.args in
-          let stated = c.stated-stated.ensures in
-          let m = c.count_of.ensures ∙ ap count_of stated in
-          let read = c.read_facets-passed.ensures in
-          let answered = import_answered a.file.now _ _ _ _ _ _ _ _ stated m read.0 read.1.0.long c.answer-answer.ensures in
-          let n = c.count_of-n.ensures ∙ ap count_of answered in (
-            answered,
-            (
-              import_held a.file.now _ _ _ (λ (v : Vertex). v.x.0) a.px.now _ _ _ _ _ (λ k r. refl) m read.0 read.1.0 n
-                  c.clear_from_f32.ensures,
-              (
-                import_held a.file.now _ _ _ (λ (v : Vertex). v.y.0) a.py.now _ _ _ _ _ (λ k r. r.second) m read.0 read.1.1.0 n
-                    c.clear_from_f32-2.ensures,
-                import_held a.file.now _ _ _ (λ (v : Vertex). v.z.0) a.pz.now _ _ _ _ _ (λ k r. r.third) m read.0 read.1.1.1 n
-                    c.clear_from_f32-3.ensures,
-              ),
-            ),
-          )).1;
-      py_after = (let a = c.args in
-          let stated = c.stated-stated.ensures in
-          let m = c.count_of.ensures ∙ ap count_of stated in
-          let read = c.read_facets-passed.ensures in
-          let answered = import_answered a.file.now _ _ _ _ _ _ _ _ stated m read.0 read.1.0.long c.answer-answer.ensures in
-          let n = c.count_of-n.ensures ∙ ap count_of answered in (
-            answered,
-            (
-              import_held a.file.now _ _ _ (λ (v : Vertex). v.x.0) a.px.now _ _ _ _ _ (λ k r. refl) m read.0 read.1.0 n
-                  c.clear_from_f32.ensures,
-              (
-                import_held a.file.now _ _ _ (λ (v : Vertex). v.y.0) a.py.now _ _ _ _ _ (λ k r. r.second) m read.0 read.1.1.0 n
-                    c.clear_from_f32-2.ensures,
-                import_held a.file.now _ _ _ (λ (v : Vertex). v.z.0) a.pz.now _ _ _ _ _ (λ k r. r.third) m read.0 read.1.1.1 n
-                    c.clear_from_f32-3.ensures,
-              ),
-            ),
-          )).2;
-      pz_after = (let a = c.args in
-          let stated = c.stated-stated.ensures in
-          let m = c.count_of.ensures ∙ ap count_of stated in
-          let read = c.read_facets-passed.ensures in
-          let answered = import_answered a.file.now _ _ _ _ _ _ _ _ stated m read.0 read.1.0.long c.answer-answer.ensures in
-          let n = c.count_of-n.ensures ∙ ap count_of answered in (
-            answered,
-            (
-              import_held a.file.now _ _ _ (λ (v : Vertex). v.x.0) a.px.now _ _ _ _ _ (λ k r. refl) m read.0 read.1.0 n
-                  c.clear_from_f32.ensures,
-              (
-                import_held a.file.now _ _ _ (λ (v : Vertex). v.y.0) a.py.now _ _ _ _ _ (λ k r. r.second) m read.0 read.1.1.0 n
-                    c.clear_from_f32-2.ensures,
-                import_held a.file.now _ _ _ (λ (v : Vertex). v.z.0) a.pz.now _ _ _ _ _ (λ k r. r.third) m read.0 read.1.1.1 n
-                    c.clear_from_f32-3.ensures,
-              ),
-            ),
-          )).3;
+      value = answered;
+      px_after =
+          import_held a.file.now _ _ _ (λ (v : Vertex). v.x.0) a.px.now _ _ _ _ _ (λ k r. refl) m read.value read.column_read n
+          c.clear_from_f32.ensures;
+      py_after =
+          import_held a.file.now _ _ _ (λ (v : Vertex). v.y.0) a.py.now _ _ _ _ _ (λ k r. r.second) m read.value read.column_read_2 n
+          c.clear_from_f32-2.ensures;
+      pz_after =
+          import_held a.file.now _ _ _ (λ (v : Vertex). v.z.0) a.pz.now _ _ _ _ _ (λ k r. r.third) m read.value read.column_read_3 n
+          c.clear_from_f32-3.ensures;
     }

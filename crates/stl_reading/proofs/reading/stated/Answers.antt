@@ -1,9 +1,10 @@
 -- `stl::reading::stated` meets its contract: the lengths are tested, then the file's own.
 -- Assumes nothing.
 use Rattle.std.proofs.Common.{not}
-use Prim.Native.Nat.{◌+◌, ◌*◌}
+use Prim.Native.Nat.{ℕ, ◌+◌, ◌*◌}
 use mathlib.Core.Path.{◌≡◌, sym, ap, ◌∙◌}
-use mathlib.Core.Bool.{◌&&◌}
+use mathlib.Core.List.{List}
+use mathlib.Core.Bool.{Bool, ◌&&◌}
 use lib.ListN.{length}
 use Rattle.lists.proofs.Bools.{yes, no}
 use Rattle.corners.specs.Corners.{set_ok}
@@ -13,25 +14,23 @@ use Rattle.stl.proofs.AnswerLaws.{length_short, length_other, length_right}
 use Rattle.stl_reading.proofs.reading.stated.Goals as goal
 
 -- the lengths, tested
-fit : (c : goal.After-set_ok) →
-    let a = c.args in
-    file_fits (length a.file.now) && c.set_ok.result ≡ file_fits (length a.file.now) && set_ok a.a a.b a.c 0
-fit c = ap (λ b. file_fits (length c.args.file.now) && b) c.set_ok.ensures
+fit : (file : List ℕ) (a b c : ℕ) {r : Bool} → r ≡ set_ok a b c 0 → file_fits (length file) && r ≡ file_fits (length file) && set_ok a b c 0
+fit file a b c e = ap (λ b. file_fits (length file) && b) e
 
 pub returns-then-not-file-set_ok : goal.returns-then-not-file-set_ok
 unfolding stated_for
-returns-then-not-file-set_ok c = rw (no (fit c.before) (ap not c.if-not-file-set_ok.true))
+returns-then-not-file-set_ok c = rw (no (fit c.args.file.now c.args.a c.args.b c.args.c c.set_ok.ensures) (ap not c.if-not-file-set_ok.true))
 
 pub returns-then-file-lt84 : goal.returns-then-file-lt84
 unfolding stated_for
-returns-then-file-lt84 c = rw (yes (fit c.before.before) (ap not c.if-not-file-set_ok.false), length_short _ c.if-file-lt84.true)
+returns-then-file-lt84 c = rw (yes (fit c.args.file.now c.args.a c.args.b c.args.c c.set_ok.ensures) (ap not c.if-not-file-set_ok.false), length_short _ c.if-file-lt84.true)
 
 pub returns-then-file-count : goal.returns-then-file-count
 unfolding stated_for
 returns-then-file-count c =
     let n = c.read_word-count.ensures in
     rw (
-      yes (fit c.before.before.before.before) (ap not c.if-not-file-set_ok.false),
+      yes (fit c.args.file.now c.args.a c.args.b c.args.c c.set_ok.ensures) (ap not c.if-not-file-set_ok.false),
       length_other _ c.if-file-lt84.false (λ e. c.if-file-count.true (e ∙ ap (λ k. 84 + 50 * k) (sym n))),
     )
 
@@ -40,7 +39,7 @@ unfolding stated_for
 returns c =
     let n = c.read_word-count.ensures in
     rw (
-      yes (fit c.before.before.before.before) (ap not c.if-not-file-set_ok.false),
+      yes (fit c.args.file.now c.args.a c.args.b c.args.c c.set_ok.ensures) (ap not c.if-not-file-set_ok.false),
       length_right _ (c.if-file-count.false ∙ ap (λ k. 84 + 50 * k) n),
       n,
     )

@@ -15,16 +15,22 @@ returns-then-not-set_ok-room c = rw (no (and_eq c.set_ok.ensures (and_eq c.set_o
 pub vertices_ok-requires : goal.vertices_ok-requires
 vertices_ok-requires c =
     let a = c.args in
-    (sets_lent a.px.now a.py.now a.pz.now a.vertices a.t0.now a.t1.now a.t2.now a.triangles a.room (yes (and_eq c.set_ok.ensures (and_eq c.set_ok-2.ensures refl)) (ap not c.if-not-set_ok-room.false))).0
+    (sets_lent a.px.now a.py.now a.pz.now a.vertices a.t0.now a.t1.now a.t2.now a.triangles a.room
+    (yes (and_eq c.set_ok.ensures (and_eq c.set_ok-2.ensures refl)) (ap not c.if-not-set_ok-room.false))).0
 
 pub triangles_ok-requires : goal.triangles_ok-requires
 triangles_ok-requires c =
     let a = c.args in
-    (sets_lent a.px.now a.py.now a.pz.now a.vertices a.t0.now a.t1.now a.t2.now a.triangles a.room (yes (and_eq c.set_ok.ensures (and_eq c.set_ok-2.ensures refl)) (ap not c.if-not-set_ok-room.false))).1
+    (sets_lent a.px.now a.py.now a.pz.now a.vertices a.t0.now a.t1.now a.t2.now a.triangles a.room
+    (yes (and_eq c.set_ok.ensures (and_eq c.set_ok-2.ensures refl)) (ap not c.if-not-set_ok-room.false))).1
 
 pub returns-then-not-vertices_ok-triangles_ok : goal.returns-then-not-vertices_ok-triangles_ok
 unfolding export_answer
-returns-then-not-vertices_ok-triangles_ok c = rw (yes (and_eq c.set_ok.ensures (and_eq c.set_ok-2.ensures refl)) (ap not c.if-not-set_ok-room.false), no (and_eq c.vertices_ok.ensures c.triangles_ok.ensures) (ap not c.if-not-vertices_ok-triangles_ok.true))
+returns-then-not-vertices_ok-triangles_ok c =
+    rw (
+      yes (and_eq c.set_ok.ensures (and_eq c.set_ok-2.ensures refl)) (ap not c.if-not-set_ok-room.false),
+      no (and_eq c.vertices_ok.ensures c.triangles_ok.ensures) (ap not c.if-not-vertices_ok-triangles_ok.true),
+    )
 
 pub overflow_mul-triangles : goal.overflow_mul-triangles
 overflow_mul-triangles c = let a = c.args in

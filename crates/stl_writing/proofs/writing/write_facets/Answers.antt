@@ -27,10 +27,17 @@ pub bounds-t0-i : goal.bounds-t0-i
 bounds-t0-i c = omega (arith, c.loop-i-test.true, c.requires.triangles.fits, c.requires.triangles.second, c.requires.triangles.third)
 
 pub overflow_cast-t0 : goal.overflow_cast-t0
-overflow_cast-t0 c = omega (arith, (named _ _ _ _ c.requires.vertices _ _ _ _ c.requires.triangles c.loop-i.i c.loop-i-test.true c.loop-i.invariant.1).0, c.ranges.vertices)
+overflow_cast-t0 c =
+    omega (
+      arith,
+      (named _ _ _ _ c.requires.vertices _ _ _ _ c.requires.triangles c.loop-i.i c.loop-i-test.true c.loop-i.invariant.1).0,
+      c.ranges.vertices,
+    )
 
 pub vertex_at-a-requires : goal.vertex_at-a-requires
-vertex_at-a-requires c = asked _ c.requires.vertices (named _ _ _ _ c.requires.vertices _ _ _ _ c.requires.triangles c.loop-i.i c.loop-i-test.true c.loop-i.invariant.1).0
+vertex_at-a-requires c =
+    asked _ c.requires.vertices
+    (named _ _ _ _ c.requires.vertices _ _ _ _ c.requires.triangles c.loop-i.i c.loop-i-test.true c.loop-i.invariant.1).0
 
 pub offset_bounds-t1-i : goal.offset_bounds-t1-i
 offset_bounds-t1-i c = omega (arith, c.loop-i-test.true, c.requires.triangles.fits, c.requires.triangles.second, c.requires.triangles.third)
@@ -43,7 +50,9 @@ overflow_cast-t1 c =
     omega (arith, (named _ _ _ _ c.requires.vertices _ _ _ _ c.requires.triangles c.loop-i.i c.loop-i-test.true c.loop-i.invariant.1).1, c.ranges.vertices)
 
 pub vertex_at-b-requires : goal.vertex_at-b-requires
-vertex_at-b-requires c = asked _ c.requires.vertices (named _ _ _ _ c.requires.vertices _ _ _ _ c.requires.triangles c.loop-i.i c.loop-i-test.true c.loop-i.invariant.1).1
+vertex_at-b-requires c =
+    asked _ c.requires.vertices
+    (named _ _ _ _ c.requires.vertices _ _ _ _ c.requires.triangles c.loop-i.i c.loop-i-test.true c.loop-i.invariant.1).1
 
 pub offset_bounds-t2-i : goal.offset_bounds-t2-i
 offset_bounds-t2-i c = omega (arith, c.loop-i-test.true, c.requires.triangles.fits, c.requires.triangles.second, c.requires.triangles.third)
@@ -56,7 +65,9 @@ overflow_cast-t2 c =
     omega (arith, (named _ _ _ _ c.requires.vertices _ _ _ _ c.requires.triangles c.loop-i.i c.loop-i-test.true c.loop-i.invariant.1).2, c.ranges.vertices)
 
 pub vertex_at-c-requires : goal.vertex_at-c-requires
-vertex_at-c-requires c = asked _ c.requires.vertices (named _ _ _ _ c.requires.vertices _ _ _ _ c.requires.triangles c.loop-i.i c.loop-i-test.true c.loop-i.invariant.1).2
+vertex_at-c-requires c =
+    asked _ c.requires.vertices
+    (named _ _ _ _ c.requires.vertices _ _ _ _ c.requires.triangles c.loop-i.i c.loop-i-test.true c.loop-i.invariant.1).2
 
 pub overflow_mul-i : goal.overflow_mul-i
 overflow_mul-i c = omega (arith, c.loop-i-test.true, c.requires.few)
