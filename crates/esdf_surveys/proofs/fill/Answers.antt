@@ -14,13 +14,13 @@ pub returns-in-Refused : goal.returns-in-Refused
 returns-in-Refused c =
     let a = c.args in
     fill_refused _ (cells_within a.threshold (marched_rows_of a.keys.now a.distances.now a.count))
-    a.out-keys.now a.out-distances.now c.in-Refused.is
+    a.out_keys.now a.out_distances.now c.in-Refused.is
 
 pub returns-in-Passed : goal.returns-in-Passed
 returns-in-Passed c =
     let a = c.args in
     let v = c.in-Passed.is in
     fill_passed _ (cells_within a.threshold (marched_rows_of a.keys.now a.distances.now a.count))
-    a.out-keys.now a.out-distances.now _ _ _ _ _ v (c.requires v).2
-    c.put_within-n.auto.1.1.1.1.0
+    a.out_keys.now a.out_distances.now _ _ _ _ _ v (c.requires v).2
+    c.put_within-n.auto.out_keys
     c.put_within-n.ensures c.room_for.ensures

@@ -7,58 +7,21 @@ use Rattle.esdf_surveys.proofs.get_voxels_within_distance.Goals as goal
 pub fill-listed-requires : goal.fill-listed-requires
 fill-listed-requires c =
     let a = c.args in
-    may_list a.keys.now a.distances.now a.count a.out-keys.now a.out-distances.now _ a.threshold _
+    may_list a.keys.now a.distances.now a.count a.out_keys.now a.out_distances.now _ a.threshold _
     c.pair_ok-fit.ensures c.check_list-verdict.ensures
 
 pub returns : goal.returns
 returns c =
+    let a = c.args in
+    let p = c.pair_ok-fit.ensures in
+    let q = c.check_list-verdict.ensures in
+    let f = c.fill-listed.ensures in
+    let k = c.fill-listed.auto in
+    let n = c.count_of-n.ensures in
     record {
-      value = (let a = c.args in
-          let p = c.pair_ok-fit.ensures in
-          let q = c.check_list-verdict.ensures in
-          let f = c.fill-listed.ensures in
-          let k = c.fill-listed.auto in
-          let n = c.count_of-n.ensures in (
-            within_answer a.keys.now a.distances.now a.count a.threshold a.out-keys.now a.out-distances.now _ _ _ _ _ p q f,
-            (
-              within_keys_lem a.keys.now a.distances.now a.count a.threshold a.out-keys.now
-                  a.out-distances.now _ _ _ _ _ p q f _ k.1.1.1.1.1.0 n
-                  c.clear_from_u64.ensures,
-              within_distances_lem a.keys.now a.distances.now a.count a.threshold a.out-keys.now
-                  a.out-distances.now _ _ _ _ _ p q f _ k.1.1.1.1.1.1.0 n
-                  c.clear_from_f32.ensures,
-            ),
-          )).0;
-      out_keys_after = (let a = c.args in
-          let p = c.pair_ok-fit.ensures in
-          let q = c.check_list-verdict.ensures in
-          let f = c.fill-listed.ensures in
-          let k = c.fill-listed.auto in
-          let n = c.count_of-n.ensures in (
-            within_answer a.keys.now a.distances.now a.count a.threshold a.out-keys.now a.out-distances.now _ _ _ _ _ p q f,
-            (
-              within_keys_lem a.keys.now a.distances.now a.count a.threshold a.out-keys.now
-                  a.out-distances.now _ _ _ _ _ p q f _ k.1.1.1.1.1.0 n
-                  c.clear_from_u64.ensures,
-              within_distances_lem a.keys.now a.distances.now a.count a.threshold a.out-keys.now
-                  a.out-distances.now _ _ _ _ _ p q f _ k.1.1.1.1.1.1.0 n
-                  c.clear_from_f32.ensures,
-            ),
-          )).1;
-      out_distances_after = (let a = c.args in
-          let p = c.pair_ok-fit.ensures in
-          let q = c.check_list-verdict.ensures in
-          let f = c.fill-listed.ensures in
-          let k = c.fill-listed.auto in
-          let n = c.count_of-n.ensures in (
-            within_answer a.keys.now a.distances.now a.count a.threshold a.out-keys.now a.out-distances.now _ _ _ _ _ p q f,
-            (
-              within_keys_lem a.keys.now a.distances.now a.count a.threshold a.out-keys.now
-                  a.out-distances.now _ _ _ _ _ p q f _ k.1.1.1.1.1.0 n
-                  c.clear_from_u64.ensures,
-              within_distances_lem a.keys.now a.distances.now a.count a.threshold a.out-keys.now
-                  a.out-distances.now _ _ _ _ _ p q f _ k.1.1.1.1.1.1.0 n
-                  c.clear_from_f32.ensures,
-            ),
-          )).2;
+      value = within_answer a.keys.now a.distances.now a.count a.threshold a.out_keys.now a.out_distances.now _ _ _ _ _ p q f;
+      out_keys_after = within_keys_lem a.keys.now a.distances.now a.count a.threshold a.out_keys.now a.out_distances.now _ _ _ _ _ p q f _
+          k.out_keys n c.clear_from_u64.ensures;
+      out_distances_after = within_distances_lem a.keys.now a.distances.now a.count a.threshold a.out_keys.now a.out_distances.now
+          _ _ _ _ _ p q f _ k.out_distances n c.clear_from_f32.ensures;
     }

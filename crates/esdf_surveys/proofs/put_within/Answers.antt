@@ -14,8 +14,8 @@ loop-i-init c =
       search rules,
       refl,
       refl,
-      put_begun a.threshold (marched_rows_of a.keys.now a.distances.now a.count) a.out-keys.now
-          a.out-distances.now,
+      put_begun a.threshold (marched_rows_of a.keys.now a.distances.now a.count) a.out_keys.now
+          a.out_distances.now,
     )
 
 pub loop-i-preserved : goal.loop-i-preserved
@@ -27,12 +27,12 @@ loop-i-preserved c =
     let k = c.put_if-n.auto in
     let rs = marched_rows_of a.keys.now a.distances.now a.count in (
       search rules,
-      put_few a.threshold rs l.i l.n a.out-keys.now a.out-distances.now l.out-keys
-          l.out-distances l.invariant.4 l.invariant.1 _ _ _ _ c.put_if-n.ensures,
-      k.1.1.1.0 ∙ l.invariant.2,
-      k.1.1.1.1.0 ∙ l.invariant.3,
-      put_next a.threshold rs l.i l.n a.out-keys.now a.out-distances.now l.out-keys
-          l.out-distances l.invariant.4 _
+      put_few a.threshold rs l.i l.n a.out_keys.now a.out_distances.now l.out_keys
+          l.out_distances l.invariant.4 l.invariant.1 _ _ _ _ c.put_if-n.ensures,
+      k.out_keys ∙ l.invariant.2,
+      k.out_distances ∙ l.invariant.3,
+      put_next a.threshold rs l.i l.n a.out_keys.now a.out_distances.now l.out_keys
+          l.out_distances l.invariant.4 _
           (pair_at a.keys.now a.distances.now a.count l.i p.distances t p.fits) _ _ _
           c.put_if-n.ensures,
     )
@@ -42,5 +42,5 @@ returns c =
     let a = c.args in
     let l = c.loop-i in
     let rs = marched_rows_of a.keys.now a.distances.now a.count in
-    put_done a.threshold rs l.i l.n a.out-keys.now a.out-distances.now l.out-keys l.out-distances
+    put_done a.threshold rs l.i l.n a.out_keys.now a.out_distances.now l.out_keys l.out_distances
     l.invariant.4 (pair_end a.keys.now a.distances.now a.count l.i c.loop-i-test.false)
