@@ -10,8 +10,8 @@ march_if-answer-requires c =
     let a = c.args in
     let e = c.clear.ensures in
     may_march a.settings a.keys.now a.distances.now a.weights.now a.count a.threshold
-    a.marched-keys.now a.waiting-keys.now a.marched-distances.now a.waiting-estimates.now _ _ _ _
-    (and_eq c.set_ok.ensures c.set_ok-2.ensures) c.check-verdict.ensures e.0 e.1.0 e.1.1.0 e.1.1.1
+    a.marched_keys.now a.waiting_keys.now a.marched_distances.now a.waiting_estimates.now _ _ _ _
+    (and_eq c.set_ok.ensures c.set_ok-2.ensures) c.check-verdict.ensures e.keys_after e.distances_after e.estimates_after e.cells_after
 
 pub returns : goal.returns
 returns c =
@@ -21,8 +21,8 @@ returns c =
     let m = c.march_if-answer.auto in
     let t = c.tidy.ensures in
     march_left a.settings a.keys.now a.distances.now a.weights.now a.count a.threshold
-    a.marched-keys.now a.waiting-keys.now a.marched-distances.now a.waiting-estimates.now l.0 l.1.1.1.0
-    (and_eq c.set_ok.ensures c.set_ok-2.ensures) c.check-verdict.ensures k.0 k.1.1.1.0 _ _ _ _
-    (m.1.1.1.1.1.1.1.0 ∙ k.0) (m.1.1.1.1.1.1.1.1.0 ∙ k.1.0) (m.1.1.1.1.1.1.1.1.1.0 ∙ k.1.1.0)
-    (m.1.1.1.1.1.1.1.1.1.1.0 ∙ k.1.1.1.0) _
-    c.march_if-answer.ensures _ _ _ _ t.0 t.1.0 t.1.1.0 t.1.1.1
+    a.marched_keys.now a.waiting_keys.now a.marched_distances.now a.waiting_estimates.now l.keys l.cells
+    (and_eq c.set_ok.ensures c.set_ok-2.ensures) c.check-verdict.ensures k.keys k.cells _ _ _ _
+    (m.keys ∙ k.keys) (m.distances ∙ k.distances) (m.estimates ∙ k.estimates)
+    (m.cells ∙ k.cells) _
+    c.march_if-answer.ensures _ _ _ _ t.keys_after t.distances_after t.estimates_after t.cells_after

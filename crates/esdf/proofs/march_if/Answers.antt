@@ -19,8 +19,8 @@ returns-in-Passed c =
     let d = c.march in
     let g =
     march_from a.course.size a.course.most (rooms_of a.keys.now a.cells.now) a.threshold
-    (rows_of a.fused-keys.now a.fused-distances.now a.fused-weights.now a.fused-count) in
-    passed_first a.verdict g d.new.1.1.1.1.1.1.0 d.new.1.1.1.1.1.1.1.0
-    d.new.1.1.1.1.1.1.1.1.0 d.new.1.1.1.1.1.1.1.1.1.0 c.marched_of.result c.in-Passed.is
-    (answered g d.result c.marched_of.result d.new.1.1.1.1.1.1.0 d.new.1.1.1.1.1.1.1.0
-    d.new.1.1.1.1.1.1.1.1.0 d.new.1.1.1.1.1.1.1.1.1.0 c.marched_of.ensures d.ensures)
+    (rows_of a.fused_keys.now a.fused_distances.now a.fused_weights.now a.fused_count) in
+    passed_first a.verdict g d.new.keys d.new.distances
+    d.new.estimates d.new.cells c.marched_of.result c.in-Passed.is
+    (answered g d.result c.marched_of.result d.new.keys d.new.distances
+    d.new.estimates d.new.cells c.marched_of.ensures d.ensures)
