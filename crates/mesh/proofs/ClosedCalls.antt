@@ -3,11 +3,10 @@
 -- Assumes nothing.
 use Prim.Native.Nat.{ℕ, ◌-◌, ◌<◌, ◌≤◌, zero-le}
 use native.Mathlib.Omega.{arith}
-use mathlib.Core.Path.{◌≡◌, refl, sym, ap, ◌∙◌}
+use mathlib.Core.Path.{◌≡◌, sym, ap, ◌∙◌}
 use mathlib.Core.Logic.{◌⊎◌, inl, inr, ⊎_elim, ◌↔◌}
-use mathlib.Core.Bool.{Bool, true, false, cond, ◌&&◌}
-use mathlib.Core.List.{List, []}
-use lib.Dec.{leb}
+use mathlib.Core.Bool.{true}
+use mathlib.Core.List.{List}
 use lib.Ieee.{Float}
 use lib.ListN.{length, replicate}
 use borrow.Author.Tests.{le-leb}
@@ -125,13 +124,13 @@ module _ (s : Settings) (ks : List ℕ) (ds ws : List Float) (cnt : ℕ) (r : Ro
       pub edges_held : edges_in as' bs i ≡ es
       unfolding padded
       edges_held =
-          rw (lists-padded.0.0, lists-padded.0.1, (known i j answered).1)
+          rw (lists_padded.0.0, lists_padded.0.1, (known i j answered).1)
           (edges_back es (replicate (r.first - length (firsts es)) 0) (replicate (r.second - length (seconds es)) 0))
 
       pub triangles_held : threes_in is js ls j ≡ ts
       unfolding padded
       triangles_held =
-          rw (lists-padded.1.0, lists-padded.1.1.0, lists-padded.1.1.1, (known i j answered).2)
+          rw (lists_padded.1.0, lists_padded.1.1.0, lists_padded.1.1.1, (known i j answered).2)
           (threes_back ts (replicate (r.t0 - length (column0 ts)) 0) (replicate (r.t1 - length (column1 ts)) 0) (replicate (r.t2 - length (column2 ts)) 0))
 
       -- Of the triangles that the lists hold, every side inside a tetrahedron, or on a face that two share, belongs to exactly two.

@@ -8,7 +8,7 @@ use mathlib.Core.Bool.{Bool, true, cond}
 use mathlib.Core.List.{List}
 use lib.Dec.{eqb}
 use lib.Ieee.{Float}
-use lib.ListN.{length, take, replicate, length-map, length-take}
+use lib.ListN.{length, take, replicate, length-map}
 use borrow.Author.Tests.{le-leb}
 use Rattle.lists.specs.Padding.{padded}
 use Rattle.lists.specs.Listing.{room_for, count_of, held_for}
@@ -19,7 +19,7 @@ use Rattle.lists.proofs.Bools.{and_first, and_second, and_eq}
 use Rattle.lists.proofs.PaddingLaws.{padded_length}
 use Rattle.refusals.specs.declared.Refusal.TheVariants.{Lengths}
 use Rattle.search.specs.Keys.{ascending}
-use Rattle.table.specs.Table.{Table, table, beside, rows}
+use Rattle.table.specs.Table.{Table, table, rows}
 use Rattle.table.specs.declared.Checked.{Checked}
 use Rattle.table.proofs.Laying.{columns}
 use Rattle.table.specs.Rows.{keys_of}

@@ -3,9 +3,9 @@
 use Prim.Native.Nat.{ℕ, ◌≤◌, zero-le}
 use native.Mathlib.Nat.{sub-zero}
 use mathlib.Core.Path.{◌≡◌, refl, sym, ap, ◌∙◌}
-use mathlib.Core.Bool.{Bool, true, cond, ◌&&◌}
+use mathlib.Core.Bool.{true}
 use mathlib.Core.List.{List, []}
-use lib.Dec.{eqb, leb}
+use lib.Dec.{leb}
 use lib.ListN.{length}
 use borrow.Author.Tests.{le-leb}
 use Rattle.lists.specs.Padding.{padded}
@@ -16,7 +16,6 @@ use Rattle.lists.specs.declared.Listed.{Listed}
 use Rattle.lists.specs.declared.Listed.TheVariants as listed
 use Rattle.lists.proofs.Bools.{and_second}
 use Rattle.lists.proofs.Writing.{cleared_whole}
-use Rattle.refusals.specs.declared.Refusal.TheVariants.{Lengths}
 use Rattle.table.specs.Table.{Table, rows}
 use Rattle.table.specs.declared.Checked.{Checked}
 use Rattle.edges.specs.Edges.{Edge}
