@@ -7,7 +7,10 @@ use Rattle.corners.specs.Corners.{every, vertices_in, vertex_ok}
 use Rattle.corners.proofs.vertices_ok.Given as goal
 
 abbrev pub invariant-loop-i : goal.invariant-loop-i
-invariant-loop-i l = (l.i ≤ l.vertices) × (every (vertex_ok) (vertices_in l.px l.py l.pz l.vertices) ≡ every (vertex_ok) (drop l.i (vertices_in l.px l.py l.pz l.vertices)))
+invariant-loop-i l =
+    (l.i ≤ l.vertices)
+    × (every (vertex_ok) (vertices_in l.px l.py l.pz l.vertices)
+    ≡ every (vertex_ok) (drop l.i (vertices_in l.px l.py l.pz l.vertices)))
 
 abbrev pub decreases-loop-i : goal.decreases-loop-i
 decreases-loop-i l = l.vertices - l.i

@@ -13,7 +13,8 @@ returns-then-not-is_on_lattice c = rw (no c.is_on_lattice.ensures (ap not c.if-n
 
 pub returns-then-not-reading_ok : goal.returns-then-not-reading_ok
 unfolding admitted admit_if
-returns-then-not-reading_ok c = rw (yes c.is_on_lattice.ensures (ap not c.if-not-is_on_lattice.false), no c.reading_ok.ensures (ap not c.if-not-reading_ok.true))
+returns-then-not-reading_ok c =
+    rw (yes c.is_on_lattice.ensures (ap not c.if-not-is_on_lattice.false), no c.reading_ok.ensures (ap not c.if-not-reading_ok.true))
 
 pub measure-m-requires : goal.measure-m-requires
 measure-m-requires c =

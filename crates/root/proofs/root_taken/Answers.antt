@@ -33,7 +33,10 @@ root_bits-requires c = (pattern_pos c.args.x (held c.args.x c.well_formed.0.1) c
 pub float_from_bits-result : goal.float_from_bits-result
 float_from_bits-result c =
     let f = held c.args.x c.well_formed.0.1 in
-    number _ (nan_bits_is binary32 c.root_bits.result ∙ ap is_nan (result c.args.x c.root_bits.result f c.root_bits.ensures) ∙ root_number c.args.x (le_second zero32 c.args.x c.requires))
+    number _
+    (nan_bits_is binary32 c.root_bits.result
+    ∙ ap is_nan (result c.args.x c.root_bits.result f c.root_bits.ensures)
+    ∙ root_number c.args.x (le_second zero32 c.args.x c.requires))
 
 pub returns-then-b-lt2139095040 : goal.returns-then-b-lt2139095040
 returns-then-b-lt2139095040 c = result c.args.x c.root_bits.result (held c.args.x c.well_formed.0.1) c.root_bits.ensures

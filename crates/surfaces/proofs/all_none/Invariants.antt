@@ -8,7 +8,10 @@ use Rattle.surfaces.specs.Stats.{is_none, normals_in}
 use Rattle.surfaces.proofs.all_none.Given as goal
 
 abbrev pub invariant-loop-i : goal.invariant-loop-i
-invariant-loop-i l = (l.i ≤ l.vertices) × (every (is_none) (normals_in l.nx l.ny l.nz l.vertices) ≡ every (is_none) (drop l.i (normals_in l.nx l.ny l.nz l.vertices)))
+invariant-loop-i l =
+    (l.i ≤ l.vertices)
+    × (every (is_none) (normals_in l.nx l.ny l.nz l.vertices)
+    ≡ every (is_none) (drop l.i (normals_in l.nx l.ny l.nz l.vertices)))
 
 abbrev pub decreases-loop-i : goal.decreases-loop-i
 decreases-loop-i l = l.vertices - l.i

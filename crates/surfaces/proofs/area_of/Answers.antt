@@ -27,10 +27,13 @@ pub bounds-t0-i : goal.bounds-t0-i
 bounds-t0-i c = omega (arith, c.loop-i-test.true, c.requires.lent_2.fits, c.requires.lent_2.second, c.requires.lent_2.third)
 
 pub overflow_cast-t0 : goal.overflow_cast-t0
-overflow_cast-t0 c = omega (arith, (named _ _ _ _ c.requires.lent _ _ _ _ c.requires.lent_2 c.loop-i.i c.loop-i-test.true c.loop-i.invariant.1).0, c.ranges.vertices)
+overflow_cast-t0 c =
+    omega (arith, (named _ _ _ _ c.requires.lent _ _ _ _ c.requires.lent_2 c.loop-i.i c.loop-i-test.true c.loop-i.invariant.1).0, c.ranges.vertices)
 
 pub vertex_at-v0-requires : goal.vertex_at-v0-requires
-vertex_at-v0-requires c = asked _ c.requires.lent (named _ _ _ _ c.requires.lent _ _ _ _ c.requires.lent_2 c.loop-i.i c.loop-i-test.true c.loop-i.invariant.1).0
+vertex_at-v0-requires c =
+    asked _ c.requires.lent
+    (named _ _ _ _ c.requires.lent _ _ _ _ c.requires.lent_2 c.loop-i.i c.loop-i-test.true c.loop-i.invariant.1).0
 
 pub offset_bounds-t1-i : goal.offset_bounds-t1-i
 offset_bounds-t1-i c = omega (arith, c.loop-i-test.true, c.requires.lent_2.fits, c.requires.lent_2.second, c.requires.lent_2.third)
@@ -39,10 +42,13 @@ pub bounds-t1-i : goal.bounds-t1-i
 bounds-t1-i c = omega (arith, c.loop-i-test.true, c.requires.lent_2.fits, c.requires.lent_2.second, c.requires.lent_2.third)
 
 pub overflow_cast-t1 : goal.overflow_cast-t1
-overflow_cast-t1 c = omega (arith, (named _ _ _ _ c.requires.lent _ _ _ _ c.requires.lent_2 c.loop-i.i c.loop-i-test.true c.loop-i.invariant.1).1, c.ranges.vertices)
+overflow_cast-t1 c =
+    omega (arith, (named _ _ _ _ c.requires.lent _ _ _ _ c.requires.lent_2 c.loop-i.i c.loop-i-test.true c.loop-i.invariant.1).1, c.ranges.vertices)
 
 pub vertex_at-v1-requires : goal.vertex_at-v1-requires
-vertex_at-v1-requires c = asked _ c.requires.lent (named _ _ _ _ c.requires.lent _ _ _ _ c.requires.lent_2 c.loop-i.i c.loop-i-test.true c.loop-i.invariant.1).1
+vertex_at-v1-requires c =
+    asked _ c.requires.lent
+    (named _ _ _ _ c.requires.lent _ _ _ _ c.requires.lent_2 c.loop-i.i c.loop-i-test.true c.loop-i.invariant.1).1
 
 pub offset_bounds-t2-i : goal.offset_bounds-t2-i
 offset_bounds-t2-i c = omega (arith, c.loop-i-test.true, c.requires.lent_2.fits, c.requires.lent_2.second, c.requires.lent_2.third)
@@ -51,10 +57,13 @@ pub bounds-t2-i : goal.bounds-t2-i
 bounds-t2-i c = omega (arith, c.loop-i-test.true, c.requires.lent_2.fits, c.requires.lent_2.second, c.requires.lent_2.third)
 
 pub overflow_cast-t2 : goal.overflow_cast-t2
-overflow_cast-t2 c = omega (arith, (named _ _ _ _ c.requires.lent _ _ _ _ c.requires.lent_2 c.loop-i.i c.loop-i-test.true c.loop-i.invariant.1).2, c.ranges.vertices)
+overflow_cast-t2 c =
+    omega (arith, (named _ _ _ _ c.requires.lent _ _ _ _ c.requires.lent_2 c.loop-i.i c.loop-i-test.true c.loop-i.invariant.1).2, c.ranges.vertices)
 
 pub vertex_at-v2-requires : goal.vertex_at-v2-requires
-vertex_at-v2-requires c = asked _ c.requires.lent (named _ _ _ _ c.requires.lent _ _ _ _ c.requires.lent_2 c.loop-i.i c.loop-i-test.true c.loop-i.invariant.1).2
+vertex_at-v2-requires c =
+    asked _ c.requires.lent
+    (named _ _ _ _ c.requires.lent _ _ _ _ c.requires.lent_2 c.loop-i.i c.loop-i-test.true c.loop-i.invariant.1).2
 
 pub overflow_add-i : goal.overflow_add-i
 overflow_add-i c = omega (arith, c.loop-i-test.true, c.ranges.triangles)

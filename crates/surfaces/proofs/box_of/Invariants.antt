@@ -9,7 +9,10 @@ use Rattle.surfaces.proofs.BoxLaws.{corners_from}
 use Rattle.surfaces.proofs.box_of.Given as goal
 
 abbrev pub invariant-loop-i : goal.invariant-loop-i
-invariant-loop-i l = (l.i ≤ l.vertices) × (box_of (vertices_in l.px l.py l.pz l.vertices) ≡ corners_from l.low l.high (drop l.i (vertices_in l.px l.py l.pz l.vertices)))
+invariant-loop-i l =
+    (l.i ≤ l.vertices)
+    × (box_of (vertices_in l.px l.py l.pz l.vertices)
+    ≡ corners_from l.low l.high (drop l.i (vertices_in l.px l.py l.pz l.vertices)))
 
 abbrev pub decreases-loop-i : goal.decreases-loop-i
 decreases-loop-i l = l.vertices - l.i

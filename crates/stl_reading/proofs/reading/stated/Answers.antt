@@ -23,7 +23,8 @@ returns-then-not-file-set_ok c = rw (no (fit c.args.file.now c.args.a c.args.b c
 
 pub returns-then-file-lt84 : goal.returns-then-file-lt84
 unfolding stated_for
-returns-then-file-lt84 c = rw (yes (fit c.args.file.now c.args.a c.args.b c.args.c c.set_ok.ensures) (ap not c.if-not-file-set_ok.false), length_short _ c.if-file-lt84.true)
+returns-then-file-lt84 c =
+    rw (yes (fit c.args.file.now c.args.a c.args.b c.args.c c.set_ok.ensures) (ap not c.if-not-file-set_ok.false), length_short _ c.if-file-lt84.true)
 
 pub returns-then-file-count : goal.returns-then-file-count
 unfolding stated_for
