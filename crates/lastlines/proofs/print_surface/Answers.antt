@@ -6,9 +6,9 @@ use Rattle.lastlines.proofs.print_surface.Goals as goal
 pub print_mesh-requires : goal.print_mesh-requires
 print_mesh-requires c = (
   edges_in_lem _ _ c.extract_mesh_from_tsdf-meshed.ensures.answer,
-  c.extract_mesh_from_tsdf-meshed.kept.1.1.1.1.1.1.1.0,
-  c.extract_mesh_from_tsdf-meshed.kept.1.1.1.1.1.1.1.1.0,
-  c.extract_mesh_from_tsdf-meshed.kept.1.1.1.1.1.1.1.1.1.0,
+  c.extract_mesh_from_tsdf-meshed.auto.px,
+  c.extract_mesh_from_tsdf-meshed.auto.py,
+  c.extract_mesh_from_tsdf-meshed.auto.pz,
 )
 
 pub returns : goal.returns
