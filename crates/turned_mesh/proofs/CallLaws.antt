@@ -1,6 +1,6 @@
 -- From the closed mesh to the turned one: the lists that the closed call leaves are ready to be turned, and turned they are the turned mesh's.
 -- Assumes nothing.
-use Prim.Native.Nat.{ℕ, ◌-◌, ◌<◌, ◌≤◌}
+use Prim.Native.Nat.{ℕ, ◌-◌, ◌≤◌}
 use native.Mathlib.Omega.{arith}
 use mathlib.Core.Path.{◌≡◌, refl, sym, ap, ap₂, ◌∙◌}
 use mathlib.Core.Bool.{Bool, true, false, ◌&&◌}
@@ -14,7 +14,6 @@ use Rattle.lists.specs.Padding.{padded}
 use Rattle.lists.specs.Threes.{Three, column0, column1, column2}
 use Rattle.lists.proofs.Bools.{and_first, and_second}
 use Rattle.lists.proofs.PaddingLaws.{padded_length}
-use Rattle.refusals.specs.declared.Refusal.{Refusal}
 use Rattle.table.specs.Table.{Table, table, rows}
 use Rattle.table.specs.declared.Settings.{Settings}
 use Rattle.table.specs.declared.Checked.TheVariants.{Passed}
