@@ -51,7 +51,8 @@ bounds-weights-i c = (place_in c.args.keys.now c.args.distances.now c.args.weigh
 
 pub returns-then-not-within : goal.returns-then-not-within
 returns-then-not-within c =
-    too_large _ _ _ _ _ _ _ _ (told c.args.key c.args.count.now c.args.keys.now c.requires.keys_value c.find_row.ensures c.in-At.is) _ c.fused_voxel-v.ensures (no c.within.ensures (ap not c.if-not-within.true))
+    too_large _ _ _ _ _ _ _ _
+    (told c.args.key c.args.count.now c.args.keys.now c.requires.keys_value c.find_row.ensures c.in-At.is) _ c.fused_voxel-v.ensures (no c.within.ensures (ap not c.if-not-within.true))
 
 pub offset_bounds-distances-i-2 : goal.offset_bounds-distances-i-2
 offset_bounds-distances-i-2 c =

@@ -20,7 +20,8 @@ loop-i-preserved c =
     let more : l.i < c.args.own = c.loop-i-test.true in (
       omega (arith, more),
       filled_more (λ (t : ℕ). value_at c.args.column.now c.args.absent t) 0 c.args.seats.now l.own_column l.i
-          c.value_f32.result c.value_f32.ensures (omega (arith, more, c.requires.own_in_bounds)) (omega (arith, more, c.requires.own_in_bounds, l.invariant.2)) l.invariant.1,
+          c.value_f32.result c.value_f32.ensures (omega (arith, more, c.requires.own_in_bounds))
+          (omega (arith, more, c.requires.own_in_bounds, l.invariant.2)) l.invariant.1,
       length-set l.own_column l.i c.value_f32.result ∙ l.invariant.2,
     )
 

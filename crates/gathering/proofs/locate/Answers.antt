@@ -15,7 +15,8 @@ loop-i-init c = (
   refl,
   refl,
   λ some. rw c.first_place-place.ensures
-      (first_start (take c.args.count c.args.keys.now) c.args.own_keys.now c.args.own c.requires.own_in_bounds.0 c.requires.own_in_bounds.2 c.requires.count_in_bounds.2 some),
+      (first_start (take c.args.count c.args.keys.now) c.args.own_keys.now c.args.own
+      c.requires.own_in_bounds.0 c.requires.own_in_bounds.2 c.requires.count_in_bounds.2 some),
 )
 
 pub place_past-place-requires : goal.place_past-place-requires

@@ -8,5 +8,6 @@ returns-then-place-count c =
     let some = c.if-place-count.true in
     let place = c.skip_fours-place.result in
     let skipped = c.skip_fours-place.ensures in
-    of_four c.args.key c.args.keys.now c.args.count c.requires.count_in_bounds.0 c.requires.count_in_bounds.1 place _ _ _ skipped.upper_bound.1 (skipped.keys_bound some) some
+    of_four c.args.key c.args.keys.now c.args.count c.requires.count_in_bounds.0 c.requires.count_in_bounds.1
+    place _ _ _ skipped.upper_bound.1 (skipped.keys_bound some) some
     c.one_below.ensures.1 c.one_below-then-place-count.ensures.1 c.one_below-then-place-count-2.ensures.1

@@ -8,7 +8,11 @@ use Rattle.gathering.proofs.Settling.{begins, waits, ended, seat_fits, seat_down
 use Rattle.gathering.proofs.settle.Goals as goal
 
 pub loop-left-init : goal.loop-left-init
-loop-left-init c = (begins 0 c.requires.settles c.requires.within.0, begins nan c.requires.settles_2 c.requires.within.0, begins nan c.requires.settles_3 c.requires.within.0)
+loop-left-init c = (
+  begins 0 c.requires.settles c.requires.within.0,
+  begins nan c.requires.settles_2 c.requires.within.0,
+  begins nan c.requires.settles_3 c.requires.within.0,
+)
 
 pub seat_row-place-requires : goal.seat_row-place-requires
 seat_row-place-requires c =

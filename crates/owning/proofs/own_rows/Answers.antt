@@ -83,5 +83,6 @@ returns c =
           renumbered (copied i (omega arith)).0
           (each_numbered (c.args.to - c.args.from) c.loop-i.sorted c.loop-i.places _ _
           c.sort.ensures (λ j m. (copied j (omega arith)).1) _ _ d.slotted
-          (omega (arith, c.sort.auto.keys, c.sort.auto.places)) (omega (arith, c.sort.auto.keys, c.sort.auto.places)) (omega (arith, c.distinct.auto.slots)) i (omega arith));
+          (omega (arith, c.sort.auto.keys, c.sort.auto.places)) (omega (arith, c.sort.auto.keys, c.sort.auto.places))
+          (omega (arith, c.distinct.auto.slots)) i (omega arith));
     }

@@ -53,4 +53,5 @@ returns c =
     let did = c.settle.ensures in
     (planned s.most s.keys.now s.distances.now s.weights.now s.count c.requires.count_value
     s.own_keys.now s.own_distances.now s.own_weights.now s.own c.requires.own_value
-    c.requires.own_keys_value.0 s.seats.now c.requires.own_keys_value.1 c.requires.own_keys_value.2 _ c.hold_back.ensures).settled _ _ _ s.total did.keys_after did.distances_after did.weights_after c.requires.total_value.0
+    c.requires.own_keys_value.0 s.seats.now c.requires.own_keys_value.1 c.requires.own_keys_value.2 _ c.hold_back.ensures).settled
+    _ _ _ s.total did.keys_after did.distances_after did.weights_after c.requires.total_value.0

@@ -12,8 +12,10 @@ use Rattle.tsdf_surveys.proofs.list_surface.Given as goal
 abbrev pub invariant-loop-i : goal.invariant-loop-i
 invariant-loop-i l = (l.i ≤ l.count)
     × (l.n ≤ l.i)
-    × (length (surface_keys l.threshold (rows_of l.keys l.distances l.weights l.count)) ≡ l.n + length (surface_keys l.threshold (rest l.keys l.distances l.weights l.count l.i)))
-    × (sets l.initial.out 0 (surface_keys l.threshold (rows_of l.keys l.distances l.weights l.count)) ≡ sets l.out l.n (surface_keys l.threshold (rest l.keys l.distances l.weights l.count l.i)))
+    × (length (surface_keys l.threshold (rows_of l.keys l.distances l.weights l.count))
+    ≡ l.n + length (surface_keys l.threshold (rest l.keys l.distances l.weights l.count l.i)))
+    × (sets l.initial.out 0 (surface_keys l.threshold (rows_of l.keys l.distances l.weights l.count))
+    ≡ sets l.out l.n (surface_keys l.threshold (rest l.keys l.distances l.weights l.count l.i)))
     × (length l.out ≡ length l.initial.out)
 
 abbrev pub decreases-loop-i : goal.decreases-loop-i
