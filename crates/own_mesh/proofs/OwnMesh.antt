@@ -189,7 +189,7 @@ module _ (o : Surface) (s : Settings) (ks : List ℕ) (ds ws : List Float) (cnt 
         (omega (arith, place_count, known.2))
 
     vertices_held : vertices_in xs ys zs i ≡ vertices_on o s t
-    vertices_held = vertices-taken.0 ∙ map-id places
+    vertices_held = vertices_taken.0 ∙ map-id places
 
     vertices_pass : every vertex_ok (vertices_in xs ys zs i) ≡ true
     vertices_pass =
@@ -212,7 +212,7 @@ module _ (o : Surface) (s : Settings) (ks : List ℕ) (ds ws : List Float) (cnt 
 
     triangles_pass : every (triangle_ok i) (triangles_in is js ls j) ≡ true
     triangles_pass =
-        ap (every (triangle_ok i)) triangles-taken.0
+        ap (every (triangle_ok i)) triangles_taken.0
         ∙ every_of (triangle_ok i) (λ (x : Three ℕ). triangle x.a x.b x.c) ts
         (λ x l.
         let n = m.named up x l in
@@ -222,7 +222,7 @@ module _ (o : Surface) (s : Settings) (ks : List ℕ) (ds ws : List Float) (cnt 
     -- ---- area, box and STL take them
 
     lengths_pass : set_ok (length xs) (length ys) (length zs) i && set_ok (length is) (length js) (length ls) j ≡ true
-    lengths_pass = and_eq vertices-taken.1 triangles-taken.1
+    lengths_pass = and_eq vertices_taken.1 triangles_taken.1
 
     passes : every vertex_ok (vertices_in xs ys zs i) && every (triangle_ok i) (triangles_in is js ls j) ≡ true
     passes = and_eq vertices_pass triangles_pass
@@ -233,11 +233,11 @@ module _ (o : Surface) (s : Settings) (ks : List ℕ) (ds ws : List Float) (cnt 
 
     box : box_answer xs ys zs i ≡ box_of (vertices_in xs ys zs i)
     unfolding box_answer
-    box = rw (vertices-taken.1, vertices_pass)
+    box = rw (vertices_taken.1, vertices_pass)
 
     written : (room : ℕ) → room ≤ 52428884 → export_answer xs ys zs i is js ls j room ≡ room_for (84 + 50 * j) room
     unfolding export_answer
-    written room h = rw (vertices-taken.1, triangles-taken.1, le-leb room 52428884 h, passes)
+    written room h = rw (vertices_taken.1, triangles_taken.1, le-leb room 52428884 h, passes)
 
 -- ---- of a mesh call
 
