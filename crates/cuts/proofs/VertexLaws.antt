@@ -10,16 +10,14 @@ use lib.Dec.{leb, eqb}
 use lib.ListN.{length, take, length-take}
 use borrow.Author.Tests.{eqb-true, leb-true, le-leb}
 use Rattle.lists.specs.Lists.{Ordered}
-use Rattle.lists.specs.Threes.{Three}
 use Rattle.lists.proofs.Bools.{cases, and_first, and_second}
 use Rattle.search.specs.declared.Found.{Found}
 use Rattle.search.specs.declared.Found.TheVariants.{At, Absent}
-use Rattle.edges.specs.Edges.{Edge, edge}
+use Rattle.edges.specs.Edges.{Edge}
 use Rattle.edges.specs.EdgeList.{pair_of}
-use Rattle.edges.specs.Listing.{firsts}
 use Rattle.groups.specs.Groups.{edge_at}
 use Rattle.groups.specs.CellEdges.{paired, edges_in}
-use Rattle.groups.specs.Near.{scanned, number_from, number_by, pair_number, number_between}
+use Rattle.groups.specs.Near.{pair_number, number_between}
 use Rattle.groups.proofs.NumberLaws.{firsts_taken, number_sound, number_complete, near_number}
 use Rattle.tetrahedra.specs.ClosedTriangles.{same_edge, number_in}
 use Rattle.tetrahedra.proofs.Numbers.{same_edge_lem, edge_same, number_is}

@@ -4,9 +4,9 @@
 use Prim.Native.Nat.{ℕ, ◌<◌}
 use native.Mathlib.Omega.{arith}
 use mathlib.Core.Path.{◌≡◌, refl, sym, ap, ◌∙◌}
-use mathlib.Core.Bool.{Bool, true, false, cond, ◌&&◌, false≢true}
+use mathlib.Core.Bool.{Bool, true, false, cond, false≢true}
 use mathlib.Core.List.Memᴰ
-use mathlib.Core.List.{List, [], ◌∷◌, ◌++◌, map, map-append, append_assoc}
+use mathlib.Core.List.{List, [], ◌∷◌, ◌++◌, map, map-append}
 use lib.Ieee.{unlike}
 use Rattle.lists.specs.Lists.{◌∈◌, kept, joined}
 use Rattle.lists.specs.Threes.{Three, three, with_third, with_two, threes}
@@ -20,7 +20,7 @@ use Rattle.rings.specs.Sides.{weighted}
 use Rattle.tetrahedra.specs.Fours.{Four, before, Corner, c0, c1, c2, c3, at}
 use Rattle.tetrahedra.specs.Tetrahedra.{weighted_keys, tetrahedra}
 use Rattle.tetrahedra.specs.ClosedEdges.{inside_at, closed_edges}
-use Rattle.tetrahedra.specs.ClosedTriangles.{number_in, vertex_of, rising, cut, cut_by, triangles_of, closed_triangles}
+use Rattle.tetrahedra.specs.ClosedTriangles.{vertex_of, cut, cut_by, triangles_of, closed_triangles}
 use Rattle.tetrahedra.specs.Near.{higher, close, starting_at, near_tetrahedra}
 use Rattle.tetrahedra.proofs.Local.{signs, signs_are}
 use Rattle.tetrahedra.proofs.TetrahedronLaws.{tetrahedra_are, rising_in}
@@ -29,7 +29,7 @@ use Rattle.tetrahedra.proofs.NearLaws.{starting_in, near_same}
 use Rattle.cuts.specs.declared.Cut.TheVariants.{Nothing}
 use Rattle.cuts.specs.Cuts.{cut_of}
 use Rattle.cuts.specs.Patches.{patch_by, triangles_of_patch, triangles_by}
-use Rattle.cutting.specs.Corners.{Sided, sided, cut_with, cuts_of, sided_in, cuts_at, cut_row}
+use Rattle.cutting.specs.Corners.{Sided, cut_with, cuts_of, sided_in, cuts_at, cut_row}
 use Rattle.cutting.proofs.GoingLaws.{joined_append}
 
 -- ---- lists joined

@@ -5,20 +5,19 @@ use native.Mathlib.Nat.{le_of_suc-le-suc}
 use native.Mathlib.Numerals.{add-one}
 use native.Mathlib.Omega.{arith}
 use mathlib.Core.Path.{◌≡◌, refl, sym, ap, ◌∙◌}
-use mathlib.Core.Bool.{Bool, true, false, cond}
+use mathlib.Core.Bool.{Bool, false}
 use mathlib.Core.List.{List, [], ◌∷◌, ◌++◌, map, map-append, append_assoc}
 use lib.ListN.{length, get_or, drop, length-append, length-map, drop_of_length-le}
-use lib.Seq.{sets, drop-cons}
+use lib.Seq.{sets}
 use Rattle.lists.specs.Lists.{joined}
-use Rattle.lists.specs.Threes.{Three, three, with_third, with_two, threes, column0, column1, column2}
+use Rattle.lists.specs.Threes.{Three, three, with_third, with_two, threes}
 use Rattle.lists.proofs.Parts.{Written, written_more}
 use Rattle.lists.proofs.Putting.{Putting, begun, ended}
 use Rattle.neighbors.specs.Neighbors.{adjacent}
 use Rattle.edges.specs.Edges.{Edge}
 use Rattle.tetrahedra.specs.Near.{close}
-use Rattle.cuts.specs.declared.Cut.TheVariants.{Nothing}
 use Rattle.cuts.specs.Patches.{patch_by, triangles_of_patch, triangles_by}
-use Rattle.cutting.specs.Corners.{Sided, sided, sided_by, sided_at, cut_with, cuts_of}
+use Rattle.cutting.specs.Corners.{Sided, sided_by, sided_at, cut_with, cuts_of}
 use Rattle.cutting.specs.Steps.{Puts}
 
 -- `whole`, put from `at` on, is what is put now and `rest`, from `end` on

@@ -14,7 +14,7 @@ use Rattle.neighbors.specs.Neighbors.{neighbours, adjacent}
 use Rattle.neighbors.proofs.Adjacency.{neighbours_distinct}
 use Rattle.search.specs.Keys.{ascending}
 use Rattle.table.specs.Table.{Row}
-use Rattle.table.specs.Rows.{keys_of, stored}
+use Rattle.table.specs.Rows.{keys_of}
 use Rattle.rings.specs.Sides.{inside}
 use Rattle.rings.specs.Rings.{any}
 use Rattle.edges.specs.Edges.{Edge, edges}

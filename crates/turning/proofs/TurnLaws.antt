@@ -6,35 +6,32 @@ use native.Mathlib.Omega.{arith}
 use native.Mathlib.Nat.{not-suc-le-zero, le_of_suc-le-suc}
 use mathlib.Core.Path.{◌≡◌, refl, sym, ap, ap₂, ◌∙◌, subst}
 use mathlib.Core.Logic.{⊎_elim}
-use mathlib.Core.Bool.{Bool, true, false, cond}
+use mathlib.Core.Bool.{Bool, true}
 use mathlib.Core.List.Memᴰ
 use mathlib.Core.List.{List, [], ◌∷◌, ◌++◌, map}
-use lib.Dec.{eqb, ltb}
+use lib.Dec.{eqb}
 use lib.Ieee.{Float, nan, lt}
 use lib.ListN.{length, get_or, set, take, drop, length-take, length-drop, length-append, length-map}
 use lib.Seq.{drop-cons, set_at, take-suc, append_snoc, get_or_at, get_or-take, length-take-le, take_all}
-use borrow.Author.Tests.{eq-eqb, le-ltb, lt-ltb, ltb-true}
+use borrow.Author.Tests.{eq-eqb, le-ltb, lt-ltb}
 use Rattle.floats.specs.Floats.{zero32}
 use Rattle.lists.specs.Lists.{◌∈◌, Ordered}
-use Rattle.lists.specs.Threes.{Three, three, column1, column2, rejoined, threes_in}
-use Rattle.lists.proofs.Bools.{and_first, and_second}
+use Rattle.lists.specs.Threes.{Three, three, column1, column2, rejoined}
 use Rattle.lists.proofs.ListLaws.{at_in, in_map}
-use Rattle.search.specs.Keys.{ascending, rises_from, place_of}
+use Rattle.search.specs.Keys.{ascending, place_of}
 use Rattle.search.proofs.KeyLaws.{ascending_keys, ascending_order}
 use Rattle.search.proofs.NearbyLaws.{near_place}
 use Rattle.search.specs.Nearby.{place_near}
 use Rattle.table.specs.Table.{Row, rows_of}
 use Rattle.table.specs.Rows.{keys_of}
 use Rattle.table.proofs.Laying.{columns}
-use Rattle.table.proofs.RowLaws.{row_at_lem}
 use Rattle.edges.specs.Edges.{Edge, edge}
-use Rattle.edges.specs.Steps.{Accepted, row_at}
 use Rattle.edges.proofs.EdgeLaws.{edges_in_lem}
 use Rattle.edges.proofs.ListingLaws.{rows_rise}
 use Rattle.edges.proofs.ZeroCrossingLaws.{lattice}
 use Rattle.neighbors.specs.Neighbors.{neighbours, adjacent}
 use Rattle.groups.specs.Groups.{edge_at}
-use Rattle.groups.specs.CellEdges.{paired, edges_in}
+use Rattle.groups.specs.CellEdges.{paired}
 use Rattle.tetrahedra.specs.ClosedEdges.{inside_at, crosses_in, closed_edges}
 use Rattle.tetrahedra.specs.ClosedTriangles.{closed_triangles}
 use Rattle.tetrahedra.specs.Closing.{names}

@@ -1,37 +1,30 @@
 -- Which way the triangles look, and that turning changes nothing else.
 -- Assumes nothing.
-use Prim.Native.Nat.{ℕ, ◌<◌}
+use Prim.Native.Nat.{ℕ}
 use mathlib.Core.Path.{◌≡◌, refl, sym, ap, ap₂, ◌∙◌, subst}
-use mathlib.Core.Logic.{◌⊎◌, inl, inr, ⊎_elim}
-use mathlib.Core.Bool.{Bool, true, false, not, cond, ◌&&◌, ◌||◌, false≢true}
+use mathlib.Core.Logic.{⊎_elim}
+use mathlib.Core.Bool.{Bool, true, false, not}
 use mathlib.Core.List.Memᴰ
-use mathlib.Core.List.{List, [], ◌∷◌, ◌++◌, map}
-use lib.Dec.{eqb}
+use mathlib.Core.List.{List}
 use lib.Ieee.{unlike}
 use lib.ListN.{length}
-use borrow.Author.Tests.{eq-eqb}
-use Rattle.lists.specs.Lists.{◌∈◌, Ordered, Distinct, kept, joined}
-use Rattle.lists.proofs.Bools.{cases, or_cases}
+use Rattle.lists.specs.Lists.{Ordered, kept}
+use Rattle.lists.proofs.Bools.{cases}
 use Rattle.search.specs.Keys.{ascending}
 use Rattle.table.specs.Table.{Row}
 use Rattle.table.specs.Rows.{keys_of}
 use Rattle.edges.specs.Edges.{Edge}
-use Rattle.edges.specs.EdgeList.{pair_of}
-use Rattle.groups.specs.Groups.{edge_at, one}
+use Rattle.groups.specs.Groups.{one}
 use Rattle.lists.specs.Threes.{Three}
-use Rattle.tetrahedra.specs.Fours.{Four, Corner, at, Rising, corners}
-use Rattle.tetrahedra.specs.Tetrahedra.{tetrahedra}
-use Rattle.tetrahedra.specs.ClosedEdges.{inside_at, closed_edges, Crossed}
-use Rattle.tetrahedra.specs.ClosedTriangles.{number_in, vertex_of, nth, alone, halves, cut, cut_by, triangles_of, closed_triangles}
-use Rattle.tetrahedra.proofs.Corners.{eqc, corner_eq, every_corner, at_corner, if_then, other, apart3, all_test, all_tests}
-use Rattle.tetrahedra.proofs.Local.{same_pair}
-use Rattle.tetrahedra.proofs.Numbers.{same_edge_lem, number_is, number_small}
+use Rattle.tetrahedra.specs.Fours.{Corner, at, Rising}
+use Rattle.tetrahedra.specs.ClosedEdges.{inside_at, closed_edges}
+use Rattle.tetrahedra.specs.ClosedTriangles.{vertex_of}
+use Rattle.tetrahedra.proofs.Corners.{eqc, corner_eq, other, apart3}
 use Rattle.tetrahedra.proofs.TetrahedronLaws.{rising_in, clique_in}
-use Rattle.tetrahedra.proofs.ClosedEdgeLaws.{crossed_in, edges_distinct}
 use Rattle.winding.specs.Winding.{runs_through}
-use Rattle.winding.specs.Facing.{left_handed, Facing, LooksOut}
+use Rattle.winding.specs.Facing.{left_handed, LooksOut}
 use Rattle.winding.specs.Steps.{left_of}
-use Rattle.winding.proofs.Running.{runs_by, odd_order, forward, face_run, back_run}
+use Rattle.winding.proofs.Running.{runs_by, forward, face_run, back_run}
 use Rattle.winding.proofs.Sides.{in_any_order}
 use Rattle.winding.proofs.StandLaws.{one_of_four, vertex_small, vertex_edge}
 use Rattle.winding.proofs.TurningLaws.{turned_here}

@@ -2,10 +2,10 @@
 -- Assumes nothing.
 use Prim.Native.Nat.{ℕ}
 use mathlib.Core.Path.{◌≡◌, refl, sym, ap, ◌∙◌, subst}
-use mathlib.Core.Logic.{◌⊎◌, inl, inr, ⊎_elim}
-use mathlib.Core.Bool.{Bool, true, false, not, cond, ◌&&◌, ◌||◌, false≢true}
+use mathlib.Core.Logic.{⊎_elim}
+use mathlib.Core.Bool.{Bool, true, false, not, cond, ◌&&◌, false≢true}
 use mathlib.Core.List.Memᴰ
-use mathlib.Core.List.{List, [], ◌∷◌, map}
+use mathlib.Core.List.{List, [], ◌∷◌}
 use lib.Dec.{eqb}
 use lib.Ieee.{unlike}
 use lib.ListN.{length}
@@ -16,15 +16,14 @@ use Rattle.search.specs.Keys.{ascending}
 use Rattle.table.specs.Table.{Row}
 use Rattle.table.specs.Rows.{keys_of}
 use Rattle.lists.specs.Threes.{Three, three}
-use Rattle.tetrahedra.specs.Fours.{Four, Corner, c0, c1, c2, c3, corners, at}
-use Rattle.tetrahedra.specs.Tetrahedra.{tetrahedra}
+use Rattle.tetrahedra.specs.Fours.{Corner, c0, c1, c2, c3, corners, at}
 use Rattle.tetrahedra.specs.ClosedEdges.{inside_at, closed_edges}
-use Rattle.tetrahedra.specs.ClosedTriangles.{vertex_of, nth, rising, alone, halves}
+use Rattle.tetrahedra.specs.ClosedTriangles.{vertex_of, nth}
 use Rattle.tetrahedra.proofs.Corners.{place, eqc, every_bool, at_bool, or_first_true, or_second_true, other, free, pick, apart3}
 use Rattle.tetrahedra.proofs.Local.{signs, signs_are}
 use Rattle.tetrahedra.proofs.TetrahedronLaws.{clique_in}
 use Rattle.winding.specs.Winding.{runs_through}
-use Rattle.winding.specs.Facing.{left_handed, Outwards, EveryLooksOut}
+use Rattle.winding.specs.Facing.{left_handed, EveryLooksOut}
 use Rattle.winding.specs.Steps.{odd_signs, turn_alone, turn_halves, turn_cut, turn_by, left_of}
 use Rattle.winding.proofs.Running.{turn_runs, rising_runs, odd_order, forward}
 use Rattle.winding.proofs.Sides.{in_any_order, other_free}

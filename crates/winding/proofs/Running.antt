@@ -4,8 +4,7 @@
 use Prim.Native.Nat.{ℕ, ◌+◌, ◌≤◌}
 use native.Mathlib.Omega.{arith}
 use mathlib.Core.Path.{◌≡◌, refl, sym, ap, ◌∙◌, subst}
-use mathlib.Core.Logic.{◌⊎◌, inl, inr, ⊎_elim}
-use mathlib.Core.Bool.{Bool, true, false, not, cond, ◌&&◌, ◌||◌, false≢true, and_comm}
+use mathlib.Core.Bool.{Bool, true, false, not, cond, ◌&&◌, ◌||◌, and_comm}
 use mathlib.Core.List.{List, [], ◌∷◌, map}
 use lib.Dec.{eqb, leb}
 use lib.Ieee.{unlike}
@@ -13,12 +12,12 @@ use lib.ListN.{length}
 use borrow.Author.Tests.{eqb-true}
 use Rattle.groups.specs.Groups.{one}
 use Rattle.lists.specs.Lists.{kept}
-use Rattle.lists.proofs.Bools.{and_first, and_second, or_cases}
+use Rattle.lists.proofs.Bools.{and_first, and_second}
 use Rattle.lists.specs.Threes.{Three, three}
 use Rattle.tetrahedra.specs.Fours.{Corner, c0, c1, c2, c3, corners}
 use Rattle.tetrahedra.specs.ClosedTriangles.{rising, nth, alone, halves, cut, cut_by}
 use Rattle.tetrahedra.specs.Closing.{names, has_side}
-use Rattle.tetrahedra.proofs.Corners.{place, eqc, every_corner, at_corner, every_bool, at_bool, if_then, pick, free, other, apart3}
+use Rattle.tetrahedra.proofs.Corners.{place, every_corner, at_corner, every_bool, at_bool, if_then, pick, free, other, apart3}
 use Rattle.tetrahedra.proofs.Counting.{length_front}
 use Rattle.tetrahedra.proofs.Local.{Pairs, counts, counts_by, kept_cond, kept_one, kept_two, kept_none, cond_eq, same_pair, meets, signs, signs_are}
 use Rattle.winding.specs.Winding.{turn_if, runs_through}

@@ -16,7 +16,6 @@ use Rattle.lists.specs.Threes.{Three, three, threes, with_two, with_third}
 use Rattle.tetrahedra.specs.Tetrahedra.{tetrahedra}
 use Rattle.tetrahedra.specs.ClosedEdges.{crosses_in}
 use Rattle.tetrahedra.specs.ClosedTriangles.{closed_triangles}
-use Rattle.winding.specs.Spots.{in_front}
 use Rattle.winding.specs.Winding.{turned_triangles}
 
 -- (11, 11, 9), (10, 10, 10), (11, 11, 11) and (12, 10, 10), of head 0, ascending: left-handed

@@ -1,20 +1,19 @@
 -- On which side of a face its tetrahedra lie: two that share it lie on opposite sides, and the handedness of four corners named in any order.
 -- Assumes nothing.
-use Prim.Native.Nat.{ℕ, ◌+◌, ◌*◌, ◌-◌, ◌<◌, ◌≤◌}
+use Prim.Native.Nat.{ℕ, ◌+◌}
 use native.Mathlib.Omega.{arith}
 use mathlib.Core.Path.{◌≡◌, refl, sym, ap, ◌∙◌, subst}
-use mathlib.Core.Logic.{◌⊎◌, inl, inr, ⊎_elim}
-use mathlib.Core.Bool.{Bool, true, false, not, ◌&&◌, ◌||◌, false≢true}
+use mathlib.Core.Logic.{inl, inr, ⊎_elim}
+use mathlib.Core.Bool.{Bool, true, false, not, ◌&&◌, false≢true}
 use lib.Dec.{ltb}
 use lib.Ieee.{unlike}
 use borrow.Author.Tests.{lt-ltb, le-ltb, not-true}
 use Rattle.ids.specs.Key.{head_of, x_of, y_of, z_of}
 use Rattle.ids.proofs.KeyLaws.{same_key}
 use Rattle.lists.proofs.Bools.{and_first, and_second}
-use Rattle.neighbors.specs.Neighbors.{apart, adjacent}
-use Rattle.tetrahedra.specs.Fours.{Four, Corner, c0, c1, c2, c3, at, Rising, holds}
+use Rattle.tetrahedra.specs.Fours.{Four, Corner, c0, c1, c2, c3, at, Rising}
 use Rattle.tetrahedra.specs.Tetrahedra.{axial, diagonal}
-use Rattle.tetrahedra.proofs.Lattice.{Along, Straight, axial_along, Slants, Beside, Turned, level, turned, by_g, by_h, half_way, across, same_at, diagonal_sym, Ringed, settled_y, settled_z, in_x, in_y, in_z, near_x, near_y, near_z, first_ring, second_ring, third_ring, to_first, to_second, to_third, Clique, CliqueOf, Shape, Splits, clique_splits}
+use Rattle.tetrahedra.proofs.Lattice.{Along, Straight, axial_along, Slants, Beside, Turned, level, turned, by_g, by_h, half_way, across, same_at, diagonal_sym, Ringed, settled_y, settled_z, in_x, in_y, in_z, near_x, near_y, near_z, first_ring, second_ring, third_ring, to_first, to_second, to_third, Clique, CliqueOf, Splits, clique_splits}
 use Rattle.tetrahedra.proofs.Corners.{eqc, every_corner, at_corner, if_then, corner_holds, corners_same, other, free, pick, apart3, other_test, other_tests, Fourth, fourth, same_fourth}
 use Rattle.winding.specs.Spots.{cell_spot, triple, plus_terms, in_front}
 use Rattle.winding.specs.Facing.{left_handed}

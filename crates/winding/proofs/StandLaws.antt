@@ -1,11 +1,11 @@
 -- Where the corners of a tetrahedron stand, seen from its triangles: the inside ones on one side, the outside ones on the other.
 -- Assumes nothing.
-use Prim.Native.Nat.{ℕ, ◌+◌, ◌<◌, ◌≤◌}
+use Prim.Native.Nat.{ℕ, ◌<◌, ◌≤◌}
 use native.Mathlib.Omega.{arith}
 use native.Mathlib.Nat.{min-eq_left, max-eq_right}
 use mathlib.Core.Path.{◌≡◌, refl, sym, ap, ap₂, ◌∙◌, subst}
 use mathlib.Core.Logic.{◌⊎◌, inl, inr, ⊎_elim}
-use mathlib.Core.Bool.{Bool, true, false, not, cond, ◌&&◌, ◌||◌, false≢true}
+use mathlib.Core.Bool.{Bool, true, false, not, cond, ◌||◌, false≢true}
 use mathlib.Core.List.{List}
 use lib.Ieee.{unlike}
 use lib.ListN.{length}
@@ -23,7 +23,7 @@ use Rattle.edges.proofs.EdgeLaws.{pair_down}
 use Rattle.groups.specs.Groups.{edge_at}
 use Rattle.tetrahedra.specs.Fours.{Four, Corner, at, Rising}
 use Rattle.tetrahedra.specs.Tetrahedra.{tetrahedra}
-use Rattle.tetrahedra.specs.ClosedEdges.{inside_at, closed_edges, Crossed}
+use Rattle.tetrahedra.specs.ClosedEdges.{inside_at, closed_edges}
 use Rattle.tetrahedra.specs.ClosedTriangles.{number_in, vertex_of}
 use Rattle.tetrahedra.proofs.Corners.{eqc, corner_eq, every_corner, at_corner, if_then, other, apart3, all_test, all_tests}
 use Rattle.tetrahedra.proofs.Lattice.{CliqueOf}
@@ -31,8 +31,8 @@ use Rattle.tetrahedra.proofs.Numbers.{same_edge_lem, number_is, number_small}
 use Rattle.tetrahedra.proofs.TetrahedronLaws.{rising_in, clique_in}
 use Rattle.tetrahedra.proofs.ClosedEdgeLaws.{crossed_in, edges_distinct}
 use Rattle.winding.specs.declared.Spot.{Spot}
-use Rattle.winding.specs.Spots.{both, cell_spot, halfway, plus_terms, in_front}
-use Rattle.winding.specs.Winding.{middle_of, faces, inside_end, looks_in}
+use Rattle.winding.specs.Spots.{both, cell_spot, halfway, in_front}
+use Rattle.winding.specs.Winding.{middle_of, inside_end, looks_in}
 use Rattle.winding.specs.Facing.{left_handed}
 use Rattle.winding.specs.Steps.{left_of}
 use Rattle.winding.proofs.Running.{odd_order}

@@ -22,7 +22,7 @@ use Rattle.tetrahedra.specs.Fours.{Four, Corner, c0, c1, c2, c3, corners, at}
 use Rattle.tetrahedra.specs.Tetrahedra.{tetrahedra}
 use Rattle.tetrahedra.specs.ClosedEdges.{inside_at, closed_edges}
 use Rattle.tetrahedra.specs.ClosedTriangles.{vertex_of, rising, nth, alone, halves, cut, cut_by, triangles_of, closed_triangles}
-use Rattle.tetrahedra.proofs.Corners.{place, eqc, corner_eq, every_bool, at_bool, other, free, pick, apart3}
+use Rattle.tetrahedra.proofs.Corners.{eqc, corner_eq, every_bool, at_bool, other, free, pick, apart3}
 use Rattle.tetrahedra.proofs.Local.{signs, signs_are}
 use Rattle.winding.specs.Winding.{faces, normal_from_to, looks_in, turn_if, outwards, turned_triangles, LooksOutward, OutwardBy, SameButTurned, none, more}
 use Rattle.winding.specs.Facing.{left_handed, turned_of}

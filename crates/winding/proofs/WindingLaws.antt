@@ -1,23 +1,22 @@
 -- One winding: through every side inside a tetrahedron, or on a face that two share, one triangle runs one way and one the other way.
 -- Assumes nothing.
-use Prim.Native.Nat.{ℕ, ◌+◌, ◌<◌, ◌≤◌, min, max}
+use Prim.Native.Nat.{ℕ, ◌+◌, ◌<◌}
 use native.Mathlib.Nat.{min_comm, max_comm}
 use native.Mathlib.Omega.{arith}
-use mathlib.Core.Path.{◌≡◌, refl, sym, ap, ap₂, ◌∙◌, subst, fun_ext}
+use mathlib.Core.Path.{◌≡◌, refl, sym, ap, ap₂, ◌∙◌, fun_ext}
 use mathlib.Core.Logic.{◌⊎◌, inl, inr, ⊎_elim}
-use mathlib.Core.Bool.{Bool, true, false, not, ◌&&◌, ◌||◌, false≢true, and_comm}
+use mathlib.Core.Bool.{Bool, true, false, not, and_comm}
 use mathlib.Core.List.Memᴰ
-use mathlib.Core.List.{List, [], ◌∷◌}
-use lib.Dec.{eqb}
+use mathlib.Core.List.{List}
 use lib.Ieee.{unlike}
 use lib.ListN.{length}
-use Rattle.lists.specs.Lists.{◌∈◌, Ordered, Distinct, All, kept, joined}
+use Rattle.lists.specs.Lists.{◌∈◌, Ordered, All, kept}
 use Rattle.lists.proofs.ListLaws.{map_in, joined_in, in_kept}
 use Rattle.lists.proofs.Bools.{cases, and_first, and_second}
 use Rattle.search.specs.Keys.{ascending}
 use Rattle.table.specs.Table.{Row}
 use Rattle.table.specs.Rows.{keys_of}
-use Rattle.edges.specs.Edges.{Edge, edge}
+use Rattle.edges.specs.Edges.{Edge}
 use Rattle.edges.specs.EdgeList.{pair_of}
 use Rattle.edges.proofs.EdgeLaws.{pair_up}
 use Rattle.edges.proofs.ZeroCrossingLaws.{unlike_comm}
@@ -26,13 +25,13 @@ use Rattle.lists.specs.Threes.{Three}
 use Rattle.tetrahedra.specs.Fours.{Four, Corner, at, Rising, holds}
 use Rattle.tetrahedra.specs.Tetrahedra.{tetrahedra}
 use Rattle.tetrahedra.specs.ClosedEdges.{inside_at, closed_edges}
-use Rattle.tetrahedra.specs.ClosedTriangles.{same_edge, vertex_of, cut_by, triangles_of, closed_triangles}
+use Rattle.tetrahedra.specs.ClosedTriangles.{same_edge, vertex_of, triangles_of, closed_triangles}
 use Rattle.tetrahedra.specs.Closing.{names, has_side, IsSide, ends, Around, Within, Meeting, OnFace, Shared, triangles_with, ClosesBy}
-use Rattle.tetrahedra.proofs.Corners.{eqc, holds_corner, corners_differ, apart3}
+use Rattle.tetrahedra.proofs.Corners.{holds_corner, corners_differ, apart3}
 use Rattle.tetrahedra.proofs.Counting.{sum_of, kept_joined, not_empty, sum_one, sum_two}
-use Rattle.tetrahedra.proofs.Local.{same_pair, meets, counts_by}
+use Rattle.tetrahedra.proofs.Local.{same_pair, meets}
 use Rattle.tetrahedra.proofs.TetrahedronLaws.{tetrahedra_are, rising_in, clique_in}
-use Rattle.tetrahedra.proofs.ClosingLaws.{pair_corners, apart_or_meeting, edge_of, edge_up, edge_crossed, within, sides_of, on_edge_lem, on_edge, Seen, seen_pairs, seen_crossed, side_small, edges_differ, Held, around_test, held_by, none_there, r, su, sv, counts_here, two_here, only_two, only_one, closes}
+use Rattle.tetrahedra.proofs.ClosingLaws.{pair_corners, apart_or_meeting, edge_up, edge_crossed, sides_of, on_edge_lem, on_edge, seen_pairs, seen_crossed, side_small, edges_differ, Held, around_test, held_by, none_there, su, sv, counts_here, two_here, only_two, only_one, closes}
 use Rattle.winding.specs.Winding.{outwards, looks_in, turned_triangles, runs_through, running_with, OneWinding}
 use Rattle.winding.specs.Steps.{left_of, ruled_of}
 use Rattle.winding.proofs.Running.{runs_by, run_cut_by, forward, face_run, inner_run, turn_side, kept_turned, turned_sides, runs_side, fewer}

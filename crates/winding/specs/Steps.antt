@@ -1,5 +1,5 @@
 -- What serves the proofs alone: the same turning by a rule of each tetrahedron's handedness and signs, which no place of a vertex enters.
-use Rattle.std.specs.Prelude.{ℕ, ◌≤◌, Bool, true, false, not, ◌&&◌, List, [], ◌∷◌, map, eqb, leb, length}
+use Rattle.std.specs.Prelude.{ℕ, ◌≤◌, Bool, true, false, not, ◌&&◌, List, [], map, eqb, leb, length}
 use Rattle.std.proofs.Math.Bool.{cond}
 use Rattle.std.specs.Float.Ieee.{unlike}
 use Rattle.lists.specs.Lists.{kept}

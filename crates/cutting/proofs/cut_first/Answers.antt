@@ -1,5 +1,4 @@
 -- `cutting::cut_first` meets its contract: what is left of the cells says what all of them say.
-use Prim.Native.Nat.{◌-◌}
 use native.Mathlib.Omega.{arith}
 use Rattle.cutting.proofs.GoingLaws.{going_begun, first_turn, first_left, going_done}
 use Rattle.cutting.proofs.cut_first.Goals as goal

@@ -1,5 +1,4 @@
 -- `cutting::cut_rows` meets its contract: what is left of the rows says what all of them say.
-use Prim.Native.Nat.{◌-◌}
 use native.Mathlib.Omega.{arith}
 use mathlib.Core.Path.{◌∙◌}
 use Rattle.search.proofs.NearbyLaws.{near_place}

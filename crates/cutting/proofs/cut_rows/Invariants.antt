@@ -1,7 +1,6 @@
 -- `cutting::cut_rows` meets its contract: what is left of the rows says what all of them say.
 -- Assumes nothing.
 use Prim.Native.Nat.{◌*◌, ◌-◌, ◌≤◌}
-use native.Mathlib.Omega.{arith}
 use Rattle.table.specs.Table.{rows_of}
 use Rattle.cutting.proofs.GoingLaws.{Going}
 use Rattle.cutting.proofs.OwnLaws.{rows_from}

@@ -1,5 +1,4 @@
 -- `cutting::cut_second` meets its contract: what is left of the cells says what all of them say.
-use Prim.Native.Nat.{◌-◌}
 use native.Mathlib.Omega.{arith}
 use mathlib.Core.Path.{sym, ◌∙◌}
 use Rattle.cutting.proofs.GoingLaws.{going_begun, second_turn, second_skip, second_left, going_same, going_done}
@@ -33,14 +32,14 @@ loop-j-preserved c =
     let told = c.requires.1.told a.i c.loop-j.j c.requires.2 c.loop-j.invariant.0 h in
     let w = c.loop-j.invariant.3 in
     elim c.if-meets-i.branch [
-      then-meets-i p ↦ (
+      | then-meets-i p ↦ (
         omega (arith, c.loop-j.invariant.0),
         omega (arith, h),
         omega (arith, p.end-is, p.cut_third-end.ensures.upper_bound, c.loop-j.invariant.2),
         rw (p.t0-is, p.t1-is, p.t2-is, p.end-is)
             (second_turn _ _ a.cells.now a.inside.now c.requires.0.equal _ _ _ _ _ _ _ _ _ _ _ _ _ a.i _ h w p.cut_third-end.ensures.puts),
       )
-    | else-meets-i p ↦ (
+      | else-meets-i p ↦ (
         omega (arith, c.loop-j.invariant.0),
         omega (arith, h),
         omega (arith, p.end-is, c.loop-j.invariant.2),

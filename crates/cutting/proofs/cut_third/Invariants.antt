@@ -1,7 +1,6 @@
 -- `cutting::cut_third` meets its contract: what is left of the cells says what all of them say.
 -- Assumes nothing.
 use Prim.Native.Nat.{◌+◌, ◌*◌, ◌-◌, ◌<◌, ◌≤◌}
-use native.Mathlib.Omega.{arith}
 use lib.ListN.{length}
 use Rattle.groups.specs.CellEdges.{edges_in}
 use Rattle.cutting.specs.Corners.{sided}

@@ -1,7 +1,6 @@
 -- `cutting::mark_meets` meets its contract: those that were passed are told.
 -- Assumes nothing.
 use Prim.Native.Nat.{◌-◌, ◌≤◌, ◌<◌}
-use native.Mathlib.Omega.{arith}
 use mathlib.Core.Path.{◌≡◌}
 use lib.ListN.{length}
 use Rattle.cutting.proofs.MeetLaws.{Telling}

@@ -1,5 +1,4 @@
 -- `cutting::meets_of` meets its contract: of the cells that were passed it is told.
-use Prim.Native.Nat.{◌-◌}
 use native.Mathlib.Omega.{arith}
 use mathlib.Core.Path.{refl}
 use mathlib.Core.Bool.{false}

@@ -1,7 +1,6 @@
 -- `cutting::meets_of` meets its contract: of the cells that were passed it is told.
 -- Assumes nothing.
 use Prim.Native.Nat.{◌-◌, ◌≤◌}
-use native.Mathlib.Omega.{arith}
 use mathlib.Core.Path.{◌≡◌}
 use lib.ListN.{length}
 use Rattle.cutting.specs.Steps.{MeetsUpTo}

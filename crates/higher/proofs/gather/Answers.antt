@@ -2,11 +2,10 @@
 use Prim.Native.Nat.{◌<◌, ◌-◌}
 use native.Mathlib.Omega.{arith}
 use mathlib.Core.Path.{◌≡◌, sym, ap}
-use lib.ListN.{length, take, length-take}
+use lib.ListN.{take, length-take}
 use lib.Seq.{get_or-take, length-take-le}
 use Rattle.groups.proofs.Neighbourhoods.{gather_begun, gather_roomy, gather_turn}
 use Rattle.higher.specs.Places.{found_above}
-use borrow.Author.Rules.{rules}
 use Rattle.higher.proofs.gather.Goals as goal
 
 pub loop-i-init : goal.loop-i-init

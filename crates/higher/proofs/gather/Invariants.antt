@@ -1,7 +1,6 @@
 -- `higher::gather` meets its contract: the places gathered are those of the cells passed, from the last one down.
 -- Assumes nothing.
-use Prim.Native.Nat.{◌≤◌, ◌-◌}
-use native.Mathlib.Omega.{arith}
+use Prim.Native.Nat.{◌≤◌}
 use mathlib.Core.Path.{◌≡◌}
 use lib.ListN.{take, drop}
 use Rattle.handful.specs.Handfuls.{held}

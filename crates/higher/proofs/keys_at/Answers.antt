@@ -1,12 +1,11 @@
 -- `higher::keys_at` meets its contract: what was written is the column at the places passed.
-use Prim.Native.Nat.{◌<◌, ◌-◌}
+use Prim.Native.Nat.{◌<◌}
 use native.Mathlib.Omega.{arith}
 use mathlib.Core.Path.{◌≡◌, refl}
-use lib.ListN.{length, get_or}
+use lib.ListN.{length}
 use Rattle.lists.specs.Padding.{padded}
 use Rattle.higher.specs.Places.{key_at}
 use Rattle.higher.proofs.ColumnLaws.{column_turn, one_below}
-use borrow.Author.Rules.{rules}
 use Rattle.higher.proofs.keys_at.Goals as goal
 
 pub loop-i-init : goal.loop-i-init

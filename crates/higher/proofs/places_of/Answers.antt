@@ -18,7 +18,6 @@ use Rattle.groups.specs.Near.{gathered}
 use Rattle.higher.specs.Places.{found_above, places_in}
 use Rattle.higher.specs.Steps.{AtRow}
 use Rattle.higher.proofs.PlaceLaws.{fit, within}
-use borrow.Author.Rules.{rules}
 use Rattle.higher.proofs.places_of.Goals as goal
 
 -- what the code tests is what the definition tests

@@ -13,7 +13,6 @@ use Rattle.search.specs.declared.Found.TheVariants.{At}
 use Rattle.higher.specs.Steps.{AtRow}
 use Rattle.groups.proofs.FoundLaws.{with_one_lem, with_none}
 use Rattle.higher.proofs.PlaceLaws.{found_known, not_larger, not_found, too_light, weighed}
-use borrow.Author.Rules.{rules}
 use Rattle.higher.proofs.with_higher.Goals as goal
 
 -- the place that was found has a weight

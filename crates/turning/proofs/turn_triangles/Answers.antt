@@ -1,5 +1,4 @@
 -- `turning::turn_triangles` meets its contract: as many triangles as were passed are turned.
-use Prim.Native.Nat.{◌-◌}
 use native.Mathlib.Omega.{arith}
 use mathlib.Core.Path.{refl, ◌∙◌}
 use Rattle.turning.proofs.TurnLaws.{a_first, near_below, side_there, a_below, done1, done2, at_hand, next1, next2}
@@ -8,9 +7,6 @@ use Rattle.turning.proofs.turn_triangles.Goals as goal
 
 pub loop-i-init : goal.loop-i-init
 loop-i-init c = (omega arith, (refl, refl))
-
-pub overflow_cast-a : goal.overflow_cast-a
-overflow_cast-a c = omega (arith, c.shared_slice_known-in-loop-i-1.given c.loop-i.i)
 
 pub offset_bounds-first-a : goal.offset_bounds-first-a
 offset_bounds-first-a c =

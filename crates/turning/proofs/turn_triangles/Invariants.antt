@@ -1,7 +1,6 @@
 -- `turning::turn_triangles` meets its contract: as many triangles as were passed are turned.
 -- Assumes nothing.
 use Prim.Native.Nat.{◌-◌, ◌≤◌}
-use native.Mathlib.Omega.{arith}
 use mathlib.Core.Path.{◌≡◌}
 use Rattle.lists.specs.Threes.{column1, column2}
 use Rattle.table.specs.Table.{rows_of}
