@@ -13,7 +13,7 @@ use Rattle.ids.specs.Morton.{respaced, morton}
 use Rattle.lists.specs.Padding.{padded}
 use Rattle.lists.specs.Lists.{joined, kept, insert, place}
 use Rattle.search.specs.Keys.{rises_from, ascending, next, find}
-use Rattle.table.specs.Table.{beside, rows_ok, need, check_with, table_check, put, relaid}
+use Rattle.table.specs.Table.{rows_ok, need, check_with, put, relaid}
 use Rattle.fusing.specs.Fusing.{new_weight, fused_voxel, voxel_at, has_place, step_at, stored, fused_near, fused_if, fuse_if, effect_of, fuse}
 use Rattle.measuring.specs.Readings.{admit_if, admitted}
 use Rattle.edges.specs.Edges.{edges_to, edges}

@@ -1,5 +1,4 @@
 -- `lastlines::vertex_lines` meets its contract. The loop's invariant: the vertices passed are written.
-use Prim.Native.Nat.{◌-◌}
 use native.Mathlib.Nat.{le_antisymm}
 use native.Mathlib.Omega.{arith}
 use Rattle.lastlines.proofs.LineLaws.{lines_none, lines_more, lines_all}

@@ -1,7 +1,6 @@
 -- `lastlines::vertex_lines` meets its contract. The loop's invariant: the vertices passed are written.
 -- Assumes nothing.
 use Prim.Native.Nat.{◌-◌, ◌≤◌}
-use native.Mathlib.Omega.{arith}
 use mathlib.Core.Path.{◌≡◌}
 use lib.Seq.{sets}
 use Rattle.lastlines.specs.Lastcheck.{vertex_lines}
