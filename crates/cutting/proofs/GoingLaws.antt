@@ -147,7 +147,10 @@ module _ (es : List Edge) (own : Sided) (hs : List ℕ) (ss : List Bool) (even :
   none_with p q e [] = refl
   none_with p q e (r ∷ l) = rw e (none_with p q e l)
 
-  pub second_skip : (i j : ℕ) → j < length hs → adjacent (get_or hs i 0) (get_or hs j 0) ≡ false → second_from es own hs ss i j ≡ second_from es own hs ss i (j + 1)
+  pub second_skip : (i j : ℕ)
+      → j < length hs
+      → adjacent (get_or hs i 0) (get_or hs j 0) ≡ false
+      → second_from es own hs ss i j ≡ second_from es own hs ss i (j + 1)
   second_skip i j h e =
       second_next i j h
       ∙ ap (λ (r : List (Three ℕ)). r ++ second_from es own hs ss i (j + 1)) (none_with (corner i) (corner j) e (drop (j + 1) ps))

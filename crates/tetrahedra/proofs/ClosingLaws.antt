@@ -245,7 +245,8 @@ module _ (rows : List Row) (up : ascending (keys_of rows) ≡ true) where
     unfolding around_test
     none_there t e =
         let left : (holds (edge_of u).first t ≡ false) ⊎ (holds (edge_of u).second t ≡ false) → sides_of u v t ≡ 0 =
-        λ h. sides_are u v lu lv t ∙ ap (λ (b : Corner → Corner → Bool). counts_by b (on_edge_lem v t) (within t)) (away u t h) ∙ none_left (on_edge_lem v t) (within t) in
+        λ h. sides_are u v lu lv t ∙ ap (λ (b : Corner → Corner → Bool). counts_by b (on_edge_lem v t) (within t)) (away u t h) ∙ none_left (on_edge_lem v t)
+        (within t) in
         let right : (holds (edge_of v).first t ≡ false) ⊎ (holds (edge_of v).second t ≡ false) → sides_of u v t ≡ 0 =
         λ h. sides_are u v lu lv t ∙ ap (λ (b : Corner → Corner → Bool). counts_by (on_edge_lem u t) b (within t)) (away v t h) ∙ none_right (on_edge_lem u t)
         (within t) in

@@ -97,7 +97,8 @@ module _ (vertex : Corner → Corner → ℕ) (u v : ℕ) where
   abbrev pub pairs_at : ℕ → Corner → Corner → Bool
   pairs_at w i j = eqb (vertex i j) w
 
-  side_alone : (p : Corner) (cs : List Corner) → length (kept (has_side u v) (alone vertex p cs)) ≡ one (hit_alone (pairs_at u) p cs && hit_alone (pairs_at v) p cs)
+  side_alone : (p : Corner) (cs : List Corner)
+      → length (kept (has_side u v) (alone vertex p cs)) ≡ one (hit_alone (pairs_at u) p cs && hit_alone (pairs_at v) p cs)
   unfolding has_side
   side_alone p cs =
       kept_one (has_side u v) (rising (vertex p (nth cs 0)) (vertex p (nth cs 1)) (vertex p (nth cs 2)))

@@ -90,7 +90,8 @@ module _ (rows : List Row) (up : ascending (keys_of rows) ≡ true) where
   -- of two stored rows that are adjacent, the test that the definition of the vertices uses
   pub crosses_scan_lem : (r s : Row) → r ∈ rows → s ∈ rows → adjacent r.key s.key ≡ true → crosses_in rows r s ≡ crosses_scan rows r s
   unfolding crosses_in crosses_scan opposed inside weighted
-  crosses_scan_lem r s ir is a = ap (λ (b : Bool). unlike (inside r) (inside s) && b) (both_ways _ _ to from) ∙ sym (and_assoc (unlike (inside r) (inside s)) _ _)
+  crosses_scan_lem r s ir is a =
+      ap (λ (b : Bool). unlike (inside r) (inside s) && b) (both_ways _ _ to from) ∙ sym (and_assoc (unlike (inside r) (inside s)) _ _)
     where
       to : joint (tetrahedra rows) r.key s.key ≡ true → ((weighted r && weighted s) && joint_scan rows r.key s.key) ≡ true
       to e =

@@ -60,7 +60,8 @@ good_law left b0 b1 b2 b3 =
     (at_bool (λ b2. every_bool (λ b3. good_by left (signs b0 b1 b2 b3)))
     (at_bool (λ b1. every_bool (λ b2. every_bool (λ b3. good_by left (signs b0 b1 b2 b3))))
     (at_bool (λ b0. every_bool (λ b1. every_bool (λ b2. every_bool (λ b3. good_by left (signs b0 b1 b2 b3)))))
-    (at_bool (λ left. every_bool (λ b0. every_bool (λ b1. every_bool (λ b2. every_bool (λ b3. good_by left (signs b0 b1 b2 b3)))))) good_tests left) b0) b1) b2) b3
+    (at_bool
+    (λ left. every_bool (λ b0. every_bool (λ b1. every_bool (λ b2. every_bool (λ b3. good_by left (signs b0 b1 b2 b3)))))) good_tests left) b0) b1) b2) b3
 
 all_good : (left : Bool) (w : Corner → Bool) → good_by left w ≡ true
 all_good left w = subst (λ (x : Corner → Bool). good_by left x ≡ true) (signs_are w) (good_law left (w c0) (w c1) (w c2) (w c3))

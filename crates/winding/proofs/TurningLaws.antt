@@ -267,7 +267,10 @@ module _ (rows : List Row) (up : ascending (keys_of rows) ≡ true) (t : Four) (
   inside_behind g true s c o = ap (λ (x : Three ℕ). faces es x (at t c)) (turned_twice g) ∙ straight g true s c ∙ rw o
   inside_behind g false s c o = ap (λ (x : Three ℕ). faces es (turn_if true x) (at t c)) (not_turned g) ∙ swapped g false s c ∙ rw o
 
-  normal_out : (f : Three ℕ) (c d : Corner) → faces es (turn_if true f) (at t c) ≡ true → faces es f (at t d) ≡ true → normal_from_to es f (at t c) (at t d) ≡ true
+  normal_out : (f : Three ℕ) (c d : Corner)
+      → faces es (turn_if true f) (at t c) ≡ true
+      → faces es f (at t d) ≡ true
+      → normal_from_to es f (at t c) (at t d) ≡ true
   unfolding turn_if
   normal_out f c d behind before = points_across _ _ _ _ _ behind before
 

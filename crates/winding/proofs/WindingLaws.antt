@@ -65,7 +65,11 @@ module _ (rows : List Row) (up : ascending (keys_of rows) ≡ true) where
   abbrev pub inner : Four → Corner → Bool
   inner t c = inside_at rows (at t c)
 
-  pub runs_are : (u v : ℕ) → u < length es → v < length es → (t : Four) → runs_of u v t ≡ runs_by (left_of t) (on_edge_lem rows up u t) (on_edge_lem rows up v t) (inner t)
+  pub runs_are : (u v : ℕ)
+      → u < length es
+      → v < length es
+      → (t : Four)
+      → runs_of u v t ≡ runs_by (left_of t) (on_edge_lem rows up u t) (on_edge_lem rows up v t) (inner t)
   runs_are u v lu lv t =
       run_cut_by (vertex_of es t) u v (left_of t) (inner t)
       ∙ ap₂ (λ (b c : Corner → Corner → Bool). runs_by (left_of t) b c (inner t)) (on_edge rows up u lu t) (on_edge rows up v lv t)

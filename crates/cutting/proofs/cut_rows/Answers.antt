@@ -1,4 +1,5 @@
 -- `cutting::cut_rows` meets its contract: what is left of the rows says what all of them say.
+-- Assumes nothing.
 use native.Mathlib.Omega.{arith}
 use mathlib.Core.Path.{◌∙◌}
 use Rattle.search.proofs.NearbyLaws.{near_place}

@@ -1,4 +1,5 @@
 -- `cutting::cut_second` meets its contract: what is left of the cells says what all of them say.
+-- Assumes nothing.
 use native.Mathlib.Omega.{arith}
 use mathlib.Core.Path.{sym, ◌∙◌}
 use Rattle.cutting.proofs.GoingLaws.{going_begun, second_turn, second_skip, second_left, going_same, going_done}

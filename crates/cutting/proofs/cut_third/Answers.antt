@@ -1,4 +1,5 @@
 -- `cutting::cut_third` meets its contract: what is left of the cells says what all of them say.
+-- Assumes nothing.
 use native.Mathlib.Omega.{arith}
 use Rattle.cutting.proofs.GoingLaws.{going_begun, third_turn, third_left, going_done}
 use Rattle.cutting.proofs.cut_third.Goals as goal

@@ -1,4 +1,5 @@
 -- `cutting::mark_meets` meets its contract: those that were passed are told.
+-- Assumes nothing.
 use Prim.Native.Nat.{◌+◌, ◌*◌}
 use native.Mathlib.Omega.{arith}
 use mathlib.Core.Path.{refl, ◌∙◌}

@@ -1,4 +1,5 @@
 -- `cutting::meets_of` meets its contract: of the cells that were passed it is told.
+-- Assumes nothing.
 use native.Mathlib.Omega.{arith}
 use mathlib.Core.Path.{refl}
 use mathlib.Core.Bool.{false}

@@ -1,4 +1,5 @@
 -- `higher::gather` meets its contract: the places gathered are those of the cells passed, from the last one down.
+-- Assumes nothing.
 use Prim.Native.Nat.{◌<◌, ◌-◌}
 use native.Mathlib.Omega.{arith}
 use mathlib.Core.Path.{◌≡◌, sym, ap}

@@ -1,4 +1,5 @@
 -- `higher::keys_at` meets its contract: what was written is the column at the places passed.
+-- Assumes nothing.
 use Prim.Native.Nat.{◌<◌}
 use native.Mathlib.Omega.{arith}
 use mathlib.Core.Path.{◌≡◌, refl}

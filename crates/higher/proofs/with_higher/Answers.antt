@@ -48,10 +48,12 @@ overflow_cast-place c =
 
 pub returns-then-weights-place : goal.returns-then-weights-place
 returns-then-weights-place c =
+    let h = weighs _ _ _ c.args.row _ _ c.requires.0 c.find_above.ensures c.in-At.is in
     c.with.ensures ∙ with_one_lem c.args.places _ _ c.requires.1
-    (weighed _ _ _ _ _ c.if-cell-keys.false _ c.find_above.ensures _ c.in-At.is (weighs _ _ _ c.args.row _ _ c.requires.0 c.find_above.ensures c.in-At.is) c.if-weights-place.true)
+    (weighed _ _ _ _ _ c.if-cell-keys.false _ c.find_above.ensures _ c.in-At.is h c.if-weights-place.true)
 
 pub returns-else-weights-place : goal.returns-else-weights-place
 returns-else-weights-place c =
+    let h = weighs _ _ _ c.args.row _ _ c.requires.0 c.find_above.ensures c.in-At.is in
     with_none c.args.places _ c.requires.1
-    (too_light _ _ _ _ _ c.if-cell-keys.false _ c.find_above.ensures _ c.in-At.is (weighs _ _ _ c.args.row _ _ c.requires.0 c.find_above.ensures c.in-At.is) c.if-weights-place.false)
+    (too_light _ _ _ _ _ c.if-cell-keys.false _ c.find_above.ensures _ c.in-At.is h c.if-weights-place.false)

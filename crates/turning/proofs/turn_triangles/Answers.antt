@@ -1,4 +1,5 @@
 -- `turning::turn_triangles` meets its contract: as many triangles as were passed are turned.
+-- Assumes nothing.
 use native.Mathlib.Omega.{arith}
 use mathlib.Core.Path.{refl, ◌∙◌}
 use Rattle.turning.proofs.TurnLaws.{a_first, near_below, side_there, a_below, done1, done2, at_hand, next1, next2}
