@@ -10,20 +10,20 @@ returns-then-not-run c =
     let a = c.args in
     byte_none a.run a.byte a.line.now
     (table a.keys.now a.distances.now a.weights.now a.count.now) c.requires _ _
-    (not-true a.run.going (ap not c.if-not-run.true)) c.silent.ensures
+    (not-true a.run.going c.if-not-run.true) c.silent.ensures
 
 pub returns-then-byte-eq10 : goal.returns-then-byte-eq10
 returns-then-byte-eq10 c =
     let a = c.args in
     byte_newline a.run a.byte a.line.now
     (table a.keys.now a.distances.now a.weights.now a.count.now) c.requires
-    (not-false a.run.going (ap not c.if-not-run.false)) _ _ _ _ c.if-byte-eq10.true c.end_line.ensures
+    (not-false a.run.going c.if-not-run.false) _ _ _ _ c.if-byte-eq10.true c.end_line.ensures
 
 pub returns-else-byte-eq10 : goal.returns-else-byte-eq10
 returns-else-byte-eq10 c =
     let a = c.args in
     byte_kept a.run a.byte a.line.now
     (table a.keys.now a.distances.now a.weights.now a.count.now) c.requires
-    (not-false a.run.going (ap not c.if-not-run.false)) _ _ _
+    (not-false a.run.going c.if-not-run.false) _ _ _
     c.if-byte-eq10.false (c.keep.ensures.t_after _)
     c.keep.ensures.kept_in_bounds.0 c.keep.ensures.kept_in_bounds.1
