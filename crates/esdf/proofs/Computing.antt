@@ -1,6 +1,6 @@
 -- The public call: the tests say what the march may build on, and its answer says what the lists hold. Assumes nothing.
 use mathlib.Core.Path.{◌≡◌, refl, sym, ap, subst, ◌∙◌}
-use mathlib.Core.Bool.{Bool, true, false, ◌&&◌}
+use mathlib.Core.Bool.{Bool, true, ◌&&◌}
 use mathlib.Core.List.{List, [], ◌∷◌}
 use Prim.Native.Nat.{ℕ, zero, suc, ◌-◌, ◌<◌, ◌≤◌}
 use native.Mathlib.Nat.{not-suc-le-zero, le_of_suc-le-suc}
@@ -18,7 +18,7 @@ use Rattle.lists.proofs.PaddingLaws.{padded_length}
 use Rattle.refusals.specs.declared.Refusal.{Refusal}
 use Rattle.refusals.specs.declared.Refusal.TheVariants.{BadReading}
 use Rattle.search.specs.Keys.{ascending}
-use Rattle.table.specs.Table.{Row, Table, table, rows_of, rows, settings_ok, lengths_ok, row_ok, rows_ok, farthest_ok, need, check_with}
+use Rattle.table.specs.Table.{Row, Table, table, rows_of, rows, settings_ok, lengths_ok, row_ok, rows_ok, need, check_with}
 use Rattle.table.specs.declared.Settings.{Settings}
 use Rattle.table.specs.declared.Checked.{Checked}
 use Rattle.table.specs.declared.Checked.TheVariants as checked
@@ -30,13 +30,11 @@ use Rattle.fronts.specs.Fronts.{Fair, rooms_of}
 use Rattle.racing.specs.Racing.{Tabled}
 use Rattle.racing.proofs.Marching.{same_rooms}
 use Rattle.racing.proofs.Finishing.{cleared}
-use Rattle.hearing.specs.Hearing.{Lent}
 use Rattle.ids.specs.Key.{on_lattice}
 use Rattle.floats.proofs.Order.{within_finite, between_finite}
 use Rattle.table.specs.Rows.{keys_of as table_keys}
 use Rattle.table.proofs.Laying.{columns, distances_of as table_distances, weights_of as table_weights}
 use Rattle.table.proofs.SettingsLaws.{settings_known, farthest_known}
-use Rattle.marching.specs.declared.Course.{Course}
 use Rattle.esdf.specs.declared.Marched.{Marched}
 use Rattle.esdf.specs.declared.Marched.TheVariants as marched
 use Rattle.esdf.specs.Steps.{Finished, MayMarch, tidied}

@@ -12,7 +12,7 @@ use lib.Ieee.{Float}
 use Rattle.lists.specs.Padding.{padded}
 use Rattle.lists.proofs.PaddingLaws.{padded_at}
 use Rattle.search.specs.Keys.{member}
-use Rattle.marching.specs.March.{State, Field, Going, on, and_then, wait, wait_all}
+use Rattle.marching.specs.March.{State, Field, Going, and_then, wait, wait_all}
 use Rattle.marching.specs.Spreading.{Told}
 use Rattle.marching.proofs.KeysOnce.{Once}
 use Rattle.marching.proofs.Sound.{after_on}

@@ -1,24 +1,24 @@
 -- Marks are no more than the cells that have one. Assumes nothing.
-use mathlib.Core.Path.{◌≡◌, refl, sym, ap, subst, ◌∙◌}
+use mathlib.Core.Path.{◌≡◌, refl, sym, ap, ◌∙◌}
 use mathlib.Core.Bool.{Bool, true, false, cond, not}
 use mathlib.Core.List.Memᴰ
 use mathlib.Core.List.{List, [], ◌∷◌, ◌++◌}
 use mathlib.Core.Logic.{⊎_elim}
-use mathlib.Core.Option.{Option, none, some}
+use mathlib.Core.Option.{none}
 use Prim.Native.Nat.{ℕ, zero, suc, ◌+◌, ◌<◌, ◌≤◌, zero-le, suc-le-suc}
 use native.Mathlib.Nat.{suc-ne-zero}
 use native.Mathlib.Omega.{arith}
 use borrow.Author.Tests.{eqb-true, eqb-false, ne_eqb}
 use lib.Dec.{eqb}
 use lib.ListN.{length, get_or, length-append, length-map}
-use lib.Ieee.{Float, nan}
+use lib.Ieee.{Float}
 use Rattle.lists.specs.Lists.{◌∈◌, Distinct, Ordered, kept}
 use Rattle.lists.proofs.Bools.{cases}
-use Rattle.lists.proofs.ListLaws.{kept_in, front_ordered, no_more}
+use Rattle.lists.proofs.ListLaws.{kept_in, no_more}
 use Rattle.marks.specs.Marks.{label, look, occupied}
 use Rattle.marks.proofs.Keeping.{kept_once, kept_found, value_at_lem}
 use Rattle.search.specs.Keys.{member}
-use Rattle.marching.specs.March.{MarchedRow, keys_of, distance_of, is_stored}
+use Rattle.marching.specs.March.{MarchedRow, keys_of, is_stored}
 use Rattle.marching.proofs.Spreading.{member_in, no_distance}
 use Rattle.hearing.specs.Hearing.{or_waits, Marked}
 

@@ -2,13 +2,12 @@
 use mathlib.Core.Path.{◌≡◌, refl, sym, ◌∙◌}
 use mathlib.Core.Bool.{Bool, true, false, ◌||◌, or-true}
 use mathlib.Core.List.{List}
-use mathlib.Core.Option.{Option, none, some}
+use mathlib.Core.Option.{some}
 use Prim.Native.Nat.{ℕ, ◌<◌}
-use native.Mathlib.Omega.{arith}
-use lib.ListN.{length, get_or, take}
+use lib.ListN.{get_or, take}
 use lib.Seq.{get_or-take, length-take-le}
 use lib.Ieee.{Float, nan, le}
-use Rattle.search.specs.Keys.{find, find_by}
+use Rattle.search.specs.Keys.{find_by}
 use Rattle.search.specs.declared.Found.TheVariants.{At, Absent}
 use Rattle.search.proofs.KeyLaws.{find_by-find, found}
 use Rattle.table.specs.Table.{row, rows_of}

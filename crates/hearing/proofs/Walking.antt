@@ -1,10 +1,9 @@
 -- The loops over a cell's neighbours: what is left to do says what the whole does. Assumes nothing.
-use mathlib.Core.Path.{◌≡◌, refl, sym, ap, ◌∙◌}
+use mathlib.Core.Path.{◌≡◌, sym, ap, ◌∙◌}
 use mathlib.Core.Bool.{Bool, true, false, not, ◌&&◌, ◌||◌, true≢false}
-use mathlib.Core.List.{List, [], ◌∷◌}
+use mathlib.Core.List.{List}
 use Prim.Native.Nat.{ℕ, suc, ◌+◌, ◌<◌, ◌≤◌}
 use native.Mathlib.Numerals.{add-one}
-use native.Mathlib.Omega.{arith}
 use lib.Dec.{eqb}
 use lib.ListN.{length, drop, get_or, drop_of_length-le}
 use lib.Seq.{drop-cons}
@@ -58,7 +57,8 @@ module _ (ns list : List ℕ) (listed : list ≡ padded 0 14 ns) where
     other_one : (i : ℕ)
         → i < length ns
         → other_spread seed f k rs (drop i ns)
-        ≡ (not (eqb (get_or list i 0) k) && has_spread seed f (get_or list i 0) (distance_of (get_or list i 0) rs)) || other_spread seed f k rs (drop (i + 1) ns)
+        ≡ (not (eqb (get_or list i 0) k) && has_spread seed f (get_or list i 0) (distance_of (get_or list i 0) rs))
+        || other_spread seed f k rs (drop (i + 1) ns)
     unfolding other_spread
     other_one i l = rw (drop-cons ns i 0 l, listed_at i l, add-one i)
 
@@ -84,5 +84,13 @@ pub near_lattice : (k : ℕ) → on_lattice k ≡ true → (list : List ℕ) →
 near_lattice k own list listed i l =
     rw (listed_at (neighbours k) list listed i l) (neighbour_on_lattice k (get_or (neighbours k) i 0) own (at_in (neighbours k) 0 i l))
 
-pub real_near : (k : ℕ) → on_lattice k ≡ true → (list : List ℕ) → list ≡ padded 0 14 (neighbours k) → (i : ℕ) → i < length (neighbours k) → get_or list i 0 ≡ 1 → ⊥
+pub real_near :
+    (k : ℕ)
+    → on_lattice k ≡ true
+    → (list : List ℕ)
+    → list ≡ padded 0 14 (neighbours k)
+    → (i : ℕ)
+    → i < length (neighbours k)
+    → get_or list i 0 ≡ 1
+    → ⊥
 real_near k own list listed i l = real_key (get_or list i 0) (near_lattice k own list listed i l)

@@ -136,7 +136,11 @@ module _ (t : MarchedTable) where
       three true false c h = h
       three false b c h = h
 
-  pub passes_after : (v : Checked) (k : ℕ) (rest : Checked) → v ≡ key_check t k → v ≡ checked.Passed → rest ≡ marched_then t (need (on_lattice k) OffLattice rest)
+  pub passes_after :
+      (v : Checked) (k : ℕ) (rest : Checked)
+      → v ≡ key_check t k
+      → v ≡ checked.Passed
+      → rest ≡ marched_then t (need (on_lattice k) OffLattice rest)
   unfolding marched_then need
   passes_after v k rest e f = sym (three lengths (marched_ok t) (on_lattice k) (sym e ∙ f))
     where

@@ -20,7 +20,6 @@ use Rattle.lists.specs.Lists.{◌∈◌, All}
 use Rattle.lists.specs.Padding.{padded}
 use Rattle.lists.proofs.Bools.{cases, and_first, and_second}
 use Rattle.lists.proofs.PaddingLaws.{padded_length, padded_front}
-use Rattle.refusals.specs.declared.Refusal.TheVariants.{Lengths, BadRow}
 use Rattle.table.specs.Table.{Row, Table, rows, row_ok, rows_ok, need, table_check}
 use Rattle.table.specs.declared.Settings.{Settings}
 use Rattle.table.specs.declared.Checked.TheVariants.{Passed}

@@ -1,5 +1,5 @@
 -- How full the lists get: what a step adds to rows and waiting cells, and when a march is sure to end for want of a row's place. Assumes nothing.
-use mathlib.Core.Path.{◌≡◌, refl, sym, ap, subst, ◌∙◌}
+use mathlib.Core.Path.{◌≡◌, refl, ap, ◌∙◌}
 use mathlib.Core.Bool.{Bool, true, false, cond, ◌||◌}
 use mathlib.Core.List.{List, [], ◌∷◌}
 use Prim.Native.Nat.{ℕ, zero, suc, ◌+◌, ◌*◌, ◌-◌, ◌<◌, ◌≤◌}
@@ -10,11 +10,10 @@ use lib.ListN.{length}
 use lib.Ieee.{Float, le}
 use Rattle.lists.proofs.Bools.{cases, and_first, and_second}
 use Rattle.lists.proofs.Inserting.{insert_length}
-use Rattle.refusals.specs.declared.Refusal.{Refusal}
 use Rattle.refusals.specs.declared.Refusal.TheVariants.{NoPlace}
-use Rattle.marching.specs.March.{MarchedRow, marched_row, Cell, cell, State, state, Field, Rooms, Going, on, refused, and_then, cell_before, is_stored, waits, store, wait, wait_all, sow, settled, onward, spread, settle, visit, taking, take, take_up_to}
+use Rattle.marching.specs.March.{MarchedRow, marched_row, Cell, cell, State, state, Field, Rooms, Going, on, refused, and_then, cell_before, is_stored, waits, store, wait, wait_all, sow, settled, onward, spread, settle, visit, taking, take_up_to}
 use Rattle.marching.specs.Crowding.{surely_full}
-use Rattle.marching.proofs.Sound.{After, after_then, after_cond, after_weaken, after_on, Sound, takings_few, Ended, take_up_to-ends}
+use Rattle.marching.proofs.Sound.{After, after_then, after_cond, after_weaken, Sound, takings_few, Ended, take_up_to-ends}
 
 -- ---- what a step adds
 

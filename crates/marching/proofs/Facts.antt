@@ -1,13 +1,12 @@
 -- What a march over an accepted table gives, in one place: each promise by its own theorem, from what the tests say of the rows. Assumes nothing.
-use mathlib.Core.Path.{◌≡◌, refl, sym, ◌∙◌}
+use mathlib.Core.Path.{◌≡◌, sym, ◌∙◌}
 use mathlib.Core.Logic.{◌⊎◌}
-use mathlib.Core.Bool.{Bool, true, cond, not, ◌&&◌}
+use mathlib.Core.Bool.{Bool, true, cond}
 use mathlib.Core.List.{List, [], ◌∷◌}
 use Prim.Native.Nat.{ℕ}
-use lib.Dec.{ltb, eqb, lit≤}
-use lib.ListN.{length}
-use lib.Ieee.{Float, lt, le, of_bits, to_bits, binary32}
-use Rattle.floats.specs.Floats.{zero32, thousand, million, within, between, positive_to}
+use lib.Dec.{ltb, lit≤}
+use lib.Ieee.{Float, lt, le, of_bits}
+use Rattle.floats.specs.Floats.{zero32, thousand, million, within, positive_to}
 use Rattle.floats.proofs.Order.{within_size}
 use Rattle.floats.proofs.Sizes.{Small}
 use Rattle.ids.specs.Key.{on_lattice}
@@ -15,9 +14,8 @@ use Rattle.lists.specs.Lists.{◌∈◌, All}
 use Rattle.lists.proofs.Bools.{cases, and_first, and_second}
 use Rattle.neighbors.specs.Neighbors.{neighbours}
 use Rattle.neighbors.proofs.Adjacency.{adjacent_sym, neighbour_adjacent, adjacent_neighbour}
-use Rattle.refusals.specs.declared.Refusal.TheVariants.{Setting, Lengths, BadRow}
 use Rattle.search.specs.Keys.{ascending}
-use Rattle.table.specs.Table.{Row, Table, rows, row_ok, rows_ok, settings_ok, lengths_ok, table_ok, table_check}
+use Rattle.table.specs.Table.{Row, Table, rows, row_ok, rows_ok, table_check}
 use Rattle.table.specs.declared.Settings.{Settings}
 use Rattle.table.specs.declared.Checked.TheVariants as checked
 use Rattle.table.specs.Rows.{keys_of as table_keys}
@@ -105,7 +103,10 @@ module _ (st : Settings) (t : Table) (m : Rooms) (threshold : Float) (s : State)
   abbrev most : Float
   most = st.max_distance.0
 
-  pub marches : table_check st t ≡ checked.Passed → march_from size most m threshold (rows t) ≡ on s → Marches (lattice size most) m (seeds threshold (rows t)) s
+  pub marches :
+      table_check st t ≡ checked.Passed
+      → march_from size most m threshold (rows t) ≡ on s
+      → Marches (lattice size most) m (seeds threshold (rows t)) s
   marches c e =
       let a = accepted st t c in
       let g = march_from size most m threshold (rows t) in

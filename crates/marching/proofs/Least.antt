@@ -1,11 +1,10 @@
 -- The waiting cells stand in order, so the first is the least: estimates are numbers without a sign. Assumes nothing.
-use mathlib.Core.Path.{◌≡◌, refl, sym, ap, subst, ◌∙◌}
+use mathlib.Core.Path.{◌≡◌, refl, subst}
 use mathlib.Core.Bool.{Bool, true, false, cond, not, ◌&&◌, ◌||◌, true≢false, false≢true}
 use mathlib.Core.List.{List, [], ◌∷◌}
 use Prim.Native.Nat.{ℕ, zero, suc, ◌+◌, ◌*◌, ◌^◌, ◌<◌, ◌≤◌}
-use native.Mathlib.Nat.{mul_comm, mul_right_comm}
 use native.Mathlib.Omega.{arith}
-use borrow.Author.Tests.{ltb-true, ltb-false, lt-ltb, le-ltb, eqb-true, eqb-false, eq-eqb, ne_eqb}
+use borrow.Author.Tests.{ltb-true, ltb-false, le-ltb, eqb-true, eq-eqb}
 use lib.Dec.{ltb, eqb}
 use lib.IntN.{ℤ, negsuc}
 use lib.ListN.{length}
@@ -15,7 +14,7 @@ use lib.Ieee.Positive.{through}
 use Rattle.lists.specs.Lists.{All, insert}
 use Rattle.floats.specs.Floats.{size_of}
 use Rattle.table.specs.Table.{Row}
-use Rattle.marching.specs.March.{MarchedRow, marched_row, Cell, cell, State, state, Field, Rooms, Going, on, and_then, is_stored, store, cell_before, waits, wait, wait_all, is_seed, seeds, sow, sow_all, diagonal, settled, onward, spread, settle, visit, taking, take_up_to, nothing}
+use Rattle.marching.specs.March.{MarchedRow, marched_row, Cell, cell, State, Field, Rooms, on, and_then, is_stored, store, cell_before, waits, wait, wait_all, is_seed, seeds, sow, sow_all, diagonal, settled, onward, spread, settle, visit, taking, take_up_to, nothing}
 use Rattle.lists.proofs.Bools.{cases, and_first, or_first, or_second}
 use Rattle.lists.proofs.Inserting.{insert_all}
 use Rattle.marching.proofs.Sound.{After, after_then, after_cond}

@@ -1,12 +1,11 @@
 -- What holds of the seeds and of every settled cell holds of every marched row: no step changes a row. Assumes nothing.
-use mathlib.Core.Path.{◌≡◌, refl, subst}
-use mathlib.Core.Bool.{Bool, true, false, cond, ◌||◌}
+use mathlib.Core.Bool.{◌||◌}
 use mathlib.Core.List.{List, [], ◌∷◌}
 use Prim.Native.Nat.{ℕ, zero, suc}
 use lib.Dec.{ltb}
 use lib.ListN.{length}
 use lib.Ieee.{Float, le}
-use Rattle.marching.specs.March.{MarchedRow, marched_row, Cell, cell, State, state, Field, Rooms, on, row_before, is_stored, store, cell_before, waits, wait, wait_all, sow, sow_all, settled, onward, spread, settle, visit, taking, take_up_to, nothing, march}
+use Rattle.marching.specs.March.{MarchedRow, marched_row, Cell, cell, State, Field, Rooms, on, row_before, is_stored, store, cell_before, waits, wait, wait_all, sow, sow_all, settled, onward, spread, settle, visit, taking, take_up_to, nothing, march}
 use Rattle.lists.specs.Lists.{All}
 use Rattle.lists.proofs.Inserting.{insert_all}
 use Rattle.marching.proofs.Sound.{After, after_then, after_cond, after_weaken}

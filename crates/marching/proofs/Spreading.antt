@@ -1,9 +1,9 @@
 -- The key fact: of the cells that are not stored, exactly those wait that have a stored neighbour that has spread. Assumes nothing.
-use mathlib.Core.Path.{◌≡◌, refl, sym, ap, subst, ◌∙◌}
-use mathlib.Core.Logic.{◌⊎◌, inl, inr, ⊎_elim}
+use mathlib.Core.Path.{◌≡◌, refl, sym, ap, ◌∙◌}
+use mathlib.Core.Logic.{◌⊎◌, ⊎_elim}
 use mathlib.Core.Bool.{Bool, true, false, cond, not, ◌&&◌, ◌||◌, or-true, true≢false, false≢true}
 use mathlib.Core.List.Memᴰ
-use mathlib.Core.List.{List, [], ◌∷◌, ◌++◌, map, append-nil}
+use mathlib.Core.List.{List, [], ◌∷◌, ◌++◌, append-nil}
 use mathlib.Core.Option.{Option, none, some}
 use Prim.Native.Nat.{ℕ, zero, suc}
 use native.Mathlib.Omega.{arith}
@@ -12,12 +12,10 @@ use lib.Dec.{ltb, eqb}
 use lib.ListN.{length}
 use lib.Ieee.{Float, le}
 use Rattle.lists.specs.Lists.{◌∈◌, insert}
-use Rattle.lists.proofs.Bools.{cases, and_first, and_second, or_first, or_second, or_cases, both_ways}
-use Rattle.search.specs.Keys.{member, rises_from, ascending}
-use Rattle.table.specs.Table.{Row}
-use Rattle.table.specs.Rows.{keys_of as table_keys}
-use Rattle.marching.specs.March.{MarchedRow, marched_row, Cell, cell, State, state, Field, Rooms, Going, on, refused, and_then, row_before, keys_of, distance_of, is_stored, store, cell_before, cells_of, waits, wait, wait_all, is_seed, seeds, sow, sow_all, settled, onward, spread, settle, visit, taking, take_up_to, nothing, march}
-use Rattle.marching.specs.Spreading.{seed_in, has_spread, any_spread, other_spread, Reached, WaitsExactly}
+use Rattle.lists.proofs.Bools.{cases, or_first, or_second, or_cases, both_ways}
+use Rattle.search.specs.Keys.{member, ascending}
+use Rattle.marching.specs.March.{MarchedRow, marched_row, Cell, cell, State, state, Field, Rooms, Going, on, refused, and_then, row_before, keys_of, distance_of, is_stored, store, cell_before, waits, wait, wait_all, sow, sow_all, settled, onward, spread, settle, visit, taking, take_up_to, nothing}
+use Rattle.marching.specs.Spreading.{has_spread, any_spread, other_spread, Reached, WaitsExactly}
 use Rattle.marching.proofs.KeysOnce.{Once, insert_member, ascending_once}
 use Rattle.marching.proofs.Sound.{After, after_then, after_cond, after_weaken}
 

@@ -7,7 +7,7 @@ use Prim.Native.Nat.{ℕ}
 use borrow.Author.Tests.{eqb-true, eqb-false, eq-eqb, ne_eqb}
 use lib.Dec.{eqb}
 use lib.Ieee.{Float}
-use Rattle.lists.specs.Lists.{◌∈◌, Ordered, Distinct, insert}
+use Rattle.lists.specs.Lists.{Ordered, Distinct, insert}
 use Rattle.lists.proofs.Bools.{cases, or_first, or_second}
 use Rattle.neighbors.specs.Neighbors.{neighbours}
 use Rattle.neighbors.proofs.Adjacency.{neighbours_distinct}

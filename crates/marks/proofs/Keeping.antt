@@ -13,7 +13,7 @@ use lib.Ieee.{Float, nan}
 use Rattle.lists.proofs.Bools.{cases}
 use Rattle.marks.specs.declared.Spot.{Spot}
 use Rattle.marks.specs.declared.Spot.TheVariants.{At, Absent}
-use Rattle.marks.specs.Marks.{label, Kept, halt, spot_at, standing, spot_of, value_at, look, occupied}
+use Rattle.marks.specs.Marks.{label, Kept, halt, spot_at, standing, spot_of, value_at, look}
 use Rattle.marks.proofs.Seeking.{halted_once}
 
 -- ---- labels

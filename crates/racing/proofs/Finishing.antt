@@ -2,10 +2,10 @@
 use mathlib.Core.Path.{◌≡◌, refl, sym, ap, subst, ◌∙◌}
 use mathlib.Core.Bool.{Bool, true, false, or-true}
 use mathlib.Core.List.Memᴰ
-use mathlib.Core.List.{List, [], ◌∷◌, map}
-use mathlib.Core.Logic.{◌⊎◌, ⊎_elim}
+use mathlib.Core.List.{List, [], ◌∷◌}
+use mathlib.Core.Logic.{⊎_elim}
 use mathlib.Core.Option.{Option, none, some}
-use Prim.Native.Nat.{ℕ, zero, suc, ◌-◌, ◌<◌, ◌≤◌}
+use Prim.Native.Nat.{ℕ, suc, ◌-◌, ◌<◌, ◌≤◌}
 use native.Mathlib.Omega.{arith}
 use borrow.Author.Tests.{eq-eqb, ne_eqb}
 use lib.Dec.{eqb}
@@ -28,7 +28,7 @@ use Rattle.table.specs.Rows.{keys_of as table_keys}
 use Rattle.marching.specs.March.{MarchedRow, Cell, State, Rooms, Going, on, and_then, keys_of, distances_of, cells_of, distance_of, seeds, sow_all, take_up_to, nothing}
 use Rattle.marching.specs.March as march
 use Rattle.marching.specs.declared.Course.{Course}
-use Rattle.marching.specs.Lattice.{lattice, lattice_of, march_from}
+use Rattle.marching.specs.Lattice.{lattice_of, march_from}
 use Rattle.marching.proofs.Lattice.{seeds_ascend, lattice_keeps}
 use Rattle.marching.proofs.Sound.{after_on}
 use Rattle.neighbors.specs.Neighbors.{neighbours}
@@ -45,7 +45,7 @@ use Rattle.racing.specs.Racing.{unlabelled, MayStep, Goes, Blank, Sown, Emptied,
 use Rattle.fronts.proofs.Marking.{stored_here}
 use Rattle.fronts.proofs.Walking.{stopped_then}
 use Rattle.racing.proofs.Marching.{no_cells, same_rooms}
-use Rattle.racing.proofs.Labelling.{relabel, labelled, labels_ascend, distances_same, distance_labelled, labelled_from, keys_back}
+use Rattle.racing.proofs.Labelling.{labelled, labels_ascend, distances_same, distance_labelled, labelled_from, keys_back}
 
 -- ---- blank lists
 
@@ -256,7 +256,9 @@ module _ (c : Course) (t : Float) (rs : List Row) (ks₀ cs₀ : List ℕ) (r : 
           → o ≡ raced.Done i j
           → (ks'' ks''' : List ℕ) (ds'' : List Float)
           → length ks''' ≡ length ks'
-          → ((rs : List MarchedRow) → Scattered rs ks' ds' → (ks'' ≡ padded 0 (length ks') (keys_of rs)) × (ds'' ≡ padded zero32 (length ks') (distances_of rs)))
+          → ((rs : List MarchedRow)
+          → Scattered rs ks' ds'
+          → (ks'' ≡ padded 0 (length ks') (keys_of rs)) × (ds'' ≡ padded zero32 (length ks') (distances_of rs)))
           → ks''' ≡ unlabelled ks''
           → Finished (march_from c.size c.most (rooms_of ks₀ cs₀) t rs) (raced.Done i j) ks''' ds'' es' cs'
       unfolding Emptied Finished

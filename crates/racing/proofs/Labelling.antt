@@ -1,22 +1,22 @@
 -- Rows by the labels of their keys: in the same order, and only key 0 has another label. Assumes nothing.
-use mathlib.Core.Path.{◌≡◌, refl, sym, ap, ◌∙◌}
-use mathlib.Core.Bool.{Bool, true, false, cond, ◌&&◌}
+use mathlib.Core.Path.{◌≡◌, refl, sym, ap}
+use mathlib.Core.Bool.{Bool, true, cond}
 use mathlib.Core.List.Memᴰ
 use mathlib.Core.List.{List, [], ◌∷◌, ◌++◌, map}
-use mathlib.Core.Logic.{◌⊎◌, ⊎_elim}
-use mathlib.Core.Option.{Option, some}
+use mathlib.Core.Logic.{⊎_elim}
+use mathlib.Core.Option.{some}
 use Prim.Native.Nat.{ℕ, zero, suc, ◌-◌, ◌<◌}
 use native.Mathlib.Omega.{arith}
 use borrow.Author.Tests.{ltb-true, lt-ltb, eqb-true, eqb-false, eq-eqb, ne_eqb}
 use lib.Dec.{ltb, eqb}
-use lib.ListN.{length, replicate, length-map}
+use lib.ListN.{length, replicate}
 use lib.Ieee.{Float}
 use Rattle.ids.specs.Key.{on_lattice}
 use Rattle.lists.specs.Lists.{◌∈◌, All}
 use Rattle.lists.specs.Padding.{padded}
 use Rattle.lists.proofs.Bools.{cases, and_first, and_second, and_eq}
 use Rattle.marks.specs.Marks.{label}
-use Rattle.marks.proofs.Keeping.{label_real, label_own}
+use Rattle.marks.proofs.Keeping.{label_own}
 use Rattle.search.specs.Keys.{rises_from, ascending}
 use Rattle.marching.specs.March.{MarchedRow, marched_row, keys_of, distances_of, distance_of}
 use Rattle.hearing.proofs.Fitting.{key_for}

@@ -1,35 +1,33 @@
 -- Marks of waiting cells are taken out one after the other, until none is left. Assumes nothing.
 use mathlib.Core.Path.{◌≡◌, refl, sym, ap, subst, ◌∙◌}
-use mathlib.Core.Bool.{Bool, true, false, cond, not, ◌&&◌, ◌||◌, or-true, true≢false}
-use mathlib.Core.List.{List, [], ◌∷◌, map}
-use mathlib.Core.Option.{Option, none, some}
-use Prim.Native.Nat.{ℕ, zero, suc, ◌+◌, ◌/◌, ◌-◌, ◌<◌, ◌≤◌, zero-le, suc-le-suc}
+use mathlib.Core.Bool.{Bool, true, false, cond, not, ◌&&◌, ◌||◌, true≢false}
+use mathlib.Core.List.{List, [], ◌∷◌}
+use Prim.Native.Nat.{ℕ, suc, ◌+◌, ◌/◌, ◌-◌, ◌<◌, ◌≤◌, zero-le, suc-le-suc}
 use native.Mathlib.Numerals.{add-one}
 use native.Mathlib.Omega.{arith}
 use borrow.Author.Tests.{eqb-true, eqb-false, eq-eqb, ne_eqb, leb-true, leb-false, le-leb, lt-leb}
 use lib.Dec.{eqb, leb}
-use lib.ListN.{length, take, drop, get_or, length-map, length-take, drop_of_length-le}
+use lib.ListN.{length, take, drop, get_or, length-map, drop_of_length-le}
 use lib.Seq.{drop-cons, get_or-take, length-take-le}
 use lib.Ieee.{Float, nan}
 use Rattle.floats.specs.Floats.{is_finite}
 use Rattle.heap.specs.Heap.{cell_at, Heaped}
 use Rattle.heap.proofs.Tallies.{tally_some, some_tally, count_some, some_count}
-use Rattle.ids.specs.Key.{on_lattice}
 use Rattle.lists.specs.Lists.{◌∈◌, kept}
 use Rattle.lists.proofs.Bools.{cases}
 use Rattle.lists.proofs.ListLaws.{in_map, map_in, at_in}
 use Rattle.marks.specs.declared.Spot.TheVariants.{At, Absent}
-use Rattle.marks.specs.Marks.{label, spot_of, look, Kept, Gone, Leaves}
+use Rattle.marks.specs.Marks.{label, spot_of, look, Kept, Leaves}
 use Rattle.marks.proofs.Keeping.{label_own, value_at_lem, value_absent}
 use Rattle.search.specs.Keys.{member}
-use Rattle.marching.specs.March.{MarchedRow, Cell, State, cells_of, distance_of}
+use Rattle.marching.specs.March.{MarchedRow, Cell, cells_of, distance_of}
 use Rattle.marching.proofs.Spreading.{member_in, in_member}
-use Rattle.hearing.specs.Hearing.{or_waits, mark_of, said, Marked}
+use Rattle.hearing.specs.Hearing.{or_waits, Marked}
 use Rattle.hearing.proofs.Fitting.{in_at, marks_fit}
 use Rattle.hearing.proofs.Saying.{known_at, unmarked, said_some, said_none}
 use Rattle.hearing.proofs.Walking.{real_key}
-use Rattle.fronts.specs.Fronts.{marking, Front, Held}
-use Rattle.thinning.specs.Thinning.{all_but, Thins, has_room, kind_of, Spare, Lightens}
+use Rattle.fronts.specs.Fronts.{marking, Held}
+use Rattle.thinning.specs.Thinning.{all_but, Thins, has_room, kind_of, Lightens}
 
 -- ---- the cells but for one
 

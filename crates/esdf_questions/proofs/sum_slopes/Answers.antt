@@ -1,5 +1,4 @@
 -- `esdf_questions::sum_slopes` meets its contract: the neighbours that are left say what all say.
-use Prim.Native.Nat.{◌-◌}
 use mathlib.Core.Path.{refl, sym, ◌∙◌}
 use native.Mathlib.Omega.{arith}
 use lib.Ieee.{of_bits}

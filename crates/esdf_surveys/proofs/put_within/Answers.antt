@@ -1,5 +1,4 @@
 -- `esdf_surveys::put_within` meets its contract: what is left to put says what the whole puts.
-use Prim.Native.Nat.{◌-◌}
 use mathlib.Core.Path.{refl, ◌∙◌}
 use Rattle.marched.specs.Marched.{marched_rows_of}
 use Rattle.marched.proofs.MarchedLaws.{pair_at, pair_end}

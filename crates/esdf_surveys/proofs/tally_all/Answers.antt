@@ -1,5 +1,4 @@
 -- `esdf_surveys::tally_all` meets its contract: the rows that are left say what all say.
-use Prim.Native.Nat.{◌-◌}
 use mathlib.Core.Path.{refl, sym, ◌∙◌}
 use lib.Ieee.{of_bits, neg}
 use Rattle.marched.specs.Marched.{marched_rows_of}

@@ -1,5 +1,4 @@
 -- `fronts::wait_around` meets its contract: what is left to do says what the whole does.
-use Prim.Native.Nat.{◌-◌}
 use mathlib.Core.Path.{refl, sym, ◌∙◌}
 use native.Mathlib.Omega.{arith}
 use lib.ListN.{length}

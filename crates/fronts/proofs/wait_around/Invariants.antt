@@ -2,7 +2,6 @@
 -- Assumes nothing.
 use Prim.Native.Nat.{◌≤◌, ◌-◌}
 use mathlib.Core.Path.{◌≡◌}
-use native.Mathlib.Omega.{arith}
 use lib.ListN.{length}
 use Rattle.lists.specs.Padding.{padded}
 use Rattle.neighbors.specs.Neighbors.{neighbours}
@@ -21,7 +20,8 @@ invariant-loop-i l = (l.list ≡ padded 0 14 (neighbours l.key))
     × (length l.distances ≡ length l.initial.distances)
     × (length l.estimates ≡ length l.initial.estimates)
     × (length l.cells ≡ length l.initial.cells)
-    × Rest l.lean (seed_in l.threshold (rows_of l.fused_keys l.fused_distances l.fused_weights l.fused_count)) (lattice_of l.course) l.key l.estimate (neighbours l.key)
+    × Rest l.lean (seed_in l.threshold (rows_of l.fused_keys l.fused_distances l.fused_weights l.fused_count))
+    (lattice_of l.course) l.key l.estimate (neighbours l.key)
     l.initial.keys l.initial.distances l.waiting l.initial.estimates l.initial.cells l.i l.keys l.distances l.held l.estimates l.cells
 
 abbrev pub decreases-loop-i : goal.decreases-loop-i

@@ -10,7 +10,8 @@ other_spread-requires c = (c.requires.lent.0, (c.requires.lent.1.0, c.requires.k
 pub returns-then-other_spread : goal.returns-then-other_spread
 returns-then-other_spread c =
     λ st h told room.
-    lean_already _ _ _ _ _ c.requires.keys_value.1.0 st _ _ _ _ _ h told _ c.requires.keys_value.0 _ (c.other_spread.ensures _ _ h.marked) c.if-other_spread.true
+    lean_already _ _ _ _ _ c.requires.keys_value.1.0 st _ _ _ _ _ h told _ c.requires.keys_value.0 _ (c.other_spread.ensures _ _ h.marked)
+    c.if-other_spread.true
 
 pub returns-then-cells-waiting : goal.returns-then-cells-waiting
 returns-then-cells-waiting c =
@@ -24,5 +25,6 @@ push-requires c = (omega (arith, c.if-cells-waiting.false, c.requires.lent.1.1),
 pub returns : goal.returns
 returns c =
     λ st h told room.
-    lean_placed _ _ _ _ _ c.requires.keys_value.1.0 st _ _ _ _ _ h told _ c.requires.keys_value.0 _ (c.other_spread.ensures _ _ h.marked) c.if-other_spread.false
+    lean_placed _ _ _ _ _ c.requires.keys_value.1.0 st _ _ _ _ _ h told _ c.requires.keys_value.0 _ (c.other_spread.ensures _ _ h.marked)
+    c.if-other_spread.false
     c.if-cells-waiting.false c.requires.keys_value.1.1 _ _ c.push.ensures

@@ -1,5 +1,4 @@
 -- `hearing::other_spread` meets its contract: what is left to ask says what the whole does.
-use Prim.Native.Nat.{◌-◌}
 use mathlib.Core.Path.{refl, sym, ◌∙◌}
 use native.Mathlib.Omega.{arith}
 use Rattle.neighbors.specs.Neighbors.{neighbours}
@@ -14,7 +13,9 @@ loop-i-init c =
     (f.0, f.1, f.2, search rules, λ rs ws h. refl)
 
 pub spread_at-requires : goal.spread_at-requires
-spread_at-requires c = (c.requires.0, (c.requires.1.0, real_near c.args.key c.requires.1.1 _ c.loop-i.invariant.0 _ (omega (arith, c.loop-i-test.true, c.loop-i.invariant.1))))
+spread_at-requires c =
+    let i = c.loop-i.invariant in
+    (c.requires.0, (c.requires.1.0, real_near c.args.key c.requires.1.1 _ i.0 _ (omega (arith, c.loop-i-test.true, i.1))))
 
 pub returns-then-spread_at : goal.returns-then-spread_at
 returns-then-spread_at c =

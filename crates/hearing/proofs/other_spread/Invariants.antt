@@ -3,7 +3,6 @@
 use Prim.Native.Nat.{ℕ, ◌≤◌, ◌-◌}
 use mathlib.Core.Path.{◌≡◌}
 use mathlib.Core.List.{List}
-use native.Mathlib.Omega.{arith}
 use lib.ListN.{length, drop}
 use Rattle.lists.specs.Padding.{padded}
 use Rattle.neighbors.specs.Neighbors.{neighbours}
@@ -21,8 +20,10 @@ invariant-loop-i l = (l.list ≡ padded 0 14 (neighbours l.key))
     × (l.i ≤ l.n)
     × ((rs : List MarchedRow) (ws : List ℕ)
     → Marked rs ws l.keys l.distances
-    → other_spread (seed_in l.threshold (rows_of l.fused_keys l.fused_distances l.fused_weights l.fused_count)) (lattice_of l.course) l.from rs (neighbours l.key)
-    ≡ other_spread (seed_in l.threshold (rows_of l.fused_keys l.fused_distances l.fused_weights l.fused_count)) (lattice_of l.course) l.from rs (drop l.i (neighbours l.key)))
+    → other_spread (seed_in l.threshold (rows_of l.fused_keys l.fused_distances l.fused_weights l.fused_count))
+    (lattice_of l.course) l.from rs (neighbours l.key)
+    ≡ other_spread (seed_in l.threshold (rows_of l.fused_keys l.fused_distances l.fused_weights l.fused_count))
+    (lattice_of l.course) l.from rs (drop l.i (neighbours l.key)))
 
 abbrev pub decreases-loop-i : goal.decreases-loop-i
 decreases-loop-i l = l.n - l.i

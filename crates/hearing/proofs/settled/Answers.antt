@@ -1,5 +1,4 @@
 -- `hearing::settled` meets its contract: what is left to hear says what the whole does.
-use Prim.Native.Nat.{◌-◌}
 use mathlib.Core.Path.{refl, ◌∙◌}
 use native.Mathlib.Omega.{arith}
 use lib.Ieee.{of_bits}

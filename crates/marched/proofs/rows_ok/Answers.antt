@@ -1,6 +1,5 @@
 -- `marched::rows_ok` meets its contract: the rows that are left pass exactly when all do.
 use Rattle.std.proofs.Common.{ap, not}
-use Prim.Native.Nat.{◌-◌}
 use mathlib.Core.Path.{refl, sym, ◌∙◌}
 use native.Mathlib.Numerals.{add-one}
 use Rattle.lists.proofs.Bools.{yes, no}

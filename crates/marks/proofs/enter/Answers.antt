@@ -1,5 +1,4 @@
 -- `marks::enter` meets its contract: the label in hand has passed only larger ones, and the way around ends.
-use Prim.Native.Nat.{◌-◌}
 use native.Mathlib.Omega.{arith}
 use Rattle.marks.proofs.Circling.{around_begun, around_set, around_on, around_less, filled_none}
 use Rattle.marks.proofs.Entering.{no_list, carried, goes_on, gives_up, entered}

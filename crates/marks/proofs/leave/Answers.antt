@@ -1,5 +1,4 @@
 -- `marks::leave` meets its contract: the table is in order but for one place, and the way around ends.
-use Prim.Native.Nat.{◌-◌}
 use mathlib.Core.Path.{sym, ◌∙◌}
 use native.Mathlib.Omega.{arith}
 use lib.ListN.{length-set}

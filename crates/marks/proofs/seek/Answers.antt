@@ -1,5 +1,4 @@
 -- `marks::seek` meets its contract: the search from the place that is reached finds what the whole finds.
-use Prim.Native.Nat.{◌-◌}
 use mathlib.Core.Path.{refl, sym, ◌∙◌}
 use Rattle.marks.proofs.Seeking.{seek_here, seek_on, seek_end}
 use Rattle.marks.proofs.seek.Goals as goal

@@ -1,5 +1,4 @@
 -- `racing::sow_all` meets its contract: what is left to sow says what the whole does.
-use Prim.Native.Nat.{◌-◌}
 use mathlib.Core.Path.{refl, sym, ◌∙◌}
 use mathlib.Core.Bool.{false}
 use native.Mathlib.Omega.{arith}

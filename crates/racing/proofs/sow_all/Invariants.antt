@@ -2,7 +2,6 @@
 -- Assumes nothing.
 use Prim.Native.Nat.{◌≤◌, ◌-◌}
 use mathlib.Core.Path.{◌≡◌}
-use native.Mathlib.Omega.{arith}
 use lib.ListN.{length}
 use Rattle.table.specs.Table.{rows_of}
 use Rattle.marching.specs.Lattice.{lattice_of}
@@ -17,7 +16,8 @@ invariant-loop-i l = (l.i ≤ l.fused_count)
     × (length l.distances ≡ length l.initial.distances)
     × (length l.estimates ≡ length l.initial.estimates)
     × (length l.cells ≡ length l.initial.cells)
-    × SowAt l.lean (seed_in l.threshold (rows_of l.fused_keys l.fused_distances l.fused_weights l.fused_count)) (lattice_of l.course) l.threshold (rooms_of l.initial.keys l.initial.cells)
+    × SowAt l.lean (seed_in l.threshold (rows_of l.fused_keys l.fused_distances l.fused_weights l.fused_count))
+    (lattice_of l.course) l.threshold (rooms_of l.initial.keys l.initial.cells)
     (rows_of l.fused_keys l.fused_distances l.fused_weights l.fused_count) l.i l.rows l.keys l.distances l.held l.estimates l.cells
 
 abbrev pub decreases-loop-i : goal.decreases-loop-i

@@ -2,7 +2,6 @@
 -- Assumes nothing.
 use Prim.Native.Nat.{suc, ◌-◌}
 use mathlib.Core.Path.{◌≡◌}
-use native.Mathlib.Omega.{arith}
 use lib.ListN.{length}
 use Rattle.neighbors.specs.Neighbors.{neighbours}
 use Rattle.table.specs.Table.{rows_of}
@@ -20,8 +19,10 @@ invariant-loop-held l = (length l.keys ≡ length l.initial.keys)
     × (length l.estimates ≡ length l.initial.estimates)
     × (length l.cells ≡ length l.initial.cells)
     × ((s : State)
-    → Sown (seeds l.threshold (rows_of l.fused_keys l.fused_distances l.fused_weights l.fused_count)) neighbours l.lean s l.count l.initial.keys l.initial.distances l.waiting l.initial.estimates l.initial.cells
-    → TakeAt l.kind (seed_in l.threshold (rows_of l.fused_keys l.fused_distances l.fused_weights l.fused_count)) (lattice_of l.course) (rooms_of l.initial.keys l.initial.cells)
+    → Sown (seeds l.threshold (rows_of l.fused_keys l.fused_distances l.fused_weights l.fused_count)) neighbours l.lean s
+    l.count l.initial.keys l.initial.distances l.waiting l.initial.estimates l.initial.cells
+    → TakeAt l.kind (seed_in l.threshold (rows_of l.fused_keys l.fused_distances l.fused_weights l.fused_count))
+    (lattice_of l.course) (rooms_of l.initial.keys l.initial.cells)
     (take_up_to (lattice_of l.course) (rooms_of l.initial.keys l.initial.cells) (suc (length l.initial.keys)) s) l.takings l.rows l.keys l.distances
     l.held l.estimates l.cells)
 

@@ -1,6 +1,5 @@
 -- `racing::unlabel` meets its contract, by its tests.
 -- Assumes nothing.
-use native.Mathlib.Omega.{arith}
 use Rattle.racing.proofs.Finishing.{unlabel_none, unlabel_other, unlabel_one}
 use Rattle.racing.proofs.unlabel.Goals as goal
 

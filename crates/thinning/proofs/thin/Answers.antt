@@ -1,5 +1,4 @@
 -- `thinning::thin` meets its contract: the marks of waiting cells that are left are those of cells further on.
-use Prim.Native.Nat.{◌-◌}
 use mathlib.Core.Path.{refl, sym, ◌∙◌}
 use native.Mathlib.Omega.{arith}
 use lib.ListN.{length}
