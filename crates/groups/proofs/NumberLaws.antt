@@ -143,7 +143,8 @@ module _ (a b : ℕ) (es : List Edge) where
   first_at (x ∷ fs) (suc k) m = first_at fs k (le_of_suc-le-suc m)
 
   -- from the place of a on, up to an edge that starts at a, all start there
-  between : Ordered ◌≤◌ (firsts es) → (i : ℕ) → i < length es → (edge_at es i).first ≡ a → (k : ℕ) → place_of a (firsts es) ≤ k → k ≤ i → (edge_at es k).first ≡ a
+  between : Ordered ◌≤◌ (firsts es) → (i : ℕ) → i < length es → (edge_at es i).first ≡ a → (k : ℕ) → place_of a (firsts es) ≤ k → k ≤ i
+      → (edge_at es k).first ≡ a
   between o i l e k h g =
       let n : k < length es = omega arith in
       let m : k < length (firsts es) = rw (length-map es (λ (e : Edge). e.first)) n in

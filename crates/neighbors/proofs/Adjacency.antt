@@ -98,7 +98,8 @@ by : (k l : ℕ) (o : Offset) (os : List Offset) → Memᴰ o os → reached k o
 unfolding neighbours_by shown
 by k l o [] m e = absurd (mathlib.Core.List.Memᴰ.not-nil m)
 by k l o (p ∷ os) m e =
-    ⊎_elim (λ q. rw (← q, e) (mathlib.Core.List.Memᴰ.head refl)) (λ t. mathlib.Core.List.Memᴰ.append_right (shown (reached k p)) (by k l o os t e)) (mathlib.Core.List.Memᴰ.cases_cons m)
+    ⊎_elim (λ q. rw (← q, e) (mathlib.Core.List.Memᴰ.head refl))
+    (λ t. mathlib.Core.List.Memᴰ.append_right (shown (reached k p)) (by k l o os t e)) (mathlib.Core.List.Memᴰ.cases_cons m)
 
 -- offsets are compared by a test
 alike : Offset → Offset → Bool
@@ -254,7 +255,9 @@ adjacent_neighbour k l e =
     let sy = small.1 in
     let sz = small.2 in
     let f : fair (from k l) ≡ true = rw (← from_apart (x_of k) (x_of l) sx, ← from_apart (y_of k) (y_of l) sy, ← from_apart (z_of k) (z_of l) sz) step in
-    let m = has_mem (from k l) offsets (is_offset _ _ _ (from_small (x_of k) (x_of l) sx) (from_small (y_of k) (y_of l) sy) (from_small (z_of k) (z_of l) sz) f) in
+    let m =
+    has_mem (from k l) offsets
+    (is_offset _ _ _ (from_small (x_of k) (x_of l) sx) (from_small (y_of k) (y_of l) sy) (from_small (z_of k) (z_of l) sz) f) in
     let i : Inside k (from k l) = (
       from_inside (x_of k) (x_of l) sx (coord_small l),
       from_inside (y_of k) (y_of l) sy (coord_small (l / 2)),

@@ -141,7 +141,8 @@ module _ (s : Settings) (ks : List ℕ) (ds ws : List Float) (cnt : ℕ) (r : Ro
       → IsTurnedMesh s t r a as' bs xs ys zs us vs ws' is js' ls'
   turned_mesh js' ls' e1 e2 =
       let held : (column : Three ℕ → ℕ) (l l' : List ℕ) (room : ℕ) → l ≡ held_in 0 (mesh_answer_on Closed s t r) room (map column ts)
-      → l' ≡ turned_for a (map column (turned_triangles (rows t))) l → l' ≡ held_in 0 (mesh_answer_on Closed s t r) room (map column (turned_triangles (rows t))) =
+      → l' ≡ turned_for a (map column (turned_triangles (rows t))) l
+      → l' ≡ held_in 0 (mesh_answer_on Closed s t r) room (map column (turned_triangles (rows t))) =
       λ column l l' room q f.
       held_column a (map column ts) (map column (turned_triangles (rows t))) l l' room
       (q ∙ ap (λ (x : Meshed). held_in 0 x room (map column ts)) (sym m.answer))

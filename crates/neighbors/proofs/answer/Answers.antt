@@ -12,7 +12,9 @@ returns-then-room-gt-LONGEST_LIST c = rw (lt-ltb _ _ c.if-room-gt-LONGEST_LIST.t
 
 pub returns-then-not-is_on_lattice : goal.returns-then-not-is_on_lattice
 unfolding listed_of
-returns-then-not-is_on_lattice c = rw (le-ltb _ _ c.if-room-gt-LONGEST_LIST.false, sym c.is_on_lattice.ensures ∙ not-true _ (ap not c.if-not-is_on_lattice.true))
+returns-then-not-is_on_lattice c =
+    let off = sym c.is_on_lattice.ensures ∙ not-true _ (ap not c.if-not-is_on_lattice.true) in
+    rw (le-ltb _ _ c.if-room-gt-LONGEST_LIST.false, off)
 
 pub returns : goal.returns
 unfolding listed_of

@@ -8,7 +8,10 @@ use Rattle.lists.proofs.PaddingLaws.{over}
 use Rattle.neighbors.proofs.put.Given as goal
 
 abbrev pub invariant-loop-i : goal.invariant-loop-i
-invariant-loop-i l = (l.i ≤ length l.initial.out) × (l.out ≡ over l.i (padded 0 (length l.initial.out) (take l.n l.keys)) l.initial.out) × (length l.out ≡ length l.initial.out)
+invariant-loop-i l =
+    (l.i ≤ length l.initial.out)
+    × (l.out ≡ over l.i (padded 0 (length l.initial.out) (take l.n l.keys)) l.initial.out)
+    × (length l.out ≡ length l.initial.out)
 
 abbrev pub decreases-loop-i : goal.decreases-loop-i
 decreases-loop-i l = length l.initial.out - l.i

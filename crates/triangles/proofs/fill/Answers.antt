@@ -31,16 +31,24 @@ pub loop-row-init : goal.loop-row-init
 loop-row-init c = (search rules, search rules, search rules, filling_begun _ _ _ _ _ _)
 
 pub slice_bounds-numbers-end : goal.slice_bounds-numbers-end
-slice_bounds-numbers-end c = let k = near c.args.keys.now c.args.first.now c.args.second.now c.args.n c.args.edges c.loop-row.row c.near_group-group.ensures c.loop-row-test.true in omega arith
+slice_bounds-numbers-end c =
+    let k = near c.args.keys.now c.args.first.now c.args.second.now c.args.n c.args.edges c.loop-row.row c.near_group-group.ensures
+    c.loop-row-test.true in omega arith
 
 pub slice_bounds-put_numbers-end : goal.slice_bounds-put_numbers-end
-slice_bounds-put_numbers-end c = (near c.args.keys.now c.args.first.now c.args.second.now c.args.n c.args.edges c.loop-row.row c.near_group-group.ensures c.loop-row-test.true).3
+slice_bounds-put_numbers-end c =
+    (near c.args.keys.now c.args.first.now c.args.second.now c.args.n c.args.edges c.loop-row.row c.near_group-group.ensures
+    c.loop-row-test.true).3
 
 pub slice_bounds-numbers-end-in-loop-row : goal.slice_bounds-numbers-end-in-loop-row
-slice_bounds-numbers-end-in-loop-row c = let k = near c.args.keys.now c.args.first.now c.args.second.now c.args.n c.args.edges c.loop-row.row c.near_group-group.ensures c.loop-row-test.true in omega arith
+slice_bounds-numbers-end-in-loop-row c =
+    let k = near c.args.keys.now c.args.first.now c.args.second.now c.args.n c.args.edges c.loop-row.row c.near_group-group.ensures
+    c.loop-row-test.true in omega arith
 
 pub slice_bounds-put_threes-end : goal.slice_bounds-put_threes-end
-slice_bounds-put_threes-end c = (near c.args.keys.now c.args.first.now c.args.second.now c.args.n c.args.edges c.loop-row.row c.near_group-group.ensures c.loop-row-test.true).3
+slice_bounds-put_threes-end c =
+    (near c.args.keys.now c.args.first.now c.args.second.now c.args.n c.args.edges c.loop-row.row c.near_group-group.ensures
+    c.loop-row-test.true).3
 
 pub put_threes-requires : goal.put_threes-requires
 put_threes-requires c =
@@ -57,7 +65,9 @@ overflow_add-numbers_end c =
     omega (arith, v.0, v.1, v.2, c.requires.few, c.loop-row-test.true)
 
 pub threes_of-triangles_end-requires : goal.threes_of-triangles_end-requires
-threes_of-triangles_end-requires c = (near c.args.keys.now c.args.first.now c.args.second.now c.args.n c.args.edges c.loop-row.row c.near_group-group.ensures c.loop-row-test.true).0
+threes_of-triangles_end-requires c =
+    (near c.args.keys.now c.args.first.now c.args.second.now c.args.n c.args.edges c.loop-row.row c.near_group-group.ensures
+    c.loop-row-test.true).0
 
 pub overflow_add-triangles_end : goal.overflow_add-triangles_end
 overflow_add-triangles_end c =

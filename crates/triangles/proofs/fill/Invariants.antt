@@ -10,7 +10,8 @@ abbrev pub invariant-loop-row : goal.invariant-loop-row
 invariant-loop-row l = (l.row ≤ l.n)
     × (l.numbers_end ≤ 14 * l.row)
     × (l.triangles_end ≤ 364 * l.row)
-    × Filling (source l.keys l.n l.first l.second l.edges) (take l.n l.keys) l.initial.groups l.initial.t0 l.initial.t1 l.initial.t2 l.row l.numbers_end l.triangles_end l.groups l.t0 l.t1
+    × Filling (source l.keys l.n l.first l.second l.edges) (take l.n l.keys) l.initial.groups l.initial.t0 l.initial.t1 l.initial.t2 l.row
+    l.numbers_end l.triangles_end l.groups l.t0 l.t1
     l.t2
 
 abbrev pub decreases-loop-row : goal.decreases-loop-row
