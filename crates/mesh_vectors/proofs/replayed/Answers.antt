@@ -1,5 +1,4 @@
 -- `mesh_vectors::replayed` is safe and ends: each line leaves fewer bytes. Assumes nothing.
-use Prim.Native.Nat.{◌-◌}
 use native.Mathlib.Omega.{arith}
 use Rattle.mesh_vectors.proofs.replayed.Goals as goal
 

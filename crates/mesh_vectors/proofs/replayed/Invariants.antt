@@ -1,7 +1,6 @@
 -- `mesh_vectors::replayed` is safe and ends: each line leaves fewer bytes. Assumes nothing.
 use Prim.Native.Nat.{◌-◌}
 use lib.ListN.{length}
-use native.Mathlib.Omega.{arith}
 use Rattle.mesh_vectors.proofs.replayed.Given as goal
 
 abbrev pub invariant-loop-place : goal.invariant-loop-place
