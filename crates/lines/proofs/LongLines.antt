@@ -40,7 +40,8 @@ unfolding number_at
 number_end s at =
     let digits = coordinate (digits_from 5 s (at + 1) 0) in
     let one = cond (ltb (digit_value (get_or s (at + 1) 0)) 10) digits number.Missing in
-    cases (λ (b : Bool). end_of (cond b (cond (eqb (get_or s (at + 1) 0) 48) (number.Read 0 (at + 1 + 1)) one) number.Missing) ≤ at + 6) (eqb (get_or s at 0) 32)
+    cases (λ (b : Bool). end_of (cond b (cond (eqb (get_or s (at + 1) 0) 48) (number.Read 0 (at + 1 + 1)) one) number.Missing) ≤ at + 6)
+    (eqb (get_or s at 0) 32)
     (λ e.
     cases (λ (b : Bool). end_of (cond b (number.Read 0 (at + 1 + 1)) one) ≤ at + 6) (eqb (get_or s (at + 1) 0) 48)
     (λ e. omega arith)

@@ -190,10 +190,11 @@ samples =
 
 -- Each case is as the documents say.
 pub samples_hold : map (λ (s : Sample). s.found) samples ≡ map (λ (s : Sample). s.said) samples
-unfolding samples fused_into int_bits rooted holding told count_trailing_zeros span climb size odd units round neg sum add sub mul div lt le eq ne of_int of_fields
-    of_bits to_bits beside_by joined insert respaced morton same_parity offsets in_box reached_from shown neighbours_by member rises_from ascending next find
-    place_of root_answer even on_lattice even_down even_up odd_up odd_down square_of squared_distance nearest nearer nearest_candidate is_end snapped rows_ok need
-    check_with put relaid stored admit_if admitted new_weight fused_voxel voxel_at has_place step_at fused-stored fused_near fused_if fuse_if effect_of fuse
-    stop_or batch_from ahead_of answers_from counting counts_of batch_if batch edges crossing or_zero part_of vertex_of vertex_at vertices_of distance-stored
-    and_then distance_of store wait wait_all seeds sow sow_all candidate heard settling settled spread settle visit taking take_up_to march length_at
+unfolding samples fused_into int_bits rooted holding told count_trailing_zeros span climb size odd units round neg sum add sub mul div lt le eq ne of_int
+    of_fields of_bits to_bits beside_by joined insert respaced morton same_parity offsets in_box reached_from shown neighbours_by member rises_from
+    ascending next find place_of root_answer even on_lattice even_down even_up odd_up odd_down square_of squared_distance nearest nearer nearest_candidate
+    is_end snapped rows_ok need check_with put relaid stored admit_if admitted new_weight fused_voxel voxel_at has_place step_at fused-stored fused_near
+    fused_if fuse_if effect_of fuse stop_or batch_from ahead_of answers_from counting counts_of batch_if batch edges crossing or_zero part_of vertex_of
+    vertex_at vertices_of distance-stored and_then distance_of store wait wait_all seeds sow sow_all candidate heard settling settled spread settle visit
+    taking take_up_to march length_at
 samples_hold = refl

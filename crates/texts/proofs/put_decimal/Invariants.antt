@@ -7,7 +7,9 @@ use Rattle.texts.specs.Texts.{decimal, decimal_from}
 use Rattle.texts.proofs.put_decimal.Given as goal
 
 abbrev pub invariant-loop-rest : goal.invariant-loop-rest
-invariant-loop-rest l = (l.start < 20) × (l.rest < 10 ^ suc l.start) × (length l.digits ≡ 20) × (decimal l.number ≡ decimal_from (suc l.start) l.rest (drop (suc l.start) l.digits))
+invariant-loop-rest l =
+    (l.start < 20) × (l.rest < 10 ^ suc l.start) × (length l.digits ≡ 20)
+    × (decimal l.number ≡ decimal_from (suc l.start) l.rest (drop (suc l.start) l.digits))
 
 abbrev pub decreases-loop-rest : goal.decreases-loop-rest
 decreases-loop-rest l = l.start
