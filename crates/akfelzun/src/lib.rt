@@ -4,7 +4,7 @@
 
 pub mod files;
 pub mod keys;
-pub mod marching;
+pub mod march;
 pub mod meshing;
 pub mod questions;
 pub mod readings;

@@ -4,13 +4,13 @@ use mathlib.Core.Path.{◌≡◌, sym, ◌∙◌}
 use Rattle.answers.specs.declared.LengthBack.{LengthBack}
 use Rattle.answers.specs.declared.YesBack.{YesBack}
 use Rattle.answers.specs.declared.CountsBack.{CountsBack}
-use Rattle.mesh_answers.specs.declared.marching.SlopeBack.{SlopeBack}
-use Rattle.mesh_answers.proofs.marching.march_back.Reads as march_back
-use Rattle.mesh_answers.proofs.marching.distance_back.Reads as marched_distance_back
-use Rattle.mesh_answers.proofs.marching.free_back.Reads as free_back
-use Rattle.mesh_answers.proofs.marching.slope_back.Reads as slope_back
-use Rattle.mesh_answers.proofs.marching.stats_number.Reads as marched_stats_number
-use Rattle.mesh_answers.proofs.marching.stats_found.Reads as marched_stats_found
+use Rattle.mesh_answers.specs.declared.march.SlopeBack.{SlopeBack}
+use Rattle.mesh_answers.proofs.march.march_back.Reads as march_back
+use Rattle.mesh_answers.proofs.march.distance_back.Reads as marched_distance_back
+use Rattle.mesh_answers.proofs.march.free_back.Reads as free_back
+use Rattle.mesh_answers.proofs.march.slope_back.Reads as slope_back
+use Rattle.mesh_answers.proofs.march.stats_number.Reads as marched_stats_number
+use Rattle.mesh_answers.proofs.march.stats_found.Reads as marched_stats_found
 use Rattle.mesh_answers.proofs.meshing.mesh_back.Reads as mesh_back
 use Rattle.mesh_answers.proofs.meshing.span_start.Reads as span_start
 use Rattle.mesh_answers.proofs.meshing.span_length.Reads as span_length

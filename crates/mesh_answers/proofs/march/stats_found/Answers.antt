@@ -1,7 +1,7 @@
 -- Each case is the definition's. Assumes nothing.
 use mathlib.Core.Path.{ap, sym}
 use Rattle.mesh_answers.specs.Marching.{marched_stats}
-use Rattle.mesh_answers.proofs.marching.stats_found.Goals as goal
+use Rattle.mesh_answers.proofs.march.stats_found.Goals as goal
 
 pub returns-in-Refused : goal.returns-in-Refused
 returns-in-Refused c = ap marched_stats (sym c.in-Refused.is)

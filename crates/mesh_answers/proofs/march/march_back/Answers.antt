@@ -1,6 +1,6 @@
 -- Each part of each case is the definition's. Assumes nothing.
 use mathlib.Core.Path.{refl}
-use Rattle.mesh_answers.proofs.marching.march_back.Goals as goal
+use Rattle.mesh_answers.proofs.march.march_back.Goals as goal
 
 pub returns-in-Refused : goal.returns-in-Refused
 returns-in-Refused c =
