@@ -11,9 +11,7 @@ ghost use Rattle.esdf_surveys.specs.Statistics.{get_stats, statistics_number};
 ghost use Rattle.mesh_answers.specs.Marching.{march_back, march_handed, marched_distance, free_found, slope_found, marched_stats};
 
 use answers::keys::list_back;
-use mesh_answers::march::{
-    distance_back, free_back, march_back, slope_back, stats_found, stats_number,
-};
+use mesh_answers::march::{ distance_back, free_back, march_back, slope_back, stats_found, stats_number, };
 use table::settings_of;
 
 #[unsafe(no_mangle)]

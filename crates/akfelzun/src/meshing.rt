@@ -11,10 +11,7 @@ ghost use Rattle.surfaces.specs.Stats.{stats_answer, stats_number, stats_value};
 ghost use Rattle.answers.specs.Keys.{one_if};
 ghost use Rattle.mesh_answers.specs.Meshing.{MeshBackOn, TurnedBack, MeshBack, span_start, span_length, low_corner, high_corner};
 
-use mesh_answers::meshing::{
-    area_back, box_number, high_corner, low_corner, mesh_back, normals_back, span_length,
-    span_start,
-};
+use mesh_answers::meshing::{ area_back, box_number, high_corner, low_corner, mesh_back, normals_back, span_length, span_start, };
 use table::settings_of;
 
 #[unsafe(no_mangle)]

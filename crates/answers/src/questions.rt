@@ -7,80 +7,80 @@ ghost use Rattle.answers.specs.Questions.{distance_found, weight_found, surface_
 use crate::keys::one_if;
 use crate::{ABSENT, DONE, LengthBack, NOTHING, YesBack};
 use floats::Metres;
-use tsdf_questions::{Distance, Surface, Weight};
-use tsdf_surveys::{Statistics, TsdfStats};
+use tsdf_surveys::TsdfStats;
+use refusals::Refusal;
 
-pub fn distance_back(distance: Distance) -> LengthBack
+pub fn distance_back(distance: Result<Option<Metres>, Refusal>) -> LengthBack
     ensures number_value { result.number ≡ distance_number distance }
     ensures value_value { result.value ≡ distance_found distance }
 {
     match distance {
-        Distance::Of(metres) => LengthBack {
+        Ok(Some(metres)) => LengthBack {
             number: DONE,
             value: metres.0,
         },
-        Distance::Absent => LengthBack {
+        Ok(None) => LengthBack {
             number: ABSENT,
             value: NOTHING,
         },
-        Distance::Refused(why) => LengthBack {
+        Err(why) => LengthBack {
             number: refusals::number(why),
             value: NOTHING,
         },
     }
 }
 
-pub fn weight_back(weight: Weight) -> LengthBack
+pub fn weight_back(weight: Result<Option<f32>, Refusal>) -> LengthBack
     ensures number_value { result.number ≡ weight_number weight }
     ensures value_value { result.value ≡ weight_found weight }
 {
     match weight {
-        Weight::Of(w) => LengthBack {
+        Ok(Some(w)) => LengthBack {
             number: DONE,
             value: w,
         },
-        Weight::Absent => LengthBack {
+        Ok(None) => LengthBack {
             number: ABSENT,
             value: NOTHING,
         },
-        Weight::Refused(why) => LengthBack {
+        Err(why) => LengthBack {
             number: refusals::number(why),
             value: NOTHING,
         },
     }
 }
 
-pub fn surface_back(surface: Surface) -> YesBack
+pub fn surface_back(surface: Result<bool, Refusal>) -> YesBack
     ensures number_value { result.number ≡ surface_number surface }
     ensures yes_value { result.yes ≡ surface_found surface }
 {
     match surface {
-        Surface::Answer(near) => YesBack {
+        Ok(near) => YesBack {
             number: DONE,
             yes: one_if(near),
         },
-        Surface::Refused(why) => YesBack {
+        Err(why) => YesBack {
             number: refusals::number(why),
             yes: 0,
         },
     }
 }
 
-pub fn stats_number(statistics: Statistics) -> u32
+pub fn stats_number(statistics: Result<TsdfStats, Refusal>) -> u32
     ensures { result ≡ statistics_number statistics }
 {
     match statistics {
-        Statistics::Of(_) => DONE,
-        Statistics::Refused(why) => refusals::number(why),
+        Ok(_) => DONE,
+        Err(why) => refusals::number(why),
     }
 }
 
-pub fn stats_found(statistics: Statistics) -> TsdfStats
+pub fn stats_found(statistics: Result<TsdfStats, Refusal>) -> TsdfStats
     ensures { result ≡ stats_found statistics }
 {
     match statistics {
-        Statistics::Of(stats) => stats,
-        Statistics::Refused(_) => TsdfStats {
+        Ok(stats) => stats,
+        Err(_) => TsdfStats {
             voxel_count: 0,
             surface_voxel_count: 0,
             min_distance: Metres(NOTHING),

@@ -6,6 +6,7 @@ ghost use Rattle.batching.specs.Batches.{batched_number, batched_counts, batched
 use crate::{CHANGED, DONE, FAR, NEW};
 use batching::{Batched, Counts};
 use fusing::Fused;
+use refusals::Refusal;
 
 // What a batch hands back: the answer's number, the counts of its readings, and the one that a refusal names.
 #[derive(Clone, Copy)]
@@ -16,14 +17,14 @@ pub struct ReadingsBack {
 }
 
 // The number of a fuse's answer.
-pub fn fused_number(fused: Fused) -> u32
+pub fn fused_number(fused: Result<Fused, Refusal>) -> u32
     ensures { result ≡ fused_number fused }
 {
     match fused {
-        Fused::New => NEW,
-        Fused::Changed => CHANGED,
-        Fused::Far => FAR,
-        Fused::Refused(why) => refusals::number(why),
+        Ok(Fused::New) => NEW,
+        Ok(Fused::Changed) => CHANGED,
+        Ok(Fused::Far) => FAR,
+        Err(why) => refusals::number(why),
     }
 }
 

@@ -1,7 +1,7 @@
 // A batch of readings, fused in turn (src/layers/tsdf.rs: batch_update): many at a time through own rows, few one by one.
 #![tactic(auto)]
 
-ghost use Rattle.std.specs.Prelude.{◌≡◌, ◌+◌, ◌-◌, ◌<◌, ◌≤◌, length};
+ghost use Rattle.std.specs.Prelude.{◌≡◌, ◌+◌, ◌-◌, ◌<◌, ◌≤◌, length, Ok};
 ghost use Rattle.table.specs.Table.{table, table_check};
 ghost use Rattle.batching.specs.Batches.{batch_outcome, batch_end, readings_taken, entries, batch_from, counts, batch};
 ghost use Rattle.batching.specs.Steps.{far_up_to};
@@ -12,7 +12,7 @@ use floats::Metres;
 use fusing::{Step, fuse_sound};
 use measuring::Reading;
 use owning::{Run, batch_run};
-use table::{Checked, Settings, check_with, lengths_ok};
+use table::{Settings, check_with, lengths_ok};
 
 // How the readings of a batch ended, and how many of those that were taken were far.
 #[derive(Clone, Copy)]
@@ -33,7 +33,7 @@ fn batch_one(
     batch_confidences: &[f32],
     from: usize,
 ) -> Run
-    requires count_value { table_check settings (table keys.old distances.old weights.old count.old) ≡ Checked.Passed }
+    requires count_value { table_check settings (table keys.old distances.old weights.old count.old) ≡ (Ok tt) }
     requires from_in_bounds { from < length batch_keys.now }
     requires batch_distances_len { (length batch_distances.now ≡ length batch_keys.now) × (length batch_confidences.now ≡ length batch_keys.now) }
     ensures { RunTo settings
@@ -50,10 +50,10 @@ fn batch_one(
     };
     let step = fuse_sound(settings, keys, distances, weights, count, key, reading);
     match step {
-        Step::Refused(why) => Run::Refused(why, from, 0),
-        Step::Far => Run::Reached(from + 1, 1),
-        Step::Added(_) => Run::Reached(from + 1, 0),
-        Step::Changed(_) => Run::Reached(from + 1, 0),
+        Err(why) => Run::Refused(why, from, 0),
+        Ok(Step::Far) => Run::Reached(from + 1, 1),
+        Ok(Step::Added(_)) => Run::Reached(from + 1, 0),
+        Ok(Step::Changed(_)) => Run::Reached(from + 1, 0),
     }
 }
 
@@ -69,7 +69,7 @@ fn batch_step(
     batch_confidences: &[f32],
     from: usize,
 ) -> Run
-    requires count_value { table_check settings (table keys.old distances.old weights.old count.old) ≡ Checked.Passed }
+    requires count_value { table_check settings (table keys.old distances.old weights.old count.old) ≡ (Ok tt) }
     requires from_in_bounds { from < length batch_keys.now }
     requires batch_distances_len { (length batch_distances.now ≡ length batch_keys.now) × (length batch_confidences.now ≡ length batch_keys.now) }
     ensures { RunTo settings
@@ -135,7 +135,7 @@ fn batch_sound(
     batch_distances: &[f32],
     batch_confidences: &[f32],
 ) -> Went
-    requires count_value { table_check settings (table keys.old distances.old weights.old count.old) ≡ Checked.Passed }
+    requires count_value { table_check settings (table keys.old distances.old weights.old count.old) ≡ (Ok tt) }
     requires batch_distances_len { (length batch_distances.now ≡ length batch_keys.now) × (length batch_confidences.now ≡ length batch_keys.now) }
     ensures count_after { batch_end result.ending (table keys.new distances.new weights.new count.new)
         ≡ batch_from settings 0
@@ -214,8 +214,8 @@ pub fn batch_update(
         0,
     );
     match check_with(fits, settings, keys, distances, weights, *count) {
-        Checked::Refused(why) => Batched::Refused(why, 0, counts_of(0, 0, 0, 0)),
-        Checked::Passed => {
+        Err(why) => Batched::Refused(why, 0, counts_of(0, 0, 0, 0)),
+        Ok(()) => {
             let before = *count;
             let went = batch_sound(
                 settings,

@@ -1,6 +1,7 @@
 -- A batch of one is a fuse, a batch splits anywhere, its counts add up, and in a refused one the earlier readings stand: a batch is its readings
 -- in turn, and what a part leaves passes the tests again.
 -- Assumes nothing.
+use Rattle.std.specs.Prelude.{Ok, Err, Result}
 use mathlib.Core.Path.{◌≡◌, refl, sym, ap, subst, ◌∙◌}
 use mathlib.Core.Bool.{true}
 use mathlib.Core.List.{List, [], ◌∷◌, ◌++◌}
@@ -14,7 +15,6 @@ use Rattle.lists.specs.Beside.{beside_by}
 use Rattle.lists.proofs.BesideLaws.{by_length, by_append}
 use Rattle.refusals.specs.declared.Refusal.{Refusal}
 use Rattle.table.specs.declared.Settings.{Settings}
-use Rattle.table.specs.declared.Checked.{Checked}
 use Rattle.table.specs.Table.{Table, lengths_ok, table_check}
 use Rattle.table.proofs.RowLaws.{lengths_known}
 use Rattle.table.proofs.Checking.{with_fit, with_passed}
@@ -46,11 +46,11 @@ as_batch o = answer_of (stop_or o.answer 0 o.left (batch_end Ending.Taken o.left
 pub batch_of_one : (s : Settings) (t : Table) (k : ℕ) (d c : Float) → batch s t (k ∷ []) (d ∷ []) (c ∷ []) ≡ as_batch (fuse s t k (direct_of (entry k d c)))
 unfolding batch batch_if batch_from answers_from beside_by fuse effect_of fuse_if stop_or ahead_of counts_of
 batch_of_one s t k d c =
-    ap (λ (q : Checked). batch_if q s t (entry k d c ∷ [])) (check_once s t 1 1 1 refl) ∙ go (table_check s t) refl
+    ap (λ (q : Result (Unit {0}) Refusal). batch_if q s t (entry k d c ∷ [])) (check_once s t 1 1 1 refl) ∙ go (table_check s t) refl
   where
-    go : (q : Checked) → table_check s t ≡ q → batch_if q s t (entry k d c ∷ []) ≡ as_batch (fuse s t k (direct_of (entry k d c)))
-    go (Checked.Refused why) e = rw e
-    go Checked.Passed e = refl
+    go : (q : Result (Unit {0}) Refusal) → table_check s t ≡ q → batch_if q s t (entry k d c ∷ []) ≡ as_batch (fuse s t k (direct_of (entry k d c)))
+    go (Err why) e = rw e
+    go (Ok tt) e = refl
 
 -- ---- two parts
 
@@ -78,33 +78,33 @@ from_counted s m i n k t (r ∷ rs) =
     (λ u. ap (λ (j : ℕ). answer_of (batch_from s j u rs) (together n k)) (sym (add-suc m i)) ∙ from_counted s m (suc i) n k u rs)
   where
     go :
-        (a : Fused) (u : Table)
+        (a : Result Fused Refusal) (u : Table)
         → ((v : Table) → answer_of (batch_from s (suc (m + i)) v rs) (together n k) ≡ counted_from m n (answer_of (batch_from s (suc i) v rs) k))
         → answer_of (stop_or a (m + i) u (batch_from s (suc (m + i)) u rs)) (together n k)
         ≡ counted_from m n (answer_of (stop_or a i u (batch_from s (suc i) u rs)) k)
-    go (Fused.Refused why) u h = refl
-    go Fused.Far u h = h u
-    go Fused.New u h = h u
-    go Fused.Changed u h = h u
+    go (Err why) u h = refl
+    go (Ok Fused.Far) u h = h u
+    go (Ok Fused.New) u h = h u
+    go (Ok Fused.Changed) u h = h u
 
 -- a first part that ends so and leaves u: where it went through, the whole is the second part, and the answers are those of both; where it was
 -- refused, the whole is the first part
-unfoldable Joins : Ending → Table → BatchEnd → BatchEnd → List Fused → List Fused → List Fused → Type 0
+unfoldable Joins : Ending → Table → BatchEnd → BatchEnd → List (Result Fused Refusal) → List (Result Fused Refusal) → List (Result Fused Refusal) → Type 0
 Joins Ending.Taken u whole second xs ys zs = (whole ≡ second) × (xs ≡ ys ++ zs)
 Joins (Ending.Refused why i) u whole second xs ys zs = (whole ≡ batch_end (Ending.Refused why i) u) × (xs ≡ ys)
 
 -- the whole, its first part, and readings from the j-th on as the second; the answers of the whole and of the first part
-abbrev PartJoins : Settings → ℕ → List Entry → BatchEnd → BatchEnd → List Fused → List Fused → Type 0
+abbrev PartJoins : Settings → ℕ → List Entry → BatchEnd → BatchEnd → List (Result Fused Refusal) → List (Result Fused Refusal) → Type 0
 PartJoins s j qs whole first xs ys =
     Joins first.ending first.left whole (batch_from s j first.left qs) xs ys (answers_from s first.left qs)
 
 joins_more :
-    (a : Fused) (e : Ending) (u : Table) (whole second : BatchEnd) (xs ys zs : List Fused)
+    (a : Result Fused Refusal) (e : Ending) (u : Table) (whole second : BatchEnd) (xs ys zs : List (Result Fused Refusal))
     → Joins e u whole second xs ys zs
     → Joins e u whole second (a ∷ xs) (a ∷ ys) zs
 unfolding Joins
-joins_more a Ending.Taken u whole second xs ys zs h = (h.0, ap {B = List Fused} (λ l. a ∷ l) h.1)
-joins_more a (Ending.Refused why i) u whole second xs ys zs h = (h.0, ap {B = List Fused} (λ l. a ∷ l) h.1)
+joins_more a Ending.Taken u whole second xs ys zs h = (h.0, ap {B = List (Result Fused Refusal)} (λ l. a ∷ l) h.1)
+joins_more a (Ending.Refused why i) u whole second xs ys zs h = (h.0, ap {B = List (Result Fused Refusal)} (λ l. a ∷ l) h.1)
 
 -- readings in two parts, the first of them the i-th
 abbrev InTwo : Settings → ℕ → Table → List Entry → List Entry → Type 0
@@ -116,7 +116,7 @@ joins s i t [] qs = (rw add-zero, refl)
 joins s i t (r ∷ rs) qs = go (fuse s t r.key (direct_of r)).answer (fuse s t r.key (direct_of r)).left (λ u. joins s (suc i) u rs qs)
   where
     later :
-        (a : Fused) (u : Table)
+        (a : Result Fused Refusal) (u : Table)
         → InTwo s (suc i) u rs qs
         → PartJoins s (i + suc (length rs)) qs (batch_from s (suc i) u (rs ++ qs)) (batch_from s (suc i) u rs) (a ∷ answers_from s u (rs ++ qs))
         (a ∷ answers_from s u rs)
@@ -127,18 +127,18 @@ joins s i t (r ∷ rs) qs = go (fuse s t r.key (direct_of r)).answer (fuse s t r
         (answers_from s u (rs ++ qs)) (answers_from s u rs) (answers_from s first.left qs) h)
 
     go :
-        (a : Fused) (u : Table)
+        (a : Result Fused Refusal) (u : Table)
         → ((v : Table) → InTwo s (suc i) v rs qs)
         → PartJoins s (i + suc (length rs)) qs (stop_or a i u (batch_from s (suc i) u (rs ++ qs))) (stop_or a i u (batch_from s (suc i) u rs))
         (ahead_of a (answers_from s u (rs ++ qs))) (ahead_of a (answers_from s u rs))
-    go (Fused.Refused why) u h = (refl, refl)
-    go Fused.Far u h = later Fused.Far u (h u)
-    go Fused.New u h = later Fused.New u (h u)
-    go Fused.Changed u h = later Fused.Changed u (h u)
+    go (Err why) u h = (refl, refl)
+    go (Ok Fused.Far) u h = later (Ok Fused.Far) u (h u)
+    go (Ok Fused.New) u h = later (Ok Fused.New) u (h u)
+    go (Ok Fused.Changed) u h = later (Ok Fused.Changed) u (h u)
 
 -- what is answered to both parts
 joined_answer :
-    (e : Ending) (u : Table) (whole : BatchEnd) (second : Table → BatchEnd) (xs ys : List Fused) (zs : Table → List Fused)
+    (e : Ending) (u : Table) (whole : BatchEnd) (second : Table → BatchEnd) (xs ys : List (Result Fused Refusal)) (zs : Table → List (Result Fused Refusal))
     → Joins e u whole (second u) xs ys (zs u)
     → answer_of whole (counts_of xs) ≡ followed_by (batched_of e (counts_of ys)) u (λ n v. answer_of (second v) (together n (counts_of (zs v))))
 unfolding Joins followed_by
@@ -155,7 +155,7 @@ from_splits s i t rs qs =
     (λ u. batch_from s (i + length rs) u qs) (answers_from s t (rs ++ qs)) (answers_from s t rs) (λ u. answers_from s u qs) (joins s i t rs qs)
 
 -- a batch keeps an accepted table accepted
-from_keeps : (s : Settings) (i : ℕ) (t : Table) (rs : List Entry) → table_check s t ≡ Checked.Passed → table_check s (batch_from s i t rs).left ≡ Checked.Passed
+from_keeps : (s : Settings) (i : ℕ) (t : Table) (rs : List Entry) → table_check s t ≡ (Ok tt) → table_check s (batch_from s i t rs).left ≡ (Ok tt)
 unfolding batch_from stop_or
 from_keeps s i t [] e = e
 from_keeps s i t (r ∷ rs) e =
@@ -163,25 +163,25 @@ from_keeps s i t (r ∷ rs) e =
     (fuse_keeps s t r.key (direct_of r) e) (λ u h. from_keeps s (suc i) u rs h)
   where
     go :
-        (a : Fused) (u : Table)
-        → table_check s u ≡ Checked.Passed
-        → ((v : Table) → table_check s v ≡ Checked.Passed → table_check s (batch_from s (suc i) v rs).left ≡ Checked.Passed)
-        → table_check s (stop_or a i u (batch_from s (suc i) u rs)).left ≡ Checked.Passed
-    go (Fused.Refused why) u h next = h
-    go Fused.Far u h next = next u h
-    go Fused.New u h next = next u h
-    go Fused.Changed u h next = next u h
+        (a : Result Fused Refusal) (u : Table)
+        → table_check s u ≡ (Ok tt)
+        → ((v : Table) → table_check s v ≡ (Ok tt) → table_check s (batch_from s (suc i) v rs).left ≡ (Ok tt))
+        → table_check s (stop_or a i u (batch_from s (suc i) u rs)).left ≡ (Ok tt)
+    go (Err why) u h next = h
+    go (Ok Fused.Far) u h next = next u h
+    go (Ok Fused.New) u h next = next u h
+    go (Ok Fused.Changed) u h next = next u h
 
 pub batch_keeps :
     (s : Settings) (t : Table) (ks : List ℕ) (ds cs : List Float)
-    → table_check s t ≡ Checked.Passed
-    → table_check s (batch s t ks ds cs).left ≡ Checked.Passed
+    → table_check s t ≡ (Ok tt)
+    → table_check s (batch s t ks ds cs).left ≡ (Ok tt)
 unfolding batch batch_if
 batch_keeps s t ks ds cs e = go (batch_check s t (length ks) (length ds) (length cs))
   where
-    go : (q : Checked) → table_check s (batch_if q s t (entries ks ds cs)).left ≡ Checked.Passed
-    go (Checked.Refused why) = e
-    go Checked.Passed = from_keeps s 0 t (entries ks ds cs) e
+    go : (q : Result (Unit {0}) Refusal) → table_check s (batch_if q s t (entries ks ds cs)).left ≡ (Ok tt)
+    go (Err why) = e
+    go (Ok tt) = from_keeps s 0 t (entries ks ds cs) e
 
 followed_same :
     (a : Batched) (u : Table) (f g : Counts → Table → BatchOutcome)
@@ -218,7 +218,7 @@ batch_splits s t ks ks' ds ds' cs cs' p q p' q' h =
   where
     second :
         (n : Counts) (u : Table)
-        → table_check s u ≡ Checked.Passed
+        → table_check s u ≡ (Ok tt)
         → answer_of (batch_from s (0 + length (entries ks ds cs)) u (entries ks' ds' cs')) (together n (counts_of (answers_from s u (entries ks' ds' cs'))))
         ≡ counted_from (length ks) n
         (batch_if (batch_check s u (length ks') (length ds') (length cs')) s u (entries ks' ds' cs'))
@@ -226,21 +226,21 @@ batch_splits s t ks ks' ds ds' cs cs' p q p' q' h =
         ap (λ (j : ℕ). answer_of (batch_from s j u (entries ks' ds' cs')) (together n (counts_of (answers_from s u (entries ks' ds' cs')))))
         (zero-add (length (entries ks ds cs)) ∙ by_length entry ks ds cs p q ∙ sym (add-zero (length ks)))
         ∙ from_counted s (length ks) 0 n (counts_of (answers_from s u (entries ks' ds' cs'))) u (entries ks' ds' cs')
-        ∙ ap (λ (r : Checked). counted_from (length ks) n (batch_if r s u (entries ks' ds' cs')))
+        ∙ ap (λ (r : Result (Unit {0}) Refusal). counted_from (length ks) n (batch_if r s u (entries ks' ds' cs')))
         (sym (check_once s u (length ks') (length ds') (length cs')
         (fits (length ks') (length ds') (length cs') p' q' (omega arith))
         ∙ e))
 
     go :
-        (r : Checked)
+        (r : Result (Unit {0}) Refusal)
         → table_check s t ≡ r
         → batch_if r s t (entries ks ds cs ++ entries ks' ds' cs')
         ≡ followed_by (batch_if r s t (entries ks ds cs)).answer (batch_if r s t (entries ks ds cs)).left
         (λ n u.
         counted_from (length ks) n
         (batch_if (batch_check s u (length ks') (length ds') (length cs')) s u (entries ks' ds' cs')))
-    go (Checked.Refused why) e = refl
-    go Checked.Passed e =
+    go (Err why) e = refl
+    go (Ok tt) e =
         let b = batch_from s 0 t (entries ks ds cs) in
         from_splits s 0 t (entries ks ds cs) (entries ks' ds' cs')
         ∙ followed_same (batched_of b.ending (counts_of (answers_from s t (entries ks ds cs)))) b.left
@@ -259,21 +259,21 @@ Adds m (Batched.Done n) = n.added + n.changed + n.far ≡ m
 Adds m (Batched.Refused why i n) = n.added + n.changed + n.far ≡ i
 
 module _ (s : Settings) (t : Table) (ks : List ℕ) (ds cs : List Float) where
-  abbrev tests : Checked
+  abbrev tests : Result (Unit {0}) Refusal
   tests = batch_check s t (length ks) (length ds) (length cs)
 
   -- refused by its tests, a batch leaves the table and has counted none
-  pub tested_out : (why : Refusal) → tests ≡ Checked.Refused why → batch s t ks ds cs ≡ batch_outcome (Batched.Refused why 0 (counts 0 0 0)) t
+  pub tested_out : (why : Refusal) → tests ≡ Err why → batch s t ks ds cs ≡ batch_outcome (Batched.Refused why 0 (counts 0 0 0)) t
   unfolding batch batch_if
   tested_out why e = rw e
 
   -- otherwise the table is what its readings in turn leave, which no count changes
-  pub batch_left : tests ≡ Checked.Passed → (batch s t ks ds cs).left ≡ (batch_from s 0 t (entries ks ds cs)).left
+  pub batch_left : tests ≡ (Ok tt) → (batch s t ks ds cs).left ≡ (batch_from s 0 t (entries ks ds cs)).left
   unfolding batch batch_if
   batch_left e = rw e
 
   -- and the counts are those of what the readings are answered in turn
-  pub batch_counts : tests ≡ Checked.Passed → batched_counts (batch s t ks ds cs).answer ≡ counts_of (answers_from s t (entries ks ds cs))
+  pub batch_counts : tests ≡ (Ok tt) → batched_counts (batch s t ks ds cs).answer ≡ counts_of (answers_from s t (entries ks ds cs))
   unfolding batch batch_if
   batch_counts e = rw e (told (batch_from s 0 t (entries ks ds cs)).ending)
     where
@@ -285,9 +285,9 @@ module _ (s : Settings) (t : Table) (ks : List ℕ) (ds cs : List Float) where
   pub batch_rows : (batch s t ks ds cs).left.count ≡ t.count + (batched_counts (batch s t ks ds cs).answer).added
   batch_rows = go tests refl
     where
-      go : (q : Checked) → tests ≡ q → (batch s t ks ds cs).left.count ≡ t.count + (batched_counts (batch s t ks ds cs).answer).added
-      go (Checked.Refused why) e = rw (tested_out why e) (sym (add-zero t.count))
-      go Checked.Passed e = rw (batch_left e, batch_counts e) (rows_added s 0 t (entries ks ds cs))
+      go : (q : Result (Unit {0}) Refusal) → tests ≡ q → (batch s t ks ds cs).left.count ≡ t.count + (batched_counts (batch s t ks ds cs).answer).added
+      go (Err why) e = rw (tested_out why e) (sym (add-zero t.count))
+      go (Ok tt) e = rw (batch_left e, batch_counts e) (rows_added s 0 t (entries ks ds cs))
 
   add_up : Adds (length ks) (batch s t ks ds cs).answer
   unfolding batch batch_if Adds
@@ -297,9 +297,9 @@ module _ (s : Settings) (t : Table) (ks : List ℕ) (ds cs : List Float) where
       counted_out Ending.Taken n h = h
       counted_out (Ending.Refused why i) n h = h
 
-      go : (q : Checked) → tests ≡ q → Adds (length ks) (batch_if q s t (entries ks ds cs)).answer
-      go (Checked.Refused why) e = refl
-      go Checked.Passed e =
+      go : (q : Result (Unit {0}) Refusal) → tests ≡ q → Adds (length ks) (batch_if q s t (entries ks ds cs)).answer
+      go (Err why) e = refl
+      go (Ok tt) e =
           let k = lengths_known (length ks) (length ds) (length cs) 0 (with_passed (lengths_ok (length ks) (length ds) (length cs) 0) s t e).0 in
           let b = batch_from s 0 t (entries ks ds cs) in
           counted_out b.ending (counts_of (answers_from s t (entries ks ds cs)))
@@ -335,10 +335,10 @@ stands s j t (r ∷ rs) why i e = go (fuse s t r.key (direct_of r)).answer refl 
   where
     -- the first reading is taken
     later :
-        (a : Fused)
+        (a : Result Fused Refusal)
         → (fuse s t r.key (direct_of r)).answer ≡ a
         → ((b : BatchEnd) → stop_or a j (fuse s t r.key (direct_of r)).left b ≡ b)
-        → ((xs : List Fused) → ahead_of a xs ≡ a ∷ xs)
+        → ((xs : List (Result Fused Refusal)) → ahead_of a xs ≡ a ∷ xs)
         → Stands s (suc j) (fuse s t r.key (direct_of r)).left rs i
         → Stands s j t (r ∷ rs) i
     later a q on ahead n =
@@ -351,13 +351,13 @@ stands s j t (r ∷ rs) why i e = go (fuse s t r.key (direct_of r)).answer refl 
         }
 
     go :
-        (a : Fused)
+        (a : Result Fused Refusal)
         → (fuse s t r.key (direct_of r)).answer ≡ a
         → (stop_or a j (fuse s t r.key (direct_of r)).left (batch_from s (suc j) (fuse s t r.key (direct_of r)).left rs)).ending ≡ Ending.Refused why i
         → ((batch_from s (suc j) (fuse s t r.key (direct_of r)).left rs).ending ≡ Ending.Refused why i
         → Stands s (suc j) (fuse s t r.key (direct_of r)).left rs i)
         → Stands s j t (r ∷ rs) i
-    go (Fused.Refused w) q f next =
+    go (Err w) q f next =
         let n : j ≡ i = cc in
         record {
           earlier = 0;
@@ -366,9 +366,9 @@ stands s j t (r ∷ rs) why i e = go (fuse s t r.key (direct_of r)).answer refl 
           same = rw q (ap (batch_end Ending.Taken) (sym (refused_unchanged s t r.key (direct_of r) w q)));
           same_answers = rw q;
         }
-    go Fused.Far q f next = later Fused.Far q (λ b. refl) (λ xs. refl) (next f)
-    go Fused.New q f next = later Fused.New q (λ b. refl) (λ xs. refl) (next f)
-    go Fused.Changed q f next = later Fused.Changed q (λ b. refl) (λ xs. refl) (next f)
+    go (Ok Fused.Far) q f next = later (Ok Fused.Far) q (λ b. refl) (λ xs. refl) (next f)
+    go (Ok Fused.New) q f next = later (Ok Fused.New) q (λ b. refl) (λ xs. refl) (next f)
+    go (Ok Fused.Changed) q f next = later (Ok Fused.Changed) q (λ b. refl) (λ xs. refl) (next f)
 
 -- an answer tells its ending
 told : (e : Ending) (m : Counts) {n : Counts} {why : Refusal} {i : ℕ} → batched_of e m ≡ Batched.Refused why i n → e ≡ Ending.Refused why i
@@ -378,7 +378,7 @@ told (Ending.Refused why i) m q = cc
 -- the readings before the refused one stand, and nothing else changed
 pub earlier_stand :
     (s : Settings) (t : Table) (ks : List ℕ) (ds cs : List Float) (why : Refusal) (i : ℕ) (n : Counts)
-    → batch_check s t (length ks) (length ds) (length cs) ≡ Checked.Passed
+    → batch_check s t (length ks) (length ds) (length cs) ≡ (Ok tt)
     → (batch s t ks ds cs).answer ≡ Batched.Refused why i n
     → Stands s 0 t (entries ks ds cs) i
 unfolding batch batch_if

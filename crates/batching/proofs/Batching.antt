@@ -1,5 +1,6 @@
 -- One reading of a batch: it ends the batch or leaves the rest to the table that it left, and is counted as far or not.
 -- Assumes nothing.
+use Rattle.std.specs.Prelude.{Ok, Err, Result}
 use mathlib.Core.Path.{◌≡◌, refl, sym, ap, ◌∙◌}
 use mathlib.Core.Bool.{false}
 use mathlib.Core.List.{List, [], ◌∷◌}
@@ -11,10 +12,8 @@ use lib.Ieee.{Float, nan}
 use Rattle.lists.proofs.BesideLaws.{by_at, by_past, by_whole}
 use Rattle.refusals.specs.declared.Refusal.{Refusal}
 use Rattle.table.specs.declared.Settings.{Settings}
-use Rattle.table.specs.declared.Checked.TheVariants.{Passed}
 use Rattle.table.specs.Table.{Table, table_check}
 use Rattle.fusing.specs.declared.Step.{Step}
-use Rattle.fusing.specs.declared.Step.TheVariants.{Far, Added, Changed, Refused}
 use Rattle.batching.specs.declared.Ending.TheVariants as Ending
 use Rattle.fusing.specs.Fusing.{Effect, effect, effect_of, fused_of, fuse}
 use Rattle.fusing.specs.Steps.{answers_far}
@@ -46,47 +45,47 @@ module _ (s : Settings) (t : Table) (ks : List ℕ) (ds cs : List Float) (i : �
   ended h = rw (entries_past ks ds cs i h)
 
   -- the i-th reading does so and leaves u
-  module _ (p : length ds ≡ length ks) (q : length cs ≡ length ks) (h : i < length ks) (step : Step) (u : Table)
+  module _ (p : length ds ≡ length ks) (q : length cs ≡ length ks) (h : i < length ks) (step : Result Step Refusal) (u : Table)
       (e : effect step u ≡ effect_of s t (get_or ks i 0) (direct_of (entry (get_or ks i 0) (get_or ds i nan) (get_or cs i nan)))) where
     one : from i t ≡ stop_or (fused_of step) i u (from (i + 1) u)
     unfolding batch_from fuse
     one = rw (entry_at ks ds cs i p q h, ← e, add-one)
 
-    pub stops : (why : Refusal) → step ≡ Refused why → from i t ≡ batch_end (Ending.Refused why i) u
+    pub stops : (why : Refusal) → step ≡ Err why → from i t ≡ batch_end (Ending.Refused why i) u
     unfolding stop_or
     stops why f = one ∙ rw f
 
-    pub goes_on_far : step ≡ Far → from i t ≡ from (i + 1) u
+    pub goes_on_far : step ≡ (Ok Step.Far) → from i t ≡ from (i + 1) u
     unfolding stop_or
     goes_on_far f = one ∙ rw f
 
-    pub goes_on_added : (at : ℕ) → step ≡ Added at → from i t ≡ from (i + 1) u
+    pub goes_on_added : (at : ℕ) → step ≡ Ok (Step.Added at) → from i t ≡ from (i + 1) u
     unfolding stop_or
     goes_on_added at f = one ∙ rw f
 
-    pub goes_on_changed : (at : ℕ) → step ≡ Changed at → from i t ≡ from (i + 1) u
+    pub goes_on_changed : (at : ℕ) → step ≡ Ok (Step.Changed at) → from i t ≡ from (i + 1) u
     unfolding stop_or
     goes_on_changed at f = one ∙ rw f
 
     -- what it did tells whether it is far
-    tells_far : table_check s t ≡ Passed → answers_far (fused_of step) ≡ is_far s (entry (get_or ks i 0) (get_or ds i nan) (get_or cs i nan))
+    tells_far : table_check s t ≡ (Ok tt) → answers_far (fused_of step) ≡ is_far s (entry (get_or ks i 0) (get_or ds i nan) (get_or cs i nan))
     unfolding fuse
     tells_far c =
         ap (λ (o : Effect). answers_far (fused_of o.step)) e
         ∙ far_exactly s t (get_or ks i 0) (direct_of (entry (get_or ks i 0) (get_or ds i nan) (get_or cs i nan))) c
 
-    pub far_here : table_check s t ≡ Passed → step ≡ Far → far_up_to s (entries ks ds cs) (i + 1) ≡ far_up_to s (entries ks ds cs) i + 1
+    pub far_here : table_check s t ≡ (Ok tt) → step ≡ (Ok Step.Far) → far_up_to s (entries ks ds cs) (i + 1) ≡ far_up_to s (entries ks ds cs) i + 1
     unfolding answers_far
     far_here c f = far_passed s (entries ks ds cs) i _ (entry_at ks ds cs i p q h) (sym (tells_far c) ∙ rw f)
 
     pub near_here :
-        table_check s t ≡ Passed
+        table_check s t ≡ (Ok tt)
         → answers_far (fused_of step) ≡ false
         → far_up_to s (entries ks ds cs) (i + 1) ≡ far_up_to s (entries ks ds cs) i + 0
     near_here c f = near_passed s (entries ks ds cs) i _ (entry_at ks ds cs i p q h) (sym (tells_far c) ∙ f) ∙ sym (add-zero _)
 
     -- the table passes the check again
-    pub passes_again : table_check s t ≡ Passed → table_check s u ≡ Passed
+    pub passes_again : table_check s t ≡ (Ok tt) → table_check s u ≡ (Ok tt)
     unfolding fuse
     passes_again c =
         ap (λ (o : Effect). table_check s o.left) e

@@ -1,6 +1,7 @@
 -- The counts of a batch: together they are the readings that were taken, those that added a row are the rows that there are more, and the far
 -- ones are told by the readings alone. Each is one step of the readings in turn.
 -- Assumes nothing.
+use Rattle.std.specs.Prelude.{Ok, Err, Result}
 use mathlib.Core.Path.{◌≡◌, refl, sym, ap, ◌∙◌}
 use mathlib.Core.Bool.{Bool, true, false, cond}
 use mathlib.Core.List.{List, [], ◌∷◌, ◌++◌}
@@ -11,7 +12,6 @@ use native.Mathlib.Omega.{arith}
 use lib.ListN.{length, drop}
 use Rattle.lists.proofs.Bools.{cases}
 use Rattle.table.specs.declared.Settings.{Settings}
-use Rattle.table.specs.declared.Checked.TheVariants.{Passed}
 use Rattle.table.specs.Table.{Table, table_check}
 use Rattle.fusing.specs.declared.Fused.{Fused}
 use Rattle.fusing.specs.Fusing.{fuse}
@@ -22,6 +22,7 @@ use Rattle.batching.specs.declared.Counts.{Counts}
 use Rattle.batching.specs.declared.Ending.{Ending}
 use Rattle.batching.specs.Batches.{BatchEnd, batch_end, readings_taken, Entry, direct_of, stop_or, batch_from, ahead_of, answers_from, counts, counting, counts_of}
 use Rattle.batching.specs.Steps.{is_far, far_up_to}
+use Rattle.refusals.specs.declared.Refusal.{Refusal}
 
 -- ---- counts of answers
 
@@ -30,13 +31,13 @@ abbrev pub together : Counts → Counts → Counts
 together n m = counts (n.added + m.added) (n.changed + m.changed) (n.far + m.far)
 
 -- answers, and more answers
-pub counts_append : (xs ys : List Fused) → counts_of (xs ++ ys) ≡ together (counts_of xs) (counts_of ys)
+pub counts_append : (xs ys : List (Result Fused Refusal)) → counts_of (xs ++ ys) ≡ together (counts_of xs) (counts_of ys)
 unfolding counts_of counting
 counts_append [] ys = rw (zero-add, zero-add, zero-add)
-counts_append (Fused.New ∷ xs) ys = rw (counts_append xs ys, suc-add)
-counts_append (Fused.Changed ∷ xs) ys = rw (counts_append xs ys, suc-add)
-counts_append (Fused.Far ∷ xs) ys = rw (counts_append xs ys, suc-add)
-counts_append (Fused.Refused why ∷ xs) ys = counts_append xs ys
+counts_append ((Ok Fused.New) ∷ xs) ys = rw (counts_append xs ys, suc-add)
+counts_append ((Ok Fused.Changed) ∷ xs) ys = rw (counts_append xs ys, suc-add)
+counts_append ((Ok Fused.Far) ∷ xs) ys = rw (counts_append xs ys, suc-add)
+counts_append (Err why ∷ xs) ys = counts_append xs ys
 
 -- ---- the readings in turn
 
@@ -52,13 +53,13 @@ module _ (s : Settings) where
   counts_sum t (r ∷ rs) = go (fuse s t r.key (direct_of r)).answer (fuse s t r.key (direct_of r)).left (λ u. counts_sum u rs)
     where
       go :
-          (a : Fused) (u : Table)
+          (a : Result Fused Refusal) (u : Table)
           → ((v : Table) → total (counts_of (answers_from s v rs)) ≡ length (answers_from s v rs))
           → total (counts_of (ahead_of a (answers_from s u rs))) ≡ length (ahead_of a (answers_from s u rs))
-      go (Fused.Refused why) u next = refl
-      go Fused.New u next = omega (arith, next u)
-      go Fused.Changed u next = omega (arith, next u)
-      go Fused.Far u next = omega (arith, next u)
+      go (Err why) u next = refl
+      go (Ok Fused.New) u next = omega (arith, next u)
+      go (Ok Fused.Changed) u next = omega (arith, next u)
+      go (Ok Fused.Far) u next = omega (arith, next u)
 
   -- as many answers as readings that were taken, of which the first is the i-th
   pub answers_taken :
@@ -76,13 +77,13 @@ module _ (s : Settings) where
       later u e = rw (add-suc i (length (answers_from s u rs)), add-suc i (length rs), ← suc-add i (length (answers_from s u rs)), ← suc-add i (length rs)) e
 
       go :
-          (a : Fused) (u : Table)
+          (a : Result Fused Refusal) (u : Table)
           → ((v : Table) → suc i + length (answers_from s v rs) ≡ readings_taken (batch_from s (suc i) v rs).ending (suc i + length rs))
           → i + length (ahead_of a (answers_from s u rs)) ≡ readings_taken (stop_or a i u (batch_from s (suc i) u rs)).ending (i + suc (length rs))
-      go (Fused.Refused why) u next = add-zero i
-      go Fused.New u next = later u (next u)
-      go Fused.Changed u next = later u (next u)
-      go Fused.Far u next = later u (next u)
+      go (Err why) u next = add-zero i
+      go (Ok Fused.New) u next = later u (next u)
+      go (Ok Fused.Changed) u next = later u (next u)
+      go (Ok Fused.Far) u next = later u (next u)
 
   -- together the counts are the readings that were taken
   pub counts_taken :
@@ -99,21 +100,21 @@ module _ (s : Settings) where
       (λ u. rows_added (suc i) u rs)
     where
       go :
-          (a : Fused) (u : Table)
+          (a : Result Fused Refusal) (u : Table)
           → Tells t r.key a u
           → ((v : Table) → (batch_from s (suc i) v rs).left.count ≡ v.count + (counts_of (answers_from s v rs)).added)
           → (stop_or a i u (batch_from s (suc i) u rs)).left.count ≡ t.count + (counts_of (ahead_of a (answers_from s u rs))).added
-      go (Fused.Refused why) u h next = ap (λ (v : Table). v.count) h ∙ sym (add-zero t.count)
-      go Fused.New u h next = omega (arith, next u, h.1)
-      go Fused.Changed u h next = omega (arith, next u, h.1)
-      go Fused.Far u h next = omega (arith, next u, ap (λ (v : Table). v.count) h)
+      go (Err why) u h next = ap (λ (v : Table). v.count) h ∙ sym (add-zero t.count)
+      go (Ok Fused.New) u h next = omega (arith, next u, h.1)
+      go (Ok Fused.Changed) u h next = omega (arith, next u, h.1)
+      go (Ok Fused.Far) u h next = omega (arith, next u, ap (λ (v : Table). v.count) h)
 
 -- ---- far readings
 
 -- the far count, by the readings alone
 pub far_told :
     (s : Settings) (t : Table) (rs : List Entry)
-    → table_check s t ≡ Passed
+    → table_check s t ≡ (Ok tt)
     → (counts_of (answers_from s t rs)).far ≡ far_up_to s rs (length (answers_from s t rs))
 unfolding answers_from ahead_of counts_of counting far_up_to answers_far
 far_told s t [] e = refl
@@ -122,15 +123,15 @@ far_told s t (r ∷ rs) e =
     (fuse_keeps s t r.key (direct_of r) e) (λ u h. far_told s u rs h)
   where
     go :
-        (a : Fused) (u : Table)
+        (a : Result Fused Refusal) (u : Table)
         → answers_far a ≡ is_far s r
-        → table_check s u ≡ Passed
-        → ((v : Table) → table_check s v ≡ Passed → (counts_of (answers_from s v rs)).far ≡ far_up_to s rs (length (answers_from s v rs)))
+        → table_check s u ≡ (Ok tt)
+        → ((v : Table) → table_check s v ≡ (Ok tt) → (counts_of (answers_from s v rs)).far ≡ far_up_to s rs (length (answers_from s v rs)))
         → (counts_of (ahead_of a (answers_from s u rs))).far ≡ far_up_to s (r ∷ rs) (length (ahead_of a (answers_from s u rs)))
-    go (Fused.Refused why) u f h next = refl
-    go Fused.New u f h next = rw (← f) (next u h)
-    go Fused.Changed u f h next = rw (← f) (next u h)
-    go Fused.Far u f h next = rw (← f) (ap suc (next u h))
+    go (Err why) u f h next = refl
+    go (Ok Fused.New) u f h next = rw (← f) (next u h)
+    go (Ok Fused.Changed) u f h next = rw (← f) (next u h)
+    go (Ok Fused.Far) u f h next = rw (← f) (ap suc (next u h))
 
 module _ (s : Settings) where
   -- one reading more
@@ -172,7 +173,7 @@ module _ (s : Settings) where
 -- the rows before and after, the readings that were taken of m, and those of them that were far
 pub counts_known :
     (s : Settings) (t : Table) (rs : List Entry) (ending : Ending) (u : Table) (m taken far : ℕ)
-    → table_check s t ≡ Passed
+    → table_check s t ≡ (Ok tt)
     → batch_end ending u ≡ batch_from s 0 t rs
     → length rs ≡ m
     → taken ≡ readings_taken ending m

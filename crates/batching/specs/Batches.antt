@@ -1,9 +1,8 @@
 -- A batch of direct readings, taken in order.
-use Rattle.std.specs.Prelude.{ℕ, suc, List, [], ◌∷◌, length, Float}
+use Rattle.std.specs.Prelude.{ℕ, suc, List, [], ◌∷◌, length, Float, Ok, Err, Result}
 use Rattle.lists.specs.Beside.{beside_by}
 use Rattle.refusals.specs.Refusals.{number_of}
 use Rattle.table.specs.declared.Settings.{Settings}
-use Rattle.table.specs.declared.Checked.{Checked}
 use Rattle.table.specs.Table.{Table, lengths_ok, check_with}
 use Rattle.measuring.specs.declared.Reading.{Reading}
 use Rattle.measuring.specs.declared.Reading.TheVariants.{Direct}
@@ -12,6 +11,7 @@ use Rattle.batching.specs.declared.Counts.{Counts}
 use Rattle.batching.specs.declared.Batched.{Batched}
 use Rattle.batching.specs.declared.Ending.{Ending}
 use Rattle.fusing.specs.Fusing.{fuse}
+use Rattle.refusals.specs.declared.Refusal.{Refusal}
 
 -- what a batch answers, and the table that it leaves
 pub record BatchOutcome : Type 0 where
@@ -59,11 +59,11 @@ abbrev pub direct_of : Entry → Reading
 direct_of r = Direct (record { 0 = r.distance }) r.confidence
 
 -- a refusal ends the batch and names its reading
-unfoldable pub stop_or : Fused → ℕ → Table → BatchEnd → BatchEnd
-stop_or (Fused.Refused why) i t rest = batch_end (Ending.Refused why i) t
-stop_or Fused.Far i t rest = rest
-stop_or Fused.New i t rest = rest
-stop_or Fused.Changed i t rest = rest
+unfoldable pub stop_or : Result Fused Refusal → ℕ → Table → BatchEnd → BatchEnd
+stop_or (Err why) i t rest = batch_end (Ending.Refused why i) t
+stop_or (Ok Fused.Far) i t rest = rest
+stop_or (Ok Fused.New) i t rest = rest
+stop_or (Ok Fused.Changed) i t rest = rest
 
 -- the readings in order, the first of them the i-th, each fused into what those before it left
 unfoldable pub batch_from : Settings → ℕ → Table → List Entry → BatchEnd
@@ -73,14 +73,14 @@ batch_from s i t (r ∷ rs) =
     stop_or o.answer i o.left (batch_from s (suc i) o.left rs)
 
 -- an answer ahead of the later ones; a refused reading and those after it have none
-unfoldable pub ahead_of : Fused → List Fused → List Fused
-ahead_of (Fused.Refused why) rest = []
-ahead_of Fused.Far rest = Fused.Far ∷ rest
-ahead_of Fused.New rest = Fused.New ∷ rest
-ahead_of Fused.Changed rest = Fused.Changed ∷ rest
+unfoldable pub ahead_of : Result Fused Refusal → List (Result Fused Refusal) → List (Result Fused Refusal)
+ahead_of (Err why) rest = []
+ahead_of (Ok Fused.Far) rest = (Ok Fused.Far) ∷ rest
+ahead_of (Ok Fused.New) rest = (Ok Fused.New) ∷ rest
+ahead_of (Ok Fused.Changed) rest = (Ok Fused.Changed) ∷ rest
 
 -- what the readings that are taken are answered, in turn
-unfoldable pub answers_from : Settings → Table → List Entry → List Fused
+unfoldable pub answers_from : Settings → Table → List Entry → List (Result Fused Refusal)
 answers_from s t [] = []
 answers_from s t (r ∷ rs) = let o = fuse s t r.key (direct_of r) in ahead_of o.answer (answers_from s o.left rs)
 
@@ -89,25 +89,25 @@ abbrev pub counts : ℕ → ℕ → ℕ → Counts
 counts added changed far = record { added = added; changed = changed; far = far }
 
 -- New counts as added, Changed as changed, Far as far, and a refusal as none
-unfoldable pub counting : Fused → Counts → Counts
-counting Fused.New n = counts (suc n.added) n.changed n.far
-counting Fused.Changed n = counts n.added (suc n.changed) n.far
-counting Fused.Far n = counts n.added n.changed (suc n.far)
-counting (Fused.Refused why) n = n
+unfoldable pub counting : Result Fused Refusal → Counts → Counts
+counting (Ok Fused.New) n = counts (suc n.added) n.changed n.far
+counting (Ok Fused.Changed) n = counts n.added (suc n.changed) n.far
+counting (Ok Fused.Far) n = counts n.added n.changed (suc n.far)
+counting (Err why) n = n
 
 -- the counts of answers
-unfoldable pub counts_of : List Fused → Counts
+unfoldable pub counts_of : List (Result Fused Refusal) → Counts
 counts_of [] = counts 0 0 0
 counts_of (a ∷ rest) = counting a (counts_of rest)
 
 -- what the tests refuse stays refused, names reading 0 and has counted none
-unfoldable pub batch_if : Checked → Settings → Table → List Entry → BatchOutcome
+unfoldable pub batch_if : Result (Unit {0}) Refusal → Settings → Table → List Entry → BatchOutcome
 unfolding batch_from answers_from counts_of
-batch_if (Checked.Refused why) s t rs = batch_outcome (Batched.Refused why 0 (counts 0 0 0)) t
-batch_if Checked.Passed s t rs = answer_of (batch_from s 0 t rs) (counts_of (answers_from s t rs))
+batch_if (Err why) s t rs = batch_outcome (Batched.Refused why 0 (counts 0 0 0)) t
+batch_if (Ok tt) s t rs = answer_of (batch_from s 0 t rs) (counts_of (answers_from s t rs))
 
 -- refusals 1, 2 and 3; the three lists of readings are equal and at most 65,536 long
-abbrev pub batch_check : Settings → Table → ℕ → ℕ → ℕ → Checked
+abbrev pub batch_check : Settings → Table → ℕ → ℕ → ℕ → Result (Unit {0}) Refusal
 batch_check s t a b c = check_with (lengths_ok a b c 0) s t
 
 -- a batch: its tests, then its readings

@@ -1,16 +1,18 @@
 -- Samples of snapping at the ends of i32, and of places in metres, by computation. Assumes nothing.
+use Rattle.std.specs.Prelude.{Result}
 use Prim.Native.Nat.{ℕ}
 use mathlib.Core.Path.{◌≡◌, refl}
 use mathlib.Core.List.{[], ◌∷◌, map}
 use lib.IntN.{pos, negsuc}
 use lib.Ieee.{of_bits, div, lt, le, eq}
 use Rattle.floats.specs.Floats.{f32, whole_of}
-use Rattle.bcc_utils.specs.declared.Snapped.{Snapped}
 use Rattle.bcc_utils.specs.Snapping.{Point, even, on_lattice, even_down, even_up, odd_up, odd_down, square_of, squared_distance, nearest, nearer, nearest_candidate, is_end, snapped, snapped_number, snapped_place}
 use Rattle.bcc_utils.specs.Metres.{place_snapped, voxel_of}
+use Rattle.refusals.specs.declared.Refusal.{Refusal}
+use Rattle.bcc_utils.specs.declared.WideCells.{WideCells}
 
 -- an answer's number and place
-abbrev answer_of : Snapped → ℕ × Point
+abbrev answer_of : Result (WideCells × WideCells × WideCells) Refusal → ℕ × Point
 answer_of s = (snapped_number s, snapped_place s)
 
 -- on the lattice at the ends; mixed parities at each end, and next to them

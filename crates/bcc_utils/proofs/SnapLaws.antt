@@ -1,6 +1,7 @@
 -- What snapping is known by: the answer is on the lattice, no coordinate moves by more than one, no candidate and no lattice
 -- point is nearer, a lattice point stays, and 9 is given exactly as document 01 says. Each follows from the nearest
 -- candidate's place, which is the point itself on the lattice. Assumes nothing.
+use Rattle.std.specs.Prelude.{Ok, Err}
 use Prim.Native.Nat.{ℕ, zero, suc, ◌%◌, ◌≤◌}
 use native.Mathlib.Omega.{arith}
 use mathlib.Core.Path.{◌≡◌, refl, sym, ap, ◌∙◌, subst}
@@ -14,7 +15,6 @@ use Rattle.lists.proofs.Bools.{cases}
 use Rattle.refusals.specs.declared.Refusal.{Refusal}
 use Rattle.refusals.specs.declared.Refusal.TheVariants.{OutOfRange}
 use Rattle.bcc_utils.specs.declared.WideCells.{WideCells}
-use Rattle.bcc_utils.specs.declared.Snapped.TheVariants.{At, Refused}
 use Rattle.bcc_utils.specs.Snapping.{Point, even, on_lattice, even_down, odd_up, first_even, first_odd, candidates, squared_distance, nearest_candidate, placed, has_end, snapped, snapped_place}
 use Rattle.bcc_utils.specs.Steps.{mostly_even}
 use Rattle.bcc_utils.proofs.Candidates.{same_parity_lem, candidate_even, candidate_odd, even_down_moves, odd_up_moves, least_candidate, least_point}
@@ -60,7 +60,7 @@ odd_stays : (z : ℤ) → even z ≡ false → odd_up z ≡ z
 unfolding odd_up
 odd_stays z e = ap (λ (b : Bool). cond b (suc_ℤ z) z) e
 
-at_not_refused : {a b c : WideCells} {r : Refusal} → At a b c ≡ Refused r → ⊥
+at_not_refused : {a b c : WideCells} {r : Refusal} → Ok (a, b, c) ≡ Err r → ⊥
 at_not_refused e = let z : ◌≡◌ {A = ℕ} 0 1 = cc in omega arith
 
 module _ (x y z : ℤ) where
@@ -110,28 +110,28 @@ module _ (x y z : ℤ) where
   snap_stays h = rw h
 
   -- Refused with 9 exactly when the parities are mixed and a coordinate is an end of i32.
-  pub snap_refused : (r : Refusal) → (snapped x y z ≡ Refused r) ↔ ((on_lattice x y z ≡ false) × (has_end x y z ≡ true) × (r ≡ OutOfRange))
+  pub snap_refused : (r : Refusal) → (snapped x y z ≡ Err r) ↔ ((on_lattice x y z ≡ false) × (has_end x y z ≡ true) × (r ≡ OutOfRange))
   unfolding snapped
   snap_refused r = (λ e. go (on_lattice x y z) (has_end x y z) refl refl e, λ h. rw (h.0, h.1, h.2))
     where
       go : (a b : Bool) → on_lattice x y z ≡ a → has_end x y z ≡ b →
-          cond a (placed (x, y, z)) (cond b (Refused OutOfRange) (placed (nearest_candidate x y z))) ≡ Refused r → (a ≡ false) × (b ≡ true) × (r ≡ OutOfRange)
+          cond a (placed (x, y, z)) (cond b (Err OutOfRange) (placed (nearest_candidate x y z))) ≡ Err r → (a ≡ false) × (b ≡ true) × (r ≡ OutOfRange)
       go true b p q e = absurd (at_not_refused e)
       go false true p q e = (refl, refl, cc)
       go false false p q e = absurd (at_not_refused e)
 
   -- What is answered is the nearest candidate.
-  pub snap_is_nearest : (a b c : WideCells) → snapped x y z ≡ At a b c → nearest_candidate x y z ≡ (a.0, b.0, c.0)
+  pub snap_is_nearest : (a b c : WideCells) → snapped x y z ≡ Ok (a, b, c) → nearest_candidate x y z ≡ (a.0, b.0, c.0)
   unfolding snapped snapped_place
   snap_is_nearest a b c e = go (on_lattice x y z) (has_end x y z) refl e
     where
       go : (s t : Bool) → on_lattice x y z ≡ s →
-          cond s (placed (x, y, z)) (cond t (Refused OutOfRange) (placed (nearest_candidate x y z))) ≡ At a b c → nearest_candidate x y z ≡ (a.0, b.0, c.0)
+          cond s (placed (x, y, z)) (cond t (Err OutOfRange) (placed (nearest_candidate x y z))) ≡ Ok (a, b, c) → nearest_candidate x y z ≡ (a.0, b.0, c.0)
       go true t h e = nearest_stays h ∙ ap snapped_place e
       go false true h e = absurd (at_not_refused (sym e))
       go false false h e = ap snapped_place e
 
-  module _ (a b c : WideCells) (e : snapped x y z ≡ At a b c) where
+  module _ (a b c : WideCells) (e : snapped x y z ≡ Ok (a, b, c)) where
     -- The answer is on the lattice.
     pub snap_on_lattice : on_lattice a.0 b.0 c.0 ≡ true
     snap_on_lattice = subst (λ (q : Point). on_lattice q.0 q.1 q.2 ≡ true) (snap_is_nearest a b c e) nearest_on_lattice

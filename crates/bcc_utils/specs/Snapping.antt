@@ -1,11 +1,11 @@
 -- Document 01, "Snapping": three whole numbers of cells to the nearest point of the lattice, over the candidates in their order.
-use Rattle.std.specs.Prelude.{ℕ, suc, ◌+◌, ◌-◌, ◌*◌, ◌%◌, ◌^◌, Bool, cond, ◌&&◌, ◌||◌, List, [], ◌∷◌, ◌++◌, leb, ltb, eqb, ℤ, pos, negsuc, ◌-ℤ◌, nat_abs}
+use Rattle.std.specs.Prelude.{ℕ, suc, ◌+◌, ◌-◌, ◌*◌, ◌%◌, ◌^◌, Bool, cond, ◌&&◌, ◌||◌, List, [], ◌∷◌, ◌++◌, leb, ltb, eqb, ℤ, pos, negsuc, ◌-ℤ◌, nat_abs, Ok, Err, Result}
 use Rattle.std.specs.Bool.{beq}
 use Rattle.std.proofs.Math.IntN.{suc_ℤ, pred_ℤ}
 use Rattle.refusals.specs.Refusals.{number_of}
 use Rattle.refusals.specs.declared.Refusal.TheVariants.{OutOfRange}
-use Rattle.bcc_utils.specs.declared.Snapped.{Snapped}
-use Rattle.bcc_utils.specs.declared.Snapped.TheVariants.{At, Refused}
+use Rattle.refusals.specs.declared.Refusal.{Refusal}
+use Rattle.bcc_utils.specs.declared.WideCells.{WideCells}
 
 -- three coordinates in cells
 abbrev pub Point : Type 0
@@ -104,8 +104,8 @@ nearest_candidate x y z =
 -- ---- the answer
 
 -- the point as an answer
-abbrev pub placed : Point → Snapped
-placed p = At (record { 0 = p.0 }) (record { 0 = p.1 }) (record { 0 = p.2 })
+abbrev pub placed : Point → Result (WideCells × WideCells × WideCells) Refusal
+placed p = Ok (record { 0 = p.0 }, record { 0 = p.1 }, record { 0 = p.2 })
 
 -- z is -2147483648 or 2147483647, an end of i32
 unfoldable pub is_end : ℤ → Bool
@@ -117,17 +117,17 @@ abbrev pub has_end : ℤ → ℤ → ℤ → Bool
 has_end x y z = is_end x || is_end y || is_end z
 
 -- a lattice point stays; mixed parities with an end of i32 are refused with 9; all others go to the nearest candidate
-unfoldable pub snapped : ℤ → ℤ → ℤ → Snapped
+unfoldable pub snapped : ℤ → ℤ → ℤ → Result (WideCells × WideCells × WideCells) Refusal
 snapped x y z =
     cond (on_lattice x y z) (placed (x, y, z))
-    (cond (has_end x y z) (Refused OutOfRange) (placed (nearest_candidate x y z)))
+    (cond (has_end x y z) (Err OutOfRange) (placed (nearest_candidate x y z)))
 
 -- document 01's number of the answer, 0 for no refusal
-abbrev pub snapped_number : Snapped → ℕ
-snapped_number (At x y z) = 0
-snapped_number (Refused r) = number_of r
+abbrev pub snapped_number : Result (WideCells × WideCells × WideCells) Refusal → ℕ
+snapped_number (Ok (x, y, z)) = 0
+snapped_number (Err r) = number_of r
 
 -- the answer's place, at the origin where it is refused
-abbrev pub snapped_place : Snapped → Point
-snapped_place (At x y z) = (x.0, y.0, z.0)
-snapped_place (Refused r) = (pos 0, pos 0, pos 0)
+abbrev pub snapped_place : Result (WideCells × WideCells × WideCells) Refusal → Point
+snapped_place (Ok (x, y, z)) = (x.0, y.0, z.0)
+snapped_place (Err r) = (pos 0, pos 0, pos 0)

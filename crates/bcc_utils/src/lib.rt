@@ -7,20 +7,13 @@ ghost use Rattle.bcc_utils.specs.Snapping.{even_down, odd_up, nearest_candidate,
 ghost use Rattle.bcc_utils.specs.Metres.{cells_of, place_snapped, is_place, voxel_of, metres_of};
 ghost use Rattle.bcc_utils.specs.Steps.{mostly_even};
 
-use floats::{Metres, Nearest};
+use floats::Metres;
 use ids::Cells;
 use refusals::Refusal;
 
 // A whole number of cells along an axis, either way from the origin.
 #[derive(Clone, Copy)]
 pub struct WideCells(pub i32);
-
-// Where a point goes.
-#[derive(Clone, Copy)]
-pub enum Snapped {
-    At(WideCells, WideCells, WideCells),
-    Refused(Refusal),
-}
 
 fn is_even(x: WideCells) -> bool
     ensures { result ≡ even x.0 }
@@ -78,47 +71,47 @@ fn has_end(x: WideCells, y: WideCells, z: WideCells) -> bool
 
 // The nearest of the sixteen candidates. An even one is as far away as there are odd coordinates, and an odd one as there
 // are even coordinates: so the first candidate of the class that moves fewer coordinates is the nearest.
-fn nearest_candidate(x: WideCells, y: WideCells, z: WideCells) -> Snapped
+fn nearest_candidate(x: WideCells, y: WideCells, z: WideCells) -> Result<(WideCells, WideCells, WideCells), Refusal>
     ensures { result ≡ placed (nearest_candidate x.0 y.0 z.0) }
 {
     if is_mostly_even(x, y, z) {
-        Snapped::At(even_down(x), even_down(y), even_down(z))
+        Ok((even_down(x), even_down(y), even_down(z)))
     } else {
-        Snapped::At(odd_up(x), odd_up(y), odd_up(z))
+        Ok((odd_up(x), odd_up(y), odd_up(z)))
     }
 }
 
 // The nearest lattice point: the point itself, if it is one.
-pub fn snap_to_nearest_bcc(x: WideCells, y: WideCells, z: WideCells) -> Snapped
+pub fn snap_to_nearest_bcc(x: WideCells, y: WideCells, z: WideCells) -> Result<(WideCells, WideCells, WideCells), Refusal>
     ensures { result ≡ snapped x.0 y.0 z.0 }
 {
     if is_valid_bcc(x, y, z) {
-        Snapped::At(x, y, z)
+        Ok((x, y, z))
     } else if has_end(x, y, z) {
-        Snapped::Refused(Refusal::OutOfRange)
+        Err(Refusal::OutOfRange)
     } else {
         nearest_candidate(x, y, z)
     }
 }
 
 // A length in cells, rounded half away from zero.
-fn cells_of(length: Metres, voxel_size: Metres) -> Nearest
+fn cells_of(length: Metres, voxel_size: Metres) -> Result<i32, Refusal>
     ensures { result ≡ cells_of length.0 voxel_size.0 }
 {
     floats::round_whole(length.0 / voxel_size.0)
 }
 
 // The lattice point nearest to a place's cells.
-fn snap_place(x: Metres, y: Metres, z: Metres, voxel_size: Metres) -> Snapped
+fn snap_place(x: Metres, y: Metres, z: Metres, voxel_size: Metres) -> Result<(WideCells, WideCells, WideCells), Refusal>
     ensures { result ≡ place_snapped x.0 y.0 z.0 voxel_size.0 }
 {
     match cells_of(x, voxel_size) {
-        Nearest::Refused(refusal) => Snapped::Refused(refusal),
-        Nearest::Whole(a) => match cells_of(y, voxel_size) {
-            Nearest::Refused(refusal) => Snapped::Refused(refusal),
-            Nearest::Whole(b) => match cells_of(z, voxel_size) {
-                Nearest::Refused(refusal) => Snapped::Refused(refusal),
-                Nearest::Whole(c) => snap_to_nearest_bcc(WideCells(a), WideCells(b), WideCells(c)),
+        Err(refusal) => Err(refusal),
+        Ok(a) => match cells_of(y, voxel_size) {
+            Err(refusal) => Err(refusal),
+            Ok(b) => match cells_of(z, voxel_size) {
+                Err(refusal) => Err(refusal),
+                Ok(c) => snap_to_nearest_bcc(WideCells(a), WideCells(b), WideCells(c)),
             },
         },
     }
@@ -132,17 +125,17 @@ fn is_place(x: Metres, y: Metres, z: Metres) -> bool
 }
 
 // The lattice point of a place in metres.
-pub fn physical_to_bcc_voxel(x: Metres, y: Metres, z: Metres, voxel_size: Metres) -> Snapped
+pub fn physical_to_bcc_voxel(x: Metres, y: Metres, z: Metres, voxel_size: Metres) -> Result<(WideCells, WideCells, WideCells), Refusal>
     ensures { result ≡ voxel_of x.0 y.0 z.0 voxel_size.0 }
 {
     if floats::positive_to(1000.0, voxel_size.0) {
         if is_place(x, y, z) {
             snap_place(x, y, z, voxel_size)
         } else {
-            Snapped::Refused(Refusal::BadReading)
+            Err(Refusal::BadReading)
         }
     } else {
-        Snapped::Refused(Refusal::Setting)
+        Err(Refusal::Setting)
     }
 }
 

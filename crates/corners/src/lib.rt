@@ -27,12 +27,10 @@ pub fn vertices_ok(px: &[f32], py: &[f32], pz: &[f32], vertices: usize) -> bool
     requires { Lent px.now py.now pz.now vertices }
     ensures { result ≡ every vertex_ok (vertices_in px.now py.now pz.now vertices) }
 {
-    let mut i = 0;
-    while i < vertices {
+    for i in 0..vertices {
         if !vertex_ok(px[i], py[i], pz[i]) {
             return false;
         }
-        i += 1;
     }
     true
 }
@@ -49,12 +47,10 @@ pub fn triangles_ok(vertices: usize, t0: &[u32], t1: &[u32], t2: &[u32], triangl
     requires { Lent t0.now t1.now t2.now triangles }
     ensures { result ≡ every (triangle_ok vertices) (triangles_in t0.now t1.now t2.now triangles) }
 {
-    let mut i = 0;
-    while i < triangles {
+    for i in 0..triangles {
         if !triangle_ok(vertices, t0[i], t1[i], t2[i]) {
             return false;
         }
-        i += 1;
     }
     true
 }

@@ -1,5 +1,6 @@
 -- The number that a search from near finds is the place of the edge in the list, and that of no edge is the list's length.
 -- Assumes nothing.
+use Rattle.std.specs.Prelude.{Some, None, Option}
 use Prim.Native.Nat.{ℕ, suc, ◌<◌, ◌≤◌, min, max}
 use native.Mathlib.Omega.{arith}
 use mathlib.Core.Path.{◌≡◌, refl, sym, ap, ◌∙◌, fun_ext}
@@ -11,8 +12,6 @@ use lib.ListN.{length, take, length-take}
 use borrow.Author.Tests.{eqb-true, leb-true, le-leb}
 use Rattle.lists.specs.Lists.{Ordered}
 use Rattle.lists.proofs.Bools.{cases, and_first, and_second}
-use Rattle.search.specs.declared.Found.{Found}
-use Rattle.search.specs.declared.Found.TheVariants.{At, Absent}
 use Rattle.edges.specs.Edges.{Edge}
 use Rattle.edges.specs.EdgeList.{pair_of}
 use Rattle.groups.specs.Groups.{edge_at}
@@ -67,16 +66,16 @@ module _ (first second : List ℕ) (n : ℕ) (h : Numbered first second n) where
 
   module _ (a b : ℕ) where
     -- what the search by halves finds is the place
-    by_halves : (f : Found) → f ≡ pair_number es a b → number_or n f ≡ vertex_in es a b
-    by_halves (At i) e =
+    by_halves : (f : Option ℕ) → f ≡ pair_number es a b → number_or n f ≡ vertex_in es a b
+    by_halves (Some i) e =
         let s = number_sound (min a b) (max a b) es i (sym e) in
         let t = number_is es h.once (pair_of a b) i s.0 ∙ edge_same (pair_of a b) (edge_at es i) (sym s.1) in
         sym (eqb-true _ _ t)
-    by_halves Absent e =
+    by_halves None e =
         ⊎_elim (λ p. rw (le-leb n 1048576 few) (sym (p ∙ long)))
         (λ p.
         let c = number_complete (min a b) (max a b) es h.rising (vertex_in es a b) p.0 p.1 in
-        let clash : Absent ≡ At c.0 = e ∙ c.1 in
+        let clash : None ≡ Some c.0 = e ∙ c.1 in
         let z : ◌≡◌ {A = ℕ} 0 1 = cc in
         let un : ⊥ = omega arith in
         absurd un)

@@ -1,8 +1,6 @@
 -- The number of the vertex between two cells, by two lists of edges.
-use Rattle.std.specs.Prelude.{ℕ, ◌≤◌, ◌≡◌, true, cond, List, leb, length}
+use Rattle.std.specs.Prelude.{ℕ, ◌≤◌, ◌≡◌, true, cond, List, leb, length, Some, None, Option}
 use Rattle.lists.specs.Lists.{Ordered, Distinct}
-use Rattle.search.specs.declared.Found.{Found}
-use Rattle.search.specs.declared.Found.TheVariants.{At, Absent}
 use Rattle.edges.specs.Listing.{firsts}
 use Rattle.groups.specs.CellEdges.{edges_in, pairs_ok}
 use Rattle.groups.specs.Near.{number_between}
@@ -12,9 +10,9 @@ abbrev pub past_last : ℕ → ℕ
 past_last n = cond (leb n 1048576) n 0
 
 -- a number that was found, or the one past the last
-abbrev pub number_or : ℕ → Found → ℕ
-number_or n (At i) = i
-number_or n Absent = past_last n
+abbrev pub number_or : ℕ → Option ℕ → ℕ
+number_or n (Some i) = i
+number_or n None = past_last n
 
 -- the vertex between two cells, searched from an edge on that is expected near
 unfoldable pub vertex_by : List ℕ → List ℕ → ℕ → ℕ → ℕ → ℕ → ℕ

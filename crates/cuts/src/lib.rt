@@ -9,7 +9,6 @@ ghost use Rattle.cuts.specs.Patches.{triangle_of, patch_by};
 ghost use Rattle.cuts.specs.Numbers.{past_last, vertex_by};
 
 use lists::LONGEST_LIST;
-use search::Found;
 
 // Four keys, ascending.
 #[derive(Clone, Copy)]
@@ -161,8 +160,8 @@ fn vertex(first: &[u64], second: &[u64], edges: usize, near: usize, a: u64, b: u
     ensures { result ≡ vertex_by first.now second.now edges near a b }
 {
     match groups::number_between(first, second, edges, near, a, b) {
-        Found::At(i) => i as u32,
-        Found::Absent => past_last(edges),
+        Some(i) => i as u32,
+        None => past_last(edges),
     }
 }
 

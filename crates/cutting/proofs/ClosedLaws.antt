@@ -1,6 +1,7 @@
 -- What the scan lists on an accepted table are the closed edges, so the two lists hold them, and what was put from the front stands there where it has
 -- room.
 -- Assumes nothing.
+use Rattle.std.specs.Prelude.{Ok, Err, Result}
 use Prim.Native.Nat.{ℕ, ◌-◌}
 use native.Mathlib.Omega.{arith}
 use mathlib.Core.Path.{◌≡◌, refl, sym, ap, ◌∙◌}
@@ -15,15 +16,11 @@ use Rattle.lists.specs.Padding.{padded}
 use Rattle.lists.specs.Places.{cleared_from}
 use Rattle.lists.specs.Listing.{room_for, count_of, held_for}
 use Rattle.lists.specs.Threes.{Three, column0, column1, column2}
-use Rattle.lists.specs.declared.Listed.{Listed}
-use Rattle.lists.specs.declared.Listed.TheVariants.{Count, Refused as Refused'}
 use Rattle.lists.proofs.Bools.{and_first, and_second, and_eq}
 use Rattle.lists.proofs.Held.{written_held, refused_held}
 use Rattle.lists.proofs.PaddingLaws.{padded_length}
 use Rattle.refusals.specs.declared.Refusal.{Refusal}
 use Rattle.table.specs.Table.{Row, Table, table, rows}
-use Rattle.table.specs.declared.Checked.{Checked}
-use Rattle.table.specs.declared.Checked.TheVariants.{Passed, Refused}
 use Rattle.edges.specs.Edges.{Edge}
 use Rattle.edges.specs.Surfaces.{edges_on}
 use Rattle.edges.specs.Listing.{firsts, seconds, answer_if}
@@ -39,7 +36,7 @@ use Rattle.tetrahedra.proofs.ScanLaws.{closed_edges_scan}
 use Rattle.cutting.specs.Steps.{Puts, OwnIf, IsCut}
 use Rattle.cutting.specs.Closing.{closed_answer, three_ok, cut_answer, triangles_answer}
 
-module _ (v : Checked) (ks : List ℕ) (ds ws : List Float) (cnt a b : ℕ) (tested : Tested v ks ds ws cnt a b) where
+module _ (v : Result (Unit {0}) Refusal) (ks : List ℕ) (ds ws : List Float) (cnt a b : ℕ) (tested : Tested v ks ds ws cnt a b) where
   abbrev t : Table
   t = table ks ds ws cnt
 
@@ -47,33 +44,33 @@ module _ (v : Checked) (ks : List ℕ) (ds ws : List Float) (cnt a b : ℕ) (tes
   es = edges_on surface.Closed (rows t)
 
   -- where the tests pass, the scan finds the closed edges
-  scanned : v ≡ Passed → es ≡ closed_edges (rows t)
+  scanned : v ≡ (Ok tt) → es ≡ closed_edges (rows t)
   scanned pass = closed_edges_scan (rows t) (rows_rise ks ds ws cnt (tested pass).0)
 
   pub closed_answer_lem : answer_if v es a ≡ closed_answer v t a
   unfolding closed_answer answer_if
   closed_answer_lem = go v refl
     where
-      go : (c : Checked) → v ≡ c → answer_if c es a ≡ answer_if c (closed_edges (rows t)) a
-      go Passed q = ap (λ (xs : List Edge). room_for (length xs) a) (scanned q)
-      go (Refused why) q = refl
+      go : (c : Result (Unit {0}) Refusal) → v ≡ c → answer_if c es a ≡ answer_if c (closed_edges (rows t)) a
+      go (Ok tt) q = ap (λ (xs : List Edge). room_for (length xs) a) (scanned q)
+      go (Err why) q = refl
 
   -- a list that holds a column of what the scan finds holds that of the closed edges
   pub column_closed : (f : Edge → ℕ) (room : ℕ)
       → held_for 0 (answer_if v es a) room (map f es) ≡ held_for 0 (closed_answer v t a) room (map f (closed_edges (rows t)))
   unfolding answer_if held_for
-  column_closed f room = go v refl ∙ ap (λ (l : Listed). held_for 0 l room (map f (closed_edges (rows t)))) closed_answer_lem
+  column_closed f room = go v refl ∙ ap (λ (l : Result ℕ Refusal). held_for 0 l room (map f (closed_edges (rows t)))) closed_answer_lem
     where
-      go : (c : Checked) → v ≡ c → held_for 0 (answer_if c es a) room (map f es) ≡ held_for 0 (answer_if c es a) room (map f (closed_edges (rows t)))
-      go Passed q = ap (λ (xs : List Edge). held_for 0 (room_for (length es) a) room (map f xs)) (scanned q)
-      go (Refused why) q = refl
+      go : (c : Result (Unit {0}) Refusal) → v ≡ c → held_for 0 (answer_if c es a) room (map f es) ≡ held_for 0 (answer_if c es a) room (map f (closed_edges (rows t)))
+      go (Ok tt) q = ap (λ (xs : List Edge). held_for 0 (room_for (length es) a) room (map f xs)) (scanned q)
+      go (Err why) q = refl
 
-  module _ (e : Listed) (answer : e ≡ answer_if v es a) where
+  module _ (e : Result ℕ Refusal) (answer : e ≡ answer_if v es a) where
     -- a list that holds such a column, by the answer
     pub held_closed : (f : Edge → ℕ) (room : ℕ) (l : List ℕ)
         → l ≡ held_for 0 e room (map f es)
         → l ≡ held_for 0 (closed_answer v t a) room (map f (closed_edges (rows t)))
-    held_closed f room l h = h ∙ ap (λ (x : Listed). held_for 0 x room (map f es)) answer ∙ column_closed f room
+    held_closed f room l h = h ∙ ap (λ (x : Result ℕ Refusal). held_for 0 x room (map f es)) answer ∙ column_closed f room
 
     -- the two lists hold the closed edges of an accepted table
     pub own_listed : (f' s' : List ℕ) → f' ≡ held_for 0 e a (firsts es) → s' ≡ held_for 0 e b (seconds es) → OwnIf e ks ds ws cnt f' s'
@@ -82,8 +79,8 @@ module _ (v : Checked) (ks : List ℕ) (ds ws : List Float) (cnt a b : ℕ) (tes
         let c = counted_only v es a n (sym answer ∙ h) in
         let acc = tested c.0 in
         let outputs = acc.1 in
-        let fd : f' ≡ padded 0 a (firsts es) = p ∙ ap (λ (x : Listed). held_for 0 x a (firsts es)) h in
-        let sd : s' ≡ padded 0 b (seconds es) = q ∙ ap (λ (x : Listed). held_for 0 x b (seconds es)) h in
+        let fd : f' ≡ padded 0 a (firsts es) = p ∙ ap (λ (x : Result ℕ Refusal). held_for 0 x a (firsts es)) h in
+        let sd : s' ≡ padded 0 b (seconds es) = q ∙ ap (λ (x : Result ℕ Refusal). held_for 0 x b (seconds es)) h in
         let fl : length f' ≡ a = ap length fd ∙ padded_length 0 a (firsts es) (omega (arith, length-map es (λ (x : Edge). x.first), c.2)) in
         let sl : length s' ≡ b =
         ap length sd ∙ padded_length 0 b (seconds es) (omega (arith, length-map es (λ (x : Edge). x.second), outputs_same a b outputs, c.2)) in
@@ -105,7 +102,7 @@ even_three x y z ok =
     (sym (eqb-true x y (and_first (eqb x y) _ both)), sym (eqb-true x z (and_second (eqb x y) _ both)))
 
 module _ (rs : List Row) (x y z : List ℕ) (n : ℕ) (x' y' z' : List ℕ) (w : Puts (closed_triangles rs) 0 x y z n x' y' z')
-    (ok : three_ok (length x) (length y) (length z) ≡ true) (r : Listed) (told : r ≡ room_for n (length x')) where
+    (ok : three_ok (length x) (length y) (length z) ≡ true) (r : Result ℕ Refusal) (told : r ≡ room_for n (length x')) where
   abbrev ts : List (Three ℕ)
   ts = closed_triangles rs
 
@@ -125,7 +122,7 @@ module _ (rs : List Row) (x y z : List ℕ) (n : ℕ) (x' y' z' : List ℕ) (w :
       → cleared_from 0 (count_of r) l' ≡ held_for 0 r (length l) (map f ts)
   column_put f l l' long q = rw (room, ← long) (written_held 0 l (map f ts) n l' (counted ∙ sym (length-map ts f)) q)
 
-  pub put_cut : (m : ℕ) → IsCut (Count m) rs x y z r x' y' z'
+  pub put_cut : (m : ℕ) → IsCut (Ok m) rs x y z r x' y' z'
   put_cut m =
       record {
         answer = rw ok (room ∙ ap (λ (k : ℕ). room_for k (length x)) counted);
@@ -135,9 +132,9 @@ module _ (rs : List Row) (x y z : List ℕ) (n : ℕ) (x' y' z' : List ℕ) (w :
       }
 
 -- and where nothing is put, since it is refused
-pub refused_cut : (e : Listed) (rs : List Row) (x y z : List ℕ) (why : Refusal)
-    → Refused' why ≡ cut_answer e (closed_triangles rs) (length x) (length y) (length z)
-    → IsCut e rs x y z (Refused' why) x y z
+pub refused_cut : (e : Result ℕ Refusal) (rs : List Row) (x y z : List ℕ) (why : Refusal)
+    → Err why ≡ cut_answer e (closed_triangles rs) (length x) (length y) (length z)
+    → IsCut e rs x y z (Err why) x y z
 refused_cut e rs x y z why q =
     let ts = closed_triangles rs in
     record {
@@ -149,16 +146,16 @@ refused_cut e rs x y z why q =
 
 -- ---- the whole call
 
-pub cut_answered : (v : Checked) (t : Table) (a x y z : ℕ) (e r : Listed)
+pub cut_answered : (v : Result (Unit {0}) Refusal) (t : Table) (a x y z : ℕ) (e r : Result ℕ Refusal)
     → e ≡ closed_answer v t a
     → r ≡ cut_answer e (closed_triangles (rows t)) x y z
     → r ≡ triangles_answer v t a x y z
 unfolding triangles_answer
-cut_answered v t a x y z e r p q = q ∙ ap (λ (l : Listed). cut_answer l (closed_triangles (rows t)) x y z) p
+cut_answered v t a x y z e r p q = q ∙ ap (λ (l : Result ℕ Refusal). cut_answer l (closed_triangles (rows t)) x y z) p
 
-pub cleared_to : (r a : Listed) → r ≡ a → (n : ℕ) → n ≡ count_of r
+pub cleared_to : (r a : Result ℕ Refusal) → r ≡ a → (n : ℕ) → n ≡ count_of r
     → (l l' : List ℕ) (room : ℕ) (xs : List ℕ)
     → l' ≡ cleared_from 0 n l
     → cleared_from 0 (count_of r) l ≡ held_for 0 r room xs
     → l' ≡ held_for 0 a room xs
-cleared_to r a e n c l l' room xs w h = cleared_held r n c l l' room xs w h ∙ ap (λ (x : Listed). held_for 0 x room xs) e
+cleared_to r a e n c l l' room xs w h = cleared_held r n c l l' room xs w h ∙ ap (λ (x : Result ℕ Refusal). held_for 0 x room xs) e

@@ -1,10 +1,8 @@
 -- What the private functions promise each other.
-use Rattle.std.specs.Prelude.{ℕ, ◌+◌, ◌*◌, ◌≤◌, ◌<◌, ◌≡◌, Bool, true, false, cond, List, ltb, eqb, Float, length, get_or}
+use Rattle.std.specs.Prelude.{ℕ, ◌+◌, ◌*◌, ◌≤◌, ◌<◌, ◌≡◌, Bool, true, false, cond, List, ltb, eqb, Float, length, get_or, Ok, Result}
 use Rattle.std.proofs.lemmas.List.Edits.{sets}
 use Rattle.lists.specs.Places.{cleared_from}
 use Rattle.lists.specs.Listing.{count_of, held_for}
-use Rattle.lists.specs.declared.Listed.{Listed}
-use Rattle.lists.specs.declared.Listed.TheVariants.{Count}
 use Rattle.lists.specs.Threes.{Three, column0, column1, column2}
 use Rattle.neighbors.specs.Neighbors.{adjacent}
 use Rattle.table.specs.Table.{Row, rows_of}
@@ -13,6 +11,7 @@ use Rattle.groups.specs.CellEdges.{edges_in, pairs_ok}
 use Rattle.tetrahedra.specs.ClosedEdges.{closed_edges}
 use Rattle.tetrahedra.specs.ClosedTriangles.{closed_triangles}
 use Rattle.cutting.specs.Closing.{cut_answer}
+use Rattle.refusals.specs.declared.Refusal.{Refusal}
 
 -- three lists of equal length
 pub record Even (x y z : List ℕ) : Type 0 where
@@ -51,11 +50,11 @@ pub record Own (ks : List ℕ) (ds ws : List Float) (n : ℕ) (first second : Li
   pub edges : edges_in first second m ≡ closed_edges (rows_of ks ds ws n)
 
 -- the same, where edges were listed
-abbrev pub OwnIf : Listed → List ℕ → List Float → List Float → ℕ → List ℕ → List ℕ → Type 0
-OwnIf e ks ds ws n first second = (m : ℕ) → e ≡ Count m → Own ks ds ws n first second m
+abbrev pub OwnIf : Result ℕ Refusal → List ℕ → List Float → List Float → ℕ → List ℕ → List ℕ → Type 0
+OwnIf e ks ds ws n first second = (m : ℕ) → e ≡ Ok m → Own ks ds ws n first second m
 
 -- the triangles of rows by the answer to their edges: what is answered, and what the three lists hold once they are cleared past their count
-pub record IsCut (e : Listed) (rs : List Row) (x y z : List ℕ) (r : Listed) (x' y' z' : List ℕ) : Type 0 where
+pub record IsCut (e : Result ℕ Refusal) (rs : List Row) (x y z : List ℕ) (r : Result ℕ Refusal) (x' y' z' : List ℕ) : Type 0 where
   pub answer : r ≡ cut_answer e (closed_triangles rs) (length x) (length y) (length z)
   pub t0 : cleared_from 0 (count_of r) x' ≡ held_for 0 r (length x) (column0 (closed_triangles rs))
   pub t1 : cleared_from 0 (count_of r) y' ≡ held_for 0 r (length y) (column1 (closed_triangles rs))

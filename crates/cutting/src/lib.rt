@@ -19,15 +19,14 @@ ghost use Rattle.cutting.specs.Closing.{three_ok, IsClosed};
 
 use cuts::{Corners, Patch, Sides, Triangle};
 use edges::Surface;
-use lists::{LONGEST_LIST, Listed};
+use lists::LONGEST_LIST;
 use refusals::Refusal;
-use table::Checked;
 
 // What is answered to the closed mesh's edges, and to its triangles.
 #[derive(Clone, Copy)]
 pub struct ClosedListed {
-    pub edges: Listed,
-    pub triangles: Listed,
+    pub edges: Result<usize, Refusal>,
+    pub triangles: Result<usize, Refusal>,
 }
 
 // A triangle at a place of three lists; nothing where they have no such place.
@@ -70,10 +69,8 @@ fn mark_meets(cells: &[u64], i: usize, meets: &mut [bool])
     requires { (i < length cells.now) × (length cells.now ≤ 14) × (length meets.old ≡ 196) × MeetsUpTo cells.now i meets.old }
     ensures { MeetsUpTo cells.now (i + 1) meets.new }
 {
-    let mut l = i + 1;
-    while l < cells.len() {
+    for l in i + 1..cells.len() {
         meets[14 * i + l] = neighbors::are_adjacent(cells[i], cells[l]);
-        l += 1;
     }
 }
 
@@ -83,10 +80,8 @@ fn meets_of(cells: &[u64]) -> [bool; 196]
     ensures { Meets cells.now result }
 {
     let mut meets = [false; 196];
-    let mut i = 0;
-    while i < cells.len() {
+    for i in 0..cells.len() {
         mark_meets(cells, i, &mut meets);
-        i += 1;
     }
     meets
 }
@@ -161,13 +156,11 @@ fn cut_third(
     ensures upper_bound { result ≤ at + 28 }
 {
     let mut end = at;
-    let mut l = j + 1;
-    while l < cells.len() {
+    for l in j + 1..cells.len() {
         let patch = patch_at(
             own, side, cells, inside, meets, i, j, l, first, second, edges, near,
         );
         end = put_patch(patch, end, t0, t1, t2);
-        l += 1;
     }
     end
 }
@@ -197,14 +190,12 @@ fn cut_second(
     ensures upper_bound { result ≤ at + 392 }
 {
     let mut end = at;
-    let mut j = i + 1;
-    while j < cells.len() {
+    for j in i + 1..cells.len() {
         if meets[14 * i + j] {
             end = cut_third(
                 own, side, cells, inside, meets, i, j, first, second, edges, near, end, t0, t1, t2,
             );
         }
-        j += 1;
     }
     end
 }
@@ -233,12 +224,10 @@ fn cut_first(
 {
     let meets = meets_of(cells);
     let mut end = at;
-    let mut i = 0;
-    while i < cells.len() {
+    for i in 0..cells.len() {
         end = cut_second(
             own, side, cells, inside, &meets, i, first, second, edges, near, end, t0, t1, t2,
         );
-        i += 1;
     }
     end
 }
@@ -355,13 +344,11 @@ fn cut_rows(
 {
     let mut near = 0;
     let mut end = 0;
-    let mut row = 0;
-    while row < count {
+    for row in 0..count {
         near = search::place_near(first, edges, near, keys[row]);
         end = cut_next(
             keys, distances, weights, count, row, first, second, edges, near, end, t0, t1, t2,
         );
-        row += 1;
     }
     end
 }
@@ -385,13 +372,13 @@ fn cut_listed(
     t0: &mut [u32],
     t1: &mut [u32],
     t2: &mut [u32],
-) -> Listed
+) -> Result<usize, Refusal>
     requires { Own keys.now distances.now weights.now count first.now second.now edges }
     ensures { IsCut (Count edges) (rows_of keys.now distances.now weights.now count)
         t0.old t1.old t2.old result t0.new t1.new t2.new }
 {
     if !three_ok(t0.len(), t1.len(), t2.len()) {
-        return Listed::Refused(Refusal::Lengths);
+        return Err(Refusal::Lengths);
     }
     let n = cut_rows(
         keys, distances, weights, count, first, second, edges, t0, t1, t2,
@@ -401,7 +388,7 @@ fn cut_listed(
 
 // The triangles by the answer to the edges.
 fn cut_checked(
-    edges: Listed,
+    edges: Result<usize, Refusal>,
     keys: &[u64],
     distances: &[f32],
     weights: &[f32],
@@ -411,23 +398,23 @@ fn cut_checked(
     t0: &mut [u32],
     t1: &mut [u32],
     t2: &mut [u32],
-) -> Listed
+) -> Result<usize, Refusal>
     requires { OwnIf edges keys.now distances.now weights.now count first.now second.now }
     ensures { IsCut edges (rows_of keys.now distances.now weights.now count)
         t0.old t1.old t2.old result t0.new t1.new t2.new }
 {
     match edges {
-        Listed::Count(n) => cut_listed(
+        Ok(n) => cut_listed(
             keys, distances, weights, count, first, second, n, t0, t1, t2,
         ),
-        Listed::Refused(why) => Listed::Refused(why),
+        Err(why) => Err(why),
     }
 }
 
 // The closed mesh's edges in two lists and its triangles in three, by the verdict of the tests: what they refuse stays refused, then 6 exactly
 // when one would outgrow its own lists.
 pub fn list_closed(
-    verdict: Checked,
+    verdict: Result<(), Refusal>,
     keys: &[u64],
     distances: &[f32],
     weights: &[f32],

@@ -1,5 +1,6 @@
 -- On an accepted table the search finds the weights of the rows, so two rows cross as the definition says.
 -- Assumes nothing.
+use Rattle.std.specs.Prelude.{Some, None, Option}
 use Prim.Native.Nat.{ℕ, ◌<◌}
 use native.Mathlib.Omega.{arith}
 use mathlib.Core.Path.{◌≡◌, refl, fun_ext}
@@ -13,20 +14,18 @@ use Rattle.rings.specs.Rings.{weighted_at, weighted_found, weighted_by, joint_by
 use Rattle.search.specs.Keys.{find_by}
 use Rattle.search.specs.Nearby.{find_near}
 use Rattle.search.proofs.NearbyLaws.{find_near_lem}
-use Rattle.search.specs.declared.Found.{Found}
-use Rattle.search.specs.declared.Found.TheVariants.{At, Absent}
 use Rattle.table.specs.Table.{Row, rows_of}
 use Rattle.edges.specs.Steps.{Accepted, row_at}
 use Rattle.edges.proofs.ListingLaws.{place_below, none_stored, one_stored}
 
 module _ (ks : List ℕ) (ds ws : List Float) (n : ℕ) (acc : Accepted ks ds ws n) where
   -- the weight where a search finds a key is that of the row
-  pub found_weight : (key : ℕ) (f : Found) → f ≡ find_by key (take n ks) → weighted_found ws f ≡ weighted_at (rows_of ks ds ws n) key
+  pub found_weight : (key : ℕ) (f : Option ℕ) → f ≡ find_by key (take n ks) → weighted_found ws f ≡ weighted_at (rows_of ks ds ws n) key
   unfolding weighted_found weighted_at weighted
-  found_weight key (At i) e =
-      let h : i < length ws = omega (arith, place_below ks ds ws n acc key (At i) e i refl, acc.fits, acc.weights) in
-      rw (lt-ltb i (length ws) h, one_stored ks ds ws n acc key (At i) e i refl)
-  found_weight key Absent e = rw (none_stored ks ds ws n acc key Absent e refl)
+  found_weight key (Some i) e =
+      let h : i < length ws = omega (arith, place_below ks ds ws n acc key (Some i) e i refl, acc.fits, acc.weights) in
+      rw (lt-ltb i (length ws) h, one_stored ks ds ws n acc key (Some i) e i refl)
+  found_weight key None e = rw (none_stored ks ds ws n acc key None e refl)
 
   weighted_by_lem : (near : ℕ) → weighted_by ks ws n near ≡ weighted_at (rows_of ks ds ws n)
   weighted_by_lem near = fun_ext (λ key. found_weight key (find_near key (take n ks) near) (find_near_lem key (take n ks) near acc.rising))

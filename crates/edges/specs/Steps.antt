@@ -1,13 +1,12 @@
 -- What the private functions promise each other.
-use Rattle.std.specs.Prelude.{ℕ, ◌+◌, ◌≤◌, ◌≡◌, true, List, Float, length, get_or, take}
+use Rattle.std.specs.Prelude.{ℕ, ◌+◌, ◌≤◌, ◌≡◌, true, List, Float, length, get_or, take, Ok, Result}
 use Rattle.std.specs.Float.{nan}
 use Rattle.std.proofs.lemmas.List.Edits.{sets}
 use Rattle.search.specs.Keys.{ascending}
 use Rattle.table.specs.Table.{Row, row}
 use Rattle.edges.specs.Edges.{Edge}
-use Rattle.table.specs.declared.Checked.{Checked}
-use Rattle.table.specs.declared.Checked.TheVariants.{Passed}
 use Rattle.edges.specs.Listing.{firsts, seconds, outputs_ok}
+use Rattle.refusals.specs.declared.Refusal.{Refusal}
 
 -- a table that refusals 1 to 3 let pass, as far as edges need it
 pub record Accepted (ks : List ℕ) (ds ws : List Float) (n : ℕ) : Type 0 where
@@ -18,8 +17,8 @@ pub record Accepted (ks : List ℕ) (ds ws : List Float) (n : ℕ) : Type 0 wher
   pub rising : ascending (take n ks) ≡ true
 
 -- what a verdict that passed tells of a table, and of two lists of lengths a and b
-abbrev pub Tested : Checked → List ℕ → List Float → List Float → ℕ → ℕ → ℕ → Type 0
-Tested v ks ds ws n a b = v ≡ Passed → Accepted ks ds ws n × (outputs_ok a b ≡ true)
+abbrev pub Tested : Result (Unit {0}) Refusal → List ℕ → List Float → List Float → ℕ → ℕ → ℕ → Type 0
+Tested v ks ds ws n a b = v ≡ (Ok tt) → Accepted ks ds ws n × (outputs_ok a b ≡ true)
 
 -- the row at a place
 abbrev pub row_at : List ℕ → List Float → List Float → ℕ → Row

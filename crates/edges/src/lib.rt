@@ -14,9 +14,9 @@ ghost use Rattle.edges.specs.Surfaces.{crosses_on, edges_on};
 ghost use Rattle.edges.specs.Listing.{firsts, seconds, outputs_ok, checked_for, answer_if, edges_answer, firsts_held, seconds_held};
 ghost use Rattle.edges.specs.Steps.{Accepted, Tested, row_at, Wrote};
 
-use lists::{LONGEST_LIST, Listed};
-use search::Found;
-use table::{Checked, Settings};
+use lists::LONGEST_LIST;
+use table::Settings;
+use refusals::Refusal;
 
 // Which surface is asked for: document 01's, whose edges are the zero crossings; or the one that closes (document 02, No. 14), whose edges are the
 // crossed edges of tetrahedra.
@@ -34,7 +34,7 @@ fn crosses(distance: f32, weight: f32, other: f32, beside: f32) -> bool
 }
 
 // Where a key above that of a row stands among the first `count`: the search begins past the row.
-fn find_beside(keys: &[u64], count: usize, row: usize, key: u64) -> Found
+fn find_beside(keys: &[u64], count: usize, row: usize, key: u64) -> Option<usize>
     requires { (count ≤ length keys.now) × (ascending (take count keys.now) ≡ true) × (row < count) × (get_or keys.now row 0 < key) }
     ensures { result ≡ find_by key (take count keys.now) }
 {
@@ -113,7 +113,7 @@ fn is_listed(
     if key <= keys[row] {
         return false;
     }
-    let Found::At(place) = find_beside(keys, count, row, key) else {
+    let Some(place) = find_beside(keys, count, row, key) else {
         return false;
     };
     crosses_at(surface, keys, distances, weights, count, row, place)
@@ -156,14 +156,12 @@ fn list_row(
     let cells = near.keys;
     let n = near.count;
     let mut end = at;
-    let mut i = 0;
-    while i < n {
+    for i in 0..n {
         let k = cells[i];
         if is_listed(surface, keys, distances, weights, count, row, k) {
             put_edge(first, second, end, key, k);
             end += 1;
         }
-        i += 1;
     }
     end
 }
@@ -184,12 +182,10 @@ fn list_edges(
         second.old result first.new second.new }
 {
     let mut end = 0;
-    let mut row = 0;
-    while row < count {
+    for row in 0..count {
         end = list_row(
             surface, keys, distances, weights, count, row, end, first, second,
         );
-        row += 1;
     }
     end
 }
@@ -203,7 +199,7 @@ fn check(
     count: usize,
     first: usize,
     second: usize,
-) -> Checked
+) -> Result<(), Refusal>
     ensures { result ≡ checked_for settings (table keys.now distances.now weights.now count) first second }
 {
     table::check_with(
@@ -226,14 +222,14 @@ fn outputs_ok(first: usize, second: usize) -> bool
 // The edges, where the tests passed; the places past them are left to be cleared.
 fn list_checked(
     surface: Surface,
-    verdict: Checked,
+    verdict: Result<(), Refusal>,
     keys: &[u64],
     distances: &[f32],
     weights: &[f32],
     count: usize,
     first: &mut [u64],
     second: &mut [u64],
-) -> Listed
+) -> Result<usize, Refusal>
     requires { Tested verdict keys.now distances.now weights.now count (length first.old) (length second.old) }
     ensures value { result ≡ answer_if verdict
         (edges_on surface (rows_of keys.now distances.now weights.now count))
@@ -247,8 +243,8 @@ fn list_checked(
         (seconds (edges_on surface
         (rows_of keys.now distances.now weights.now count))) }
 {
-    if let Checked::Refused(why) = verdict {
-        return Listed::Refused(why);
+    if let Err(why) = verdict {
+        return Err(why);
     }
     let n = list_edges(surface, keys, distances, weights, count, first, second);
     lists::room_for(n, first.len())
@@ -257,14 +253,14 @@ fn list_checked(
 // The edges of a surface in two lists, by the verdict of the tests: what they refuse stays refused.
 pub fn list_tested(
     surface: Surface,
-    verdict: Checked,
+    verdict: Result<(), Refusal>,
     keys: &[u64],
     distances: &[f32],
     weights: &[f32],
     count: usize,
     first: &mut [u64],
     second: &mut [u64],
-) -> Listed
+) -> Result<usize, Refusal>
     requires { Tested verdict keys.now distances.now weights.now count (length first.old) (length second.old) }
     ensures value { result ≡ answer_if verdict
         (edges_on surface (rows_of keys.now distances.now weights.now count))
@@ -294,7 +290,7 @@ pub fn get_zero_crossing_edges(
     count: usize,
     first: &mut [u64],
     second: &mut [u64],
-) -> Listed
+) -> Result<usize, Refusal>
     ensures value { result ≡ edges_answer settings
         (table keys.now distances.now weights.now count) (length first.old)
         (length second.old) }

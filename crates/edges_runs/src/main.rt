@@ -2,8 +2,8 @@
 // in rooms of 14 and 13, and the empty table.
 #![tactic(auto)]
 
-use lists::Listed;
 use table::{Settings, settings_of};
+use refusals::Refusal;
 
 // The sample's settings: truncation 1, maximum weight 100, size 1.
 fn settings() -> Settings {
@@ -11,7 +11,7 @@ fn settings() -> Settings {
 }
 
 // Edges of the first `count` of 15 rows in two lists: (10, 10, 10), whose key is 3640, and its neighbours.
-fn edges_of(count: usize, first: &mut [u64], second: &mut [u64]) -> Listed {
+fn edges_of(count: usize, first: &mut [u64], second: &mut [u64]) -> Result<usize, Refusal> {
     let keys = [
         3591, 3599, 3607, 3608, 3615, 3623, 3624, 3631, 3632, 3639, 3640, 3647, 3696, 3752, 3864,
     ];
@@ -30,14 +30,14 @@ fn edges_of(count: usize, first: &mut [u64], second: &mut [u64]) -> Listed {
 }
 
 // A line for an answer.
-fn say(listed: Listed) {
+fn say(listed: Result<usize, Refusal>) {
     match listed {
-        Listed::Count(n) => {
+        Ok(n) => {
             io::write_all(1, b"edges ");
             io::print_decimal(1, n as u64);
             io::write_all(1, b"\n");
         }
-        Listed::Refused(why) => {
+        Err(why) => {
             io::write_all(1, b"refused ");
             io::print_decimal(1, refusals::number(why) as u64);
             io::write_all(1, b"\n");

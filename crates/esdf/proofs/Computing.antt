@@ -1,4 +1,5 @@
 -- The public call: the tests say what the march may build on, and its answer says what the lists hold. Assumes nothing.
+use Rattle.std.specs.Prelude.{Ok, Err, Result}
 use mathlib.Core.Path.{◌≡◌, refl, sym, ap, subst, ◌∙◌}
 use mathlib.Core.Bool.{Bool, true, ◌&&◌}
 use mathlib.Core.List.{List, [], ◌∷◌}
@@ -20,8 +21,6 @@ use Rattle.refusals.specs.declared.Refusal.TheVariants.{BadReading}
 use Rattle.search.specs.Keys.{ascending}
 use Rattle.table.specs.Table.{Row, Table, table, rows_of, rows, settings_ok, lengths_ok, row_ok, rows_ok, need, check_with}
 use Rattle.table.specs.declared.Settings.{Settings}
-use Rattle.table.specs.declared.Checked.{Checked}
-use Rattle.table.specs.declared.Checked.TheVariants as checked
 use Rattle.table.proofs.RowLaws.{lengths_known}
 use Rattle.marching.specs.March.{Rooms, rooms, Going, keys_of, distances_of}
 use Rattle.marching.specs.Lattice.{march_from}
@@ -35,8 +34,6 @@ use Rattle.floats.proofs.Order.{within_finite, between_finite}
 use Rattle.table.specs.Rows.{keys_of as table_keys}
 use Rattle.table.proofs.Laying.{columns, distances_of as table_distances, weights_of as table_weights}
 use Rattle.table.proofs.SettingsLaws.{settings_known, farthest_known}
-use Rattle.esdf.specs.declared.Marched.{Marched}
-use Rattle.esdf.specs.declared.Marched.TheVariants as marched
 use Rattle.esdf.specs.Steps.{Finished, MayMarch, tidied}
 use Rattle.esdf.specs.Compute.{Places, places, set_ok, march_check, tested, marching, outcome, answer_of, keys_left, distances_left, left, computed}
 
@@ -51,10 +48,10 @@ pub record Tested (s : Settings) (t : Table) (threshold : Float) (fit : Bool) : 
   pub order : ascending (take t.count t.keys) ≡ true
   pub reading : is_finite threshold ≡ true
 
-pub tests : (s : Settings) (t : Table) (threshold : Float) (fit : Bool) → march_check s t threshold fit ≡ checked.Passed → Tested s t threshold fit
+pub tests : (s : Settings) (t : Table) (threshold : Float) (fit : Bool) → march_check s t threshold fit ≡ (Ok tt) → Tested s t threshold fit
 unfolding march_check
 tests s t threshold fit e =
-    let a = went_on (check_with fit s t) (need (is_finite threshold) BadReading checked.Passed) e in
+    let a = went_on (check_with fit s t) (need (is_finite threshold) BadReading (Ok tt)) e in
     let b = with_passed fit s t a.0 in
     let k = sound s t b.1 in
     record {
@@ -63,7 +60,7 @@ tests s t threshold fit e =
       places = b.0;
       rows = k.ranges;
       order = k.order;
-      reading = (need_passed (is_finite threshold) BadReading checked.Passed a.1).0;
+      reading = (need_passed (is_finite threshold) BadReading (Ok tt) a.1).0;
     }
 
 -- each row is in its ranges
@@ -77,7 +74,7 @@ rows_at most (r ∷ rs) h (suc i) l = rows_at most rs (and_second (row_ok most r
 -- the table's keys ascend and are on the lattice, its distances are finite
 pub tested_table :
     (s : Settings) (ks : List ℕ) (ds ws : List Float) (n : ℕ) (threshold : Float) (fit : Bool)
-    → march_check s (table ks ds ws n) threshold fit ≡ checked.Passed
+    → march_check s (table ks ds ws n) threshold fit ≡ (Ok tt)
     → Tabled ks ds ws n
 unfolding of_bits
 tested_table s ks ds ws n threshold fit e =
@@ -105,7 +102,7 @@ tested_table s ks ds ws n threshold fit e =
         rw (c.0, c.1, c.2, get_or-take n ks i 0 k, get_or-take n ds i nan k, get_or-take n ws i nan k) at r
 
 -- the maximum distance is finite and at least 0
-pub tested_course : (s : Settings) (t : Table) (threshold : Float) (fit : Bool) → march_check s t threshold fit ≡ checked.Passed
+pub tested_course : (s : Settings) (t : Table) (threshold : Float) (fit : Bool) → march_check s t threshold fit ≡ (Ok tt)
     → Fair (record { size = s.voxel_size.0; most = s.max_distance.0 })
 unfolding of_bits
 tested_course s t threshold fit e =
@@ -127,7 +124,7 @@ whole_room : (y : ℕ) → y - 0 ≡ y
 whole_room y = omega arith
 
 five :
-    {r r' : Marched} {ks ks' : List ℕ} {ds ds' es es' : List Float} {cs cs' : List ℕ}
+    {r r' : Result (ℕ × ℕ) Refusal} {ks ks' : List ℕ} {ds ds' es es' : List Float} {cs cs' : List ℕ}
     → r ≡ r'
     → ks ≡ ks'
     → ds ≡ ds'
@@ -139,12 +136,12 @@ five a b c d e = cc
 -- what a march finished, tidied, is what it leaves
 module _ (p : Places) (g : Going) (ks : List ℕ) (ds es : List Float) (cs : List ℕ) (lk : length ks ≡ p.keys)
     (ld : length ds ≡ p.distances) (le : length es ≡ p.estimates) (lc : length cs ≡ p.cells) where
-  leaves : (r : Marched) → Finished g r ks ds es cs → outcome r (tidied 0 r ks) (tidied zero32 r ds) (tidied zero32 r es) (tidied 0 r cs) ≡ left p g
+  leaves : (r : Result (ℕ × ℕ) Refusal) → Finished g r ks ds es cs → outcome r (tidied 0 r ks) (tidied zero32 r ds) (tidied zero32 r es) (tidied 0 r cs) ≡ left p g
   unfolding Finished tidied left answer_of keys_left distances_left padded
-  leaves (marched.Refused why) f =
+  leaves (Err why) f =
       rw f (five refl (ap (λ (i : ℕ). replicate i 0) lk) (ap (λ (i : ℕ). replicate i zero32) ld)
       (ap (λ (i : ℕ). replicate i zero32) le) (ap (λ (i : ℕ). replicate i 0) lc))
-  leaves (marched.Done n k) f =
+  leaves (Ok (n, k)) f =
       let s = f.0 in
       let h = f.1.1.1 in
       let b : length ds ≡ length ks =
@@ -153,14 +150,14 @@ module _ (p : Places) (g : Going) (ks : List ℕ) (ds es : List Float) (cs : Lis
       let e : length es ≡ length cs = ap length h.estimates ∙ padded_length zero32 (length cs) [] (omega arith) in
       rw f.1.0
       (five
-      (ap (λ (i : ℕ). marched.Done i k) h.count ∙ ap (marched.Done (length s.stored)) (sym f.1.1.0))
+      (ap (λ (i : ℕ). Ok (i, k)) h.count ∙ ap ((λ a. Ok ((length s.stored), a))) (sym f.1.1.0))
       (h.keys ∙ ap (λ (i : ℕ). padded 0 i (keys_of s.stored)) lk)
       (h.distances ∙ ap (λ (i : ℕ). padded zero32 i (distances_of s.stored)) (sym b ∙ ld))
       (h.estimates ∙ ap (λ (i : ℕ). replicate i zero32) (whole_room (length cs) ∙ sym e ∙ le))
       (h.cells ∙ ap (λ (i : ℕ). replicate i 0) (whole_room (length cs) ∙ lc)))
 
   pub tidied_left :
-      (r : Marched) (ks' : List ℕ) (ds' es' : List Float) (cs' : List ℕ)
+      (r : Result (ℕ × ℕ) Refusal) (ks' : List ℕ) (ds' es' : List Float) (cs' : List ℕ)
       → Finished g r ks ds es cs
       → ks' ≡ tidied 0 r ks
       → ds' ≡ tidied zero32 r ds
@@ -172,28 +169,28 @@ module _ (p : Places) (g : Going) (ks : List ℕ) (ds es : List Float) (cs : Lis
 -- ---- the code's steps
 
 -- a march that is done leaves a list, one that is refused wipes it
-pub stays : {A : Type 0} {n k : ℕ} (v : A) (r : Marched) (l : List A) → r ≡ marched.Done n k → l ≡ tidied v r l
+pub stays : {A : Type 0} {n k : ℕ} (v : A) (r : Result (ℕ × ℕ) Refusal) (l : List A) → r ≡ Ok (n, k) → l ≡ tidied v r l
 unfolding tidied
 stays v r l e = rw e
 
-pub wiped : {A : Type 0} {why : Refusal} (v : A) (r : Marched) (l l' : List A) → r ≡ marched.Refused why → l' ≡ filled v l → l' ≡ tidied v r l
+pub wiped : {A : Type 0} {why : Refusal} (v : A) (r : Result (ℕ × ℕ) Refusal) (l l' : List A) → r ≡ Err why → l' ≡ filled v l → l' ≡ tidied v r l
 unfolding tidied
 wiped v r l l' e f = rw e f
 
-module _ (verdict : Checked) (g : Going) (ks : List ℕ) (ds es : List Float) (cs : List ℕ) where
+module _ (verdict : Result (Unit {0}) Refusal) (g : Going) (ks : List ℕ) (ds es : List Float) (cs : List ℕ) where
   -- a verdict that refuses is the answer
-  pub refused_first : {why : Refusal} → verdict ≡ checked.Refused why → Finished (tested verdict g) (marched.Refused why) ks ds es cs
+  pub refused_first : {why : Refusal} → verdict ≡ Err why → Finished (tested verdict g) (Err why) ks ds es cs
   unfolding Finished tested
   refused_first e = rw e
 
   -- another lets the march begin
-  pub passed_first : (r : Marched) → verdict ≡ checked.Passed → Finished g r ks ds es cs → Finished (tested verdict g) r ks ds es cs
+  pub passed_first : (r : Result (ℕ × ℕ) Refusal) → verdict ≡ (Ok tt) → Finished g r ks ds es cs → Finished (tested verdict g) r ks ds es cs
   unfolding tested
   passed_first r e f = rw e f
 
 module _ (s : Settings) (tks : List ℕ) (tds tws : List Float) (n : ℕ) (threshold : Float) (ks₀ cs₀ : List ℕ) (ds₀ es₀ : List Float) where
   pub may_march :
-      (ks cs : List ℕ) (ds es : List Float) {fit : Bool} {verdict : Checked}
+      (ks cs : List ℕ) (ds es : List Float) {fit : Bool} {verdict : Result (Unit {0}) Refusal}
       → fit ≡ set_ok (length ks₀) (length ds₀) && set_ok (length es₀) (length cs₀)
       → verdict ≡ march_check s (table tks tds tws n) threshold fit
       → ks ≡ filled 0 ks₀
@@ -210,7 +207,7 @@ module _ (s : Settings) (tks : List ℕ) (tds tws : List Float) (n : ℕ) (thres
 
   -- the whole call
   pub march_left :
-      {fit : Bool} {verdict : Checked} (ks₁ cs₁ : List ℕ)
+      {fit : Bool} {verdict : Result (Unit {0}) Refusal} (ks₁ cs₁ : List ℕ)
       → fit ≡ set_ok (length ks₀) (length ds₀) && set_ok (length es₀) (length cs₀)
       → verdict ≡ march_check s (table tks tds tws n) threshold fit
       → length ks₁ ≡ length ks₀
@@ -220,7 +217,7 @@ module _ (s : Settings) (tks : List ℕ) (tds tws : List Float) (n : ℕ) (thres
       → length ds ≡ length ds₀
       → length es ≡ length es₀
       → length cs ≡ length cs₀
-      → (r : Marched)
+      → (r : Result (ℕ × ℕ) Refusal)
       → Finished (tested verdict (march_from s.voxel_size.0 s.max_distance.0 (rooms_of ks₁ cs₁) threshold (rows_of tks tds tws n))) r ks ds es cs
       → (ks' : List ℕ) (ds' es' : List Float) (cs' : List ℕ)
       → ks' ≡ tidied 0 r ks
@@ -233,7 +230,7 @@ module _ (s : Settings) (tks : List ℕ) (tds tws : List Float) (n : ℕ) (thres
       let l = places (length ks₀) (length ds₀) (length es₀) (length cs₀) in
       let h = q ∙ ap (march_check s (table tks tds tws n) threshold) p in
       let g : Finished (marching s (table tks tds tws n) threshold l) r ks ds es cs =
-      subst (λ (v : Checked).
+      subst (λ (v : Result (Unit {0}) Refusal).
       Finished (tested v (march_from s.voxel_size.0 s.max_distance.0 (rooms (length ks₀) (length cs₀))
       threshold (rows_of tks tds tws n))) r ks ds es cs) h
       (subst (λ (m : Rooms).

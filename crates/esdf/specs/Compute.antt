@@ -1,17 +1,14 @@
 -- Marching a fused table into lent lists: the tests before the march, and what stands in the lists after it.
-use Rattle.std.specs.Prelude.{ℕ, Bool, ◌&&◌, List, eqb, leb, length, replicate, Float}
+use Rattle.std.specs.Prelude.{ℕ, Bool, ◌&&◌, List, eqb, leb, length, replicate, Float, Ok, Err, Result}
 use Rattle.floats.specs.Floats.{zero32, is_finite}
 use Rattle.lists.specs.Padding.{padded}
 use Rattle.refusals.specs.Refusals.{number_of}
 use Rattle.refusals.specs.declared.Refusal.TheVariants.{BadReading}
 use Rattle.table.specs.Table.{Table, rows, need, check_with, then_test}
 use Rattle.table.specs.declared.Settings.{Settings}
-use Rattle.table.specs.declared.Checked.{Checked}
-use Rattle.table.specs.declared.Checked.TheVariants as checked
 use Rattle.marching.specs.March.{Going, on, refused, rooms, keys_of, distances_of}
 use Rattle.marching.specs.Lattice.{march_from}
-use Rattle.esdf.specs.declared.Marched.{Marched}
-use Rattle.esdf.specs.declared.Marched.TheVariants as marched
+use Rattle.refusals.specs.declared.Refusal.{Refusal}
 
 -- the lengths of the four lists that are filled: marched keys and distances, waiting estimates and keys
 pub record Places : Type 0 where
@@ -31,13 +28,13 @@ abbrev pub places_ok : Places → Bool
 places_ok p = set_ok p.keys p.distances && set_ok p.estimates p.cells
 
 -- refusals 1, 2, 3 and 5, in this order; `fit` says that the lists to be filled pass
-unfoldable pub march_check : Settings → Table → Float → Bool → Checked
-march_check s t threshold fit = then_test (check_with fit s t) (need (is_finite threshold) BadReading checked.Passed)
+unfoldable pub march_check : Settings → Table → Float → Bool → Result (Unit {0}) Refusal
+march_check s t threshold fit = then_test (check_with fit s t) (need (is_finite threshold) BadReading (Ok tt))
 
 -- what passed goes on
-unfoldable pub tested : Checked → Going → Going
-tested checked.Passed g = g
-tested (checked.Refused why) g = refused why
+unfoldable pub tested : Result (Unit {0}) Refusal → Going → Going
+tested (Ok tt) g = g
+tested (Err why) g = refused why
 
 -- the tests, then the march, which is refused with 6 and 8 as its steps meet them
 unfoldable pub marching : Settings → Table → Float → Places → Going
@@ -46,9 +43,9 @@ marching s t threshold p =
     (march_from s.voxel_size.0 s.max_distance.0 (rooms p.keys p.cells) threshold (rows t))
 
 -- the answer: how many rows and takings, or the refusal
-unfoldable pub answer_of : Going → Marched
-answer_of (on s) = marched.Done (length s.stored) s.takings
-answer_of (refused why) = marched.Refused why
+unfoldable pub answer_of : Going → Result (ℕ × ℕ) Refusal
+answer_of (on s) = Ok (length s.stored, s.takings)
+answer_of (refused why) = Err why
 
 -- the marched lists hold the rows and then zeros; zeros throughout where it is refused
 unfoldable pub keys_left : ℕ → Going → List ℕ
@@ -61,13 +58,13 @@ distances_left room (refused why) = replicate room zero32
 
 -- a march's answer, and the four lists after it
 pub record Outcome : Type 0 where
-  pub answer : Marched
+  pub answer : Result (ℕ × ℕ) Refusal
   pub keys : List ℕ
   pub distances : List Float
   pub estimates : List Float
   pub cells : List ℕ
 
-abbrev pub outcome : Marched → List ℕ → List Float → List Float → List ℕ → Outcome
+abbrev pub outcome : Result (ℕ × ℕ) Refusal → List ℕ → List Float → List Float → List ℕ → Outcome
 outcome r ks ds es cs = record { answer = r; keys = ks; distances = ds; estimates = es; cells = cs }
 
 -- what a march leaves: the waiting lists are zero throughout, however it ends
@@ -79,15 +76,15 @@ abbrev pub computed : Settings → Table → Float → Places → Outcome
 computed s t threshold p = left p (marching s t threshold p)
 
 -- document 01's number of an answer, 0 where it is no refusal
-abbrev pub marched_number : Marched → ℕ
-marched_number (marched.Done n t) = 0
-marched_number (marched.Refused why) = number_of why
+abbrev pub marched_number : Result (ℕ × ℕ) Refusal → ℕ
+marched_number (Ok (n, t)) = 0
+marched_number (Err why) = number_of why
 
 -- how many rows and how many takings an answer says, none where it is refused
-abbrev pub rows_marched : Marched → ℕ
-rows_marched (marched.Done n t) = n
-rows_marched (marched.Refused why) = 0
+abbrev pub rows_marched : Result (ℕ × ℕ) Refusal → ℕ
+rows_marched (Ok (n, t)) = n
+rows_marched (Err why) = 0
 
-abbrev pub takings_marched : Marched → ℕ
-takings_marched (marched.Done n t) = t
-takings_marched (marched.Refused why) = 0
+abbrev pub takings_marched : Result (ℕ × ℕ) Refusal → ℕ
+takings_marched (Ok (n, t)) = t
+takings_marched (Err why) = 0

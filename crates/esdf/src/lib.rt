@@ -13,16 +13,9 @@ ghost use Rattle.esdf.specs.Compute.{places, set_ok, march_check, tested, outcom
 use fronts::Stop;
 use lists::LONGEST_LIST;
 use marching::Course;
-use racing::{Raced, clear, march};
+use racing::{clear, march};
 use refusals::Refusal;
-use table::{Checked, Settings, check_with, then_test};
-
-// A march's answer: how many rows and how many takings.
-#[derive(Clone, Copy)]
-pub enum Marched {
-    Done(usize, usize),
-    Refused(Refusal),
-}
+use table::{Settings, check_with, then_test};
 
 // What is answered to why a march stopped.
 fn refusal_of(why: Stop) -> Refusal
@@ -35,18 +28,18 @@ fn refusal_of(why: Stop) -> Refusal
 }
 
 // What is answered to what a march says.
-fn marched_of(raced: Raced) -> Marched
+fn marched_of(raced: Result<(usize, usize), Stop>) -> Result<(usize, usize), Refusal>
     ensures { result ≡ marched_of raced }
 {
     match raced {
-        Raced::Done(rows, takings) => Marched::Done(rows, takings),
-        Raced::Not(why) => Marched::Refused(refusal_of(why)),
+        Ok((rows, takings)) => Ok((rows, takings)),
+        Err(why) => Err(refusal_of(why)),
     }
 }
 
 // A refused march leaves zeros.
 fn tidy(
-    answer: Marched,
+    answer: Result<(usize, usize), Refusal>,
     keys: &mut [u64],
     distances: &mut [f32],
     estimates: &mut [f32],
@@ -58,8 +51,8 @@ fn tidy(
     ensures cells_after { cells.new ≡ tidied 0 answer cells.old }
 {
     match answer {
-        Marched::Done(_, _) => {}
-        Marched::Refused(_) => clear(keys, distances, estimates, cells),
+        Ok((_, _)) => {}
+        Err(_) => clear(keys, distances, estimates, cells),
     }
 }
 
@@ -79,7 +72,7 @@ fn check(
     count: usize,
     threshold: f32,
     fit: bool,
-) -> Checked
+) -> Result<(), Refusal>
     ensures { result ≡ march_check settings (table keys.now distances.now weights.now count) threshold fit }
 {
     let verdict = check_with(fit, settings, keys, distances, weights, count);
@@ -88,7 +81,7 @@ fn check(
 
 // The march, if the tests have passed.
 fn march_if(
-    verdict: Checked,
+    verdict: Result<(), Refusal>,
     fused_keys: &[u64],
     fused_distances: &[f32],
     fused_weights: &[f32],
@@ -99,7 +92,7 @@ fn march_if(
     distances: &mut [f32],
     estimates: &mut [f32],
     cells: &mut [u64],
-) -> Marched
+) -> Result<(usize, usize), Refusal>
     requires { MayMarch verdict course fused_keys.now fused_distances.now fused_weights.now fused_count
         keys.old distances.old estimates.old cells.old }
     ensures { Finished (tested verdict
@@ -108,8 +101,8 @@ fn march_if(
         keys.new distances.new estimates.new cells.new }
 {
     match verdict {
-        Checked::Refused(why) => Marched::Refused(why),
-        Checked::Passed => marched_of(march(
+        Err(why) => Err(why),
+        Ok(()) => marched_of(march(
             fused_keys,
             fused_distances,
             fused_weights,
@@ -136,7 +129,7 @@ pub fn compute_from_tsdf(
     marched_distances: &mut [f32],
     waiting_estimates: &mut [f32],
     waiting_keys: &mut [u64],
-) -> Marched
+) -> Result<(usize, usize), Refusal>
     ensures { outcome result marched_keys.new marched_distances.new
         waiting_estimates.new waiting_keys.new
         ≡ computed settings (table keys.now distances.now weights.now count) threshold

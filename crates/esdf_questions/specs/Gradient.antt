@@ -1,5 +1,5 @@
 -- The gradient at a cell: the mean over its stored neighbours of the distance's change along each axis, made as long as 1.
-use Rattle.std.specs.Prelude.{ℕ, ◌+◌, ◌-◌, cond, List, [], ◌∷◌, eqb, leb, pos, Float}
+use Rattle.std.specs.Prelude.{ℕ, ◌+◌, ◌-◌, cond, List, [], ◌∷◌, eqb, leb, pos, Float, Ok, Err, Some, None, Result}
 use Rattle.std.proofs.Math.Option.{Option, none, some}
 use Rattle.std.specs.Float.{binary32}
 use Rattle.std.specs.Float.Ieee.{add, sub, mul, div, neg, lt, of_int}
@@ -8,15 +8,10 @@ use Rattle.ids.specs.Key.{x_of, y_of, z_of}
 use Rattle.neighbors.specs.Neighbors.{neighbours}
 use Rattle.refusals.specs.Refusals.{number_of, absent_number}
 use Rattle.root.specs.Root.{root_answer}
-use Rattle.root.specs.declared.Rooted.{Rooted}
-use Rattle.root.specs.declared.Rooted.TheVariants as rooted
-use Rattle.table.specs.declared.Checked.{Checked}
-use Rattle.table.specs.declared.Checked.TheVariants as checked
 use Rattle.marching.specs.March.{MarchedRow, distance_of}
 use Rattle.marched.specs.Marched.{MarchedTable, marched_rows, key_check}
 use Rattle.esdf_questions.specs.declared.Slopes.{Slopes}
-use Rattle.esdf_questions.specs.declared.Gradient.{Gradient}
-use Rattle.esdf_questions.specs.declared.Gradient.TheVariants as gradient
+use Rattle.refusals.specs.declared.Refusal.{Refusal}
 
 -- 1e-6
 abbrev pub tiny : Float
@@ -60,34 +55,34 @@ abbrev pub squares : Float → Float → Float → Float
 squares x y z = add binary32 (add binary32 (mul binary32 x x) (mul binary32 y y)) (mul binary32 z z)
 
 -- divided by a length; Absent if that is not above 1e-6, or no number
-unfoldable pub unit_by : Float → Float → Float → Rooted → Gradient
-unit_by x y z (rooted.Root l) = cond (lt tiny l) (gradient.Of (div binary32 x l) (div binary32 y l) (div binary32 z l)) gradient.Absent
-unit_by x y z (rooted.Refused why) = gradient.Absent
+unfoldable pub unit_by : Float → Float → Float → Result Float Refusal → Result (Option (Float × Float × Float)) Refusal
+unit_by x y z (Ok l) = cond (lt tiny l) (Ok (Some (div binary32 x l, div binary32 y l, div binary32 z l))) (Ok None)
+unit_by x y z (Err why) = (Ok None)
 
 -- the direction of x, y, z
-abbrev pub direction_of : Float → Float → Float → Gradient
+abbrev pub direction_of : Float → Float → Float → Result (Option (Float × Float × Float)) Refusal
 direction_of x y z = unit_by x y z (root_answer (squares x y z))
 
 -- the direction of the mean; Absent over no neighbour
-unfoldable pub mean_of : Slopes → Gradient
+unfoldable pub mean_of : Slopes → Result (Option (Float × Float × Float)) Refusal
 mean_of sum =
     let n = whole sum.count in
-    cond (eqb sum.count 0) gradient.Absent (direction_of (div binary32 sum.x n) (div binary32 sum.y n) (div binary32 sum.z n))
+    cond (eqb sum.count 0) (Ok None) (direction_of (div binary32 sum.x n) (div binary32 sum.y n) (div binary32 sum.z n))
 
 -- Absent where the cell is not stored
-unfoldable pub gradient_at : List MarchedRow → ℕ → Option Float → Gradient
-gradient_at rs k none = gradient.Absent
+unfoldable pub gradient_at : List MarchedRow → ℕ → Option Float → Result (Option (Float × Float × Float)) Refusal
+gradient_at rs k none = (Ok None)
 gradient_at rs k (some d) = mean_of (slopes_from rs k d no_slopes (neighbours k))
 
-unfoldable pub gradient_said : Checked → Gradient → Gradient
-gradient_said checked.Passed g = g
-gradient_said (checked.Refused why) g = gradient.Refused why
+unfoldable pub gradient_said : Result (Unit {0}) Refusal → Result (Option (Float × Float × Float)) Refusal → Result (Option (Float × Float × Float)) Refusal
+gradient_said (Ok tt) g = g
+gradient_said (Err why) g = Err why
 
-abbrev pub get_gradient : MarchedTable → ℕ → Gradient
+abbrev pub get_gradient : MarchedTable → ℕ → Result (Option (Float × Float × Float)) Refusal
 get_gradient t k = gradient_said (key_check t k) (gradient_at (marched_rows t) k (distance_of k (marched_rows t)))
 
 -- the number of an answer: 0 where there is one, Absent's, or document 01's of the refusal
-abbrev pub gradient_number : Gradient → ℕ
-gradient_number (gradient.Of x y z) = 0
-gradient_number gradient.Absent = absent_number
-gradient_number (gradient.Refused why) = number_of why
+abbrev pub gradient_number : Result (Option (Float × Float × Float)) Refusal → ℕ
+gradient_number (Ok (Some (x, y, z))) = 0
+gradient_number (Ok None) = absent_number
+gradient_number (Err why) = number_of why

@@ -11,33 +11,8 @@ ghost use Rattle.esdf_questions.specs.Lookups.{get_distance, is_free_space};
 ghost use Rattle.esdf_questions.specs.Gradient.{step_of, no_slopes, slopes_with, slopes_from, direction_of, mean_of, get_gradient};
 
 use ids::morton_decode;
-use marched::{Stored, check_free, check_key, stored_at};
+use marched::{check_free, check_key, stored_at};
 use refusals::Refusal;
-use root::Rooted;
-use table::Checked;
-
-// A cell's distance.
-#[derive(Clone, Copy)]
-pub enum Distance {
-    Of(f32),
-    Absent,
-    Refused(Refusal),
-}
-
-// Whether a cell is free.
-#[derive(Clone, Copy)]
-pub enum Free {
-    Answer(bool),
-    Refused(Refusal),
-}
-
-// The gradient at a cell, as long as 1.
-#[derive(Clone, Copy)]
-pub enum Gradient {
-    Of(f32, f32, f32),
-    Absent,
-    Refused(Refusal),
-}
 
 // Sums along the axes, and over how many neighbours.
 #[derive(Clone, Copy)]
@@ -49,14 +24,14 @@ struct Slopes {
 }
 
 // The distance that is stored of a cell.
-pub fn get_distance(keys: &[u64], distances: &[f32], count: usize, key: u64) -> Distance
+pub fn get_distance(keys: &[u64], distances: &[f32], count: usize, key: u64) -> Result<Option<f32>, Refusal>
     ensures { result ≡ get_distance (marched_table keys.now distances.now count) key }
 {
     match check_key(keys, distances, count, key) {
-        Checked::Refused(why) => Distance::Refused(why),
-        Checked::Passed => match stored_at(keys, distances, count, key) {
-            Stored::At(d) => Distance::Of(d),
-            Stored::Absent => Distance::Absent,
+        Err(why) => Err(why),
+        Ok(()) => match stored_at(keys, distances, count, key) {
+            Some(d) => Ok(Some(d)),
+            None => Ok(None),
         },
     }
 }
@@ -68,14 +43,14 @@ pub fn is_free_space(
     count: usize,
     key: u64,
     threshold: f32,
-) -> Free
+) -> Result<bool, Refusal>
     ensures { result ≡ is_free_space (marched_table keys.now distances.now count) key threshold }
 {
     match check_free(keys, distances, count, key, threshold) {
-        Checked::Refused(why) => Free::Refused(why),
-        Checked::Passed => match stored_at(keys, distances, count, key) {
-            Stored::At(d) => Free::Answer(threshold < d),
-            Stored::Absent => Free::Answer(false),
+        Err(why) => Err(why),
+        Ok(()) => match stored_at(keys, distances, count, key) {
+            Some(d) => Ok(threshold < d),
+            None => Ok(false),
         },
     }
 }
@@ -121,8 +96,8 @@ fn slopes_next(
     ensures { result ≡ slopes_with key distance sum neighbour (distance_of neighbour (marched_rows_of keys.now distances.now count)) }
 {
     match stored_at(keys, distances, count, neighbour) {
-        Stored::At(found) => slopes_with(key, distance, sum, neighbour, found),
-        Stored::Absent => sum,
+        Some(found) => slopes_with(key, distance, sum, neighbour, found),
+        None => sum,
     }
 }
 
@@ -140,50 +115,48 @@ fn sum_slopes(keys: &[u64], distances: &[f32], count: usize, key: u64, distance:
         z: 0.0,
         count: 0,
     };
-    let mut i = 0;
-    while i < n {
+    for i in 0..n {
         sum = slopes_next(keys, distances, count, key, distance, sum, list[i]);
-        i += 1;
     }
     sum
 }
 
 // The direction of x, y, z, unless they are too short.
-fn direction(x: f32, y: f32, z: f32) -> Gradient
+fn direction(x: f32, y: f32, z: f32) -> Result<Option<(f32, f32, f32)>, Refusal>
     ensures { result ≡ direction_of x y z }
 {
     match root::root(x * x + y * y + z * z) {
-        Rooted::Refused(_) => Gradient::Absent,
-        Rooted::Root(length) => {
+        Err(_) => Ok(None),
+        Ok(length) => {
             if 1e-6 < length {
-                Gradient::Of(x / length, y / length, z / length)
+                Ok(Some((x / length, y / length, z / length)))
             } else {
-                Gradient::Absent
+                Ok(None)
             }
         }
     }
 }
 
 // The direction of the mean.
-fn mean(sum: Slopes) -> Gradient
+fn mean(sum: Slopes) -> Result<Option<(f32, f32, f32)>, Refusal>
     ensures { result ≡ mean_of sum }
 {
     if sum.count == 0 {
-        return Gradient::Absent;
+        return Ok(None);
     }
     let n = sum.count as f32;
     direction(sum.x / n, sum.y / n, sum.z / n)
 }
 
 // The direction in which the distance grows at a cell.
-pub fn get_gradient(keys: &[u64], distances: &[f32], count: usize, key: u64) -> Gradient
+pub fn get_gradient(keys: &[u64], distances: &[f32], count: usize, key: u64) -> Result<Option<(f32, f32, f32)>, Refusal>
     ensures { result ≡ get_gradient (marched_table keys.now distances.now count) key }
 {
     match check_key(keys, distances, count, key) {
-        Checked::Refused(why) => Gradient::Refused(why),
-        Checked::Passed => match stored_at(keys, distances, count, key) {
-            Stored::Absent => Gradient::Absent,
-            Stored::At(distance) => mean(sum_slopes(keys, distances, count, key, distance)),
+        Err(why) => Err(why),
+        Ok(()) => match stored_at(keys, distances, count, key) {
+            None => Ok(None),
+            Some(distance) => mean(sum_slopes(keys, distances, count, key, distance)),
         },
     }
 }

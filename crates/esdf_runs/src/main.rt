@@ -2,8 +2,8 @@
 // and a waiting place too few.
 #![tactic(auto)]
 
-use esdf::Marched;
 use table::{Settings, settings_of};
+use refusals::Refusal;
 
 // Truncation 1, maximum weight 100, size 1, maximum distance 2.
 fn settings() -> Settings {
@@ -17,7 +17,7 @@ fn march(
     distances: &mut [f32],
     estimates: &mut [f32],
     cells: &mut [u64],
-) -> Marched {
+) -> Result<(usize, usize), Refusal> {
     let fused_keys = [3640u64];
     let fused_distances = [0.0f32];
     let fused_weights = [1.0f32];
@@ -36,16 +36,16 @@ fn march(
 }
 
 // A line for an answer.
-fn say(marched: Marched) {
+fn say(marched: Result<(usize, usize), Refusal>) {
     match marched {
-        Marched::Done(rows, takings) => {
+        Ok((rows, takings)) => {
             io::write_all(1, b"rows ");
             io::print_decimal(1, rows as u64);
             io::write_all(1, b" takings ");
             io::print_decimal(1, takings as u64);
             io::write_all(1, b"\n");
         }
-        Marched::Refused(why) => {
+        Err(why) => {
             io::write_all(1, b"refused ");
             io::print_decimal(1, refusals::number(why) as u64);
             io::write_all(1, b"\n");

@@ -1,4 +1,5 @@
 -- The statistics, by what the tests and the tallies say. Assumes nothing.
+use Rattle.std.specs.Prelude.{Ok, Err, Result}
 use mathlib.Core.Path.{◌≡◌, sym, ap, ◌∙◌}
 use mathlib.Core.Bool.{true, false}
 use mathlib.Core.List.{List}
@@ -7,11 +8,8 @@ use lib.ListN.{length}
 use lib.Ieee.{Float, neg, lt}
 use Rattle.floats.specs.Floats.{zero32, largest, smaller_of, larger_of}
 use Rattle.refusals.specs.declared.Refusal.{Refusal}
-use Rattle.table.specs.declared.Checked.{Checked}
-use Rattle.table.specs.declared.Checked.TheVariants as checked
 use Rattle.esdf_surveys.specs.declared.Tally.{Tally}
 use Rattle.esdf_surveys.specs.declared.EsdfStats.{EsdfStats}
-use Rattle.esdf_surveys.specs.declared.Statistics.TheVariants as statistics
 use Rattle.marched.specs.Marched.{marched_table, marched_rows_of, marched_check}
 use Rattle.esdf_surveys.specs.Statistics.{no_tally, tallied, tallied_all, unless_start, stats_of, statistics_said, get_stats}
 use Rattle.marched.specs.Steps.{Accepted}
@@ -43,25 +41,24 @@ pub stats_of_lem :
 unfolding stats_of
 stats_of_lem n t low high p q = rw (p, q)
 
-module _ (ks : List ℕ) (ds : List Float) (n : ℕ) (v : Checked) (e : v ≡ marched_check (marched_table ks ds n)) where
-  pub stats_refused : {why : Refusal} → v ≡ checked.Refused why → statistics.Refused why ≡ get_stats (marched_table ks ds n)
+module _ (ks : List ℕ) (ds : List Float) (n : ℕ) (v : Result (Unit {0}) Refusal) (e : v ≡ marched_check (marched_table ks ds n)) where
+  pub stats_refused : {why : Refusal} → v ≡ Err why → Err why ≡ get_stats (marched_table ks ds n)
   unfolding statistics_said
   stats_refused f =
-      sym (ap (λ (x : Checked).
+      sym (ap (λ (x : Result (Unit {0}) Refusal).
       statistics_said x (stats_of (length (marched_rows_of ks ds n)) (tallied_all no_tally (marched_rows_of ks ds n))))
       (sym e ∙ f))
 
   pub stats_known :
       (s : EsdfStats) (t : Tally)
-      → v ≡ checked.Passed
+      → v ≡ (Ok tt)
       → Accepted ks ds n
       → t ≡ tallied_all no_tally (marched_rows_of ks ds n)
       → s ≡ stats_of n t
-      → statistics.Of s ≡ get_stats (marched_table ks ds n)
+      → Ok s ≡ get_stats (marched_table ks ds n)
   unfolding statistics_said
   stats_known s t f h i j =
-      ap statistics.Of
-      (j ∙ ap (stats_of n) i
+      ap Ok (j ∙ ap (stats_of n) i
       ∙ ap (λ (x : ℕ). stats_of x (tallied_all no_tally (marched_rows_of ks ds n)))
       (sym (pair_count ks ds n h.distances h.fits)))
-      ∙ sym (ap (λ (x : Checked). statistics_said x (stats_of (length (marched_rows_of ks ds n)) (tallied_all no_tally (marched_rows_of ks ds n)))) (sym e ∙ f))
+      ∙ sym (ap (λ (x : Result (Unit {0}) Refusal). statistics_said x (stats_of (length (marched_rows_of ks ds n)) (tallied_all no_tally (marched_rows_of ks ds n)))) (sym e ∙ f))

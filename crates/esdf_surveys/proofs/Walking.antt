@@ -1,4 +1,5 @@
 -- Loops over rows and over neighbours: what is left says what the whole says. Assumes nothing.
+use Rattle.std.specs.Prelude.{Ok, Err, Result}
 use mathlib.Core.Path.{◌≡◌, refl, sym, ap, subst, ◌∙◌}
 use mathlib.Core.Bool.{Bool, true, false, cond}
 use mathlib.Core.List.{List, [], ◌∷◌, ◌++◌}
@@ -15,14 +16,10 @@ use Rattle.lists.specs.Lists.{kept}
 use Rattle.lists.specs.Listing.{room_for, count_of, held_for}
 use Rattle.lists.specs.Padding.{padded}
 use Rattle.lists.specs.Places.{cleared_from}
-use Rattle.lists.specs.declared.Listed.{Listed}
-use Rattle.lists.specs.declared.Listed.TheVariants as listed
 use Rattle.lists.proofs.Bools.{cases}
 use Rattle.lists.proofs.Writing.{sets_front, cleared_whole}
 use Rattle.refusals.specs.declared.Refusal.{Refusal}
 use Rattle.refusals.specs.declared.Refusal.TheVariants.{NoPlace}
-use Rattle.table.specs.declared.Checked.{Checked}
-use Rattle.table.specs.declared.Checked.TheVariants as checked
 use Rattle.marching.specs.March.{MarchedRow, marched_row, keys_of, distances_of}
 use Rattle.esdf_surveys.specs.declared.Tally.{Tally}
 use Rattle.esdf_surveys.specs.Statistics.{tallied, tallied_all}
@@ -136,17 +133,17 @@ module _ (threshold : Float) (k : ℕ) (d x : Float) (e : x ≡ size_of d) where
 
 -- ---- the answer
 
-module _ (verdict : Checked) (rs : List MarchedRow) (ks : List ℕ) (ds : List Float) where
+module _ (verdict : Result (Unit {0}) Refusal) (rs : List MarchedRow) (ks : List ℕ) (ds : List Float) where
   pub fill_refused :
       {why : Refusal}
-      → verdict ≡ checked.Refused why
-      → Filled (listed_said verdict (room_for (length rs) (length ks))) rs (listed.Refused why) ks ds ks ds
+      → verdict ≡ Err why
+      → Filled (listed_said verdict (room_for (length rs) (length ks))) rs (Err why) ks ds ks ds
   unfolding listed_said
   fill_refused e = record { answer = rw e; counted = λ n q. absurd (let z : ◌≡◌ {A = ℕ} 0 1 = cc in omega arith) }
 
   pub fill_passed :
-      (n : ℕ) (r : Listed) (room : ℕ) (ks' : List ℕ) (ds' : List Float)
-      → verdict ≡ checked.Passed
+      (n : ℕ) (r : Result ℕ Refusal) (room : ℕ) (ks' : List ℕ) (ds' : List Float)
+      → verdict ≡ (Ok tt)
       → length ds ≡ length ks
       → room ≡ length ks
       → Put rs n ks ds ks' ds'
@@ -157,10 +154,10 @@ module _ (verdict : Checked) (rs : List MarchedRow) (ks : List ℕ) (ds : List F
       let b : r ≡ room_for (length rs) (length ks) = a ∙ ap (λ (x : ℕ). room_for x room) p.count ∙ ap (room_for (length rs)) m in
       record { answer = rw e b; counted = λ i q. fits i (sym b ∙ q) }
     where
-      fits : (i : ℕ) → room_for (length rs) (length ks) ≡ listed.Count i → Counted rs i ks ds ks' ds'
+      fits : (i : ℕ) → room_for (length rs) (length ks) ≡ Ok i → Counted rs i ks ds ks' ds'
       fits i =
           cases (λ (x : Bool).
-          cond x (listed.Count (length rs)) (listed.Refused NoPlace) ≡ listed.Count i
+          cond x (Ok (length rs)) (Err NoPlace) ≡ Ok i
           → Counted rs i ks ds ks' ds') (leb (length rs) (length ks))
           (λ f g.
           let j : length rs ≡ i = cc in
@@ -172,20 +169,20 @@ module _ (verdict : Checked) (rs : List MarchedRow) (ks : List ℕ) (ds : List F
 -- a list that is filled by an answer and cleared from its count
 module _ {A : Type 0} (v : A) (xs l l' : List A) (long : length l' ≡ length l) where
   pub held_by :
-      (r said : Listed)
+      (r said : Result ℕ Refusal)
       → r ≡ said
-      → ((n : ℕ) → r ≡ listed.Count n → (n ≡ length xs) × (n ≤ length l) × (l' ≡ sets l 0 xs))
+      → ((n : ℕ) → r ≡ Ok n → (n ≡ length xs) × (n ≤ length l) × (l' ≡ sets l 0 xs))
       → cleared_from v (count_of r) l' ≡ held_for v said (length l) xs
   unfolding held_for padded
-  held_by r (listed.Refused why) e c = rw e (cleared_whole v l' ∙ ap (λ (i : ℕ). replicate i v) long)
-  held_by r (listed.Count n) e c =
+  held_by r (Err why) e c = rw e (cleared_whole v l' ∙ ap (λ (i : ℕ). replicate i v) long)
+  held_by r (Ok n) e c =
       let h = c n e in
       let z = h.0 in
       let g = h.1 in
       rw (e, z, h.2, length-sets l 0 xs) (ap (λ (t : List A). t ++ replicate (length l - length xs) v) (sets_front l xs (omega arith)))
 
 module _ (ks : List ℕ) (ds : List Float) (n : ℕ) (threshold : Float) (oks : List ℕ) (ods : List Float) (fit : Bool)
-    (v : Checked) (r : Listed) (oks' : List ℕ) (ods' : List Float) (p : fit ≡ pair_ok (length oks) (length ods))
+    (v : Result (Unit {0}) Refusal) (r : Result ℕ Refusal) (oks' : List ℕ) (ods' : List Float) (p : fit ≡ pair_ok (length oks) (length ods))
     (q : v ≡ list_check (marched_table ks ds n) fit threshold)
     (f : Filled (listed_said v (room_for (length (cells_within threshold (marched_rows_of ks ds n))) (length oks)))
     (cells_within threshold (marched_rows_of ks ds n)) r oks ods oks' ods') where
@@ -193,7 +190,7 @@ module _ (ks : List ℕ) (ds : List Float) (n : ℕ) (threshold : Float) (oks : 
   unfolding within_listed
   within_answer =
       f.answer
-      ∙ ap (λ (x : Checked).
+      ∙ ap (λ (x : Result (Unit {0}) Refusal).
       listed_said x (room_for (length (cells_within threshold (marched_rows_of ks ds n))) (length oks)))
       (q ∙ ap (λ (b : Bool). list_check (marched_table ks ds n) b threshold) p)
 

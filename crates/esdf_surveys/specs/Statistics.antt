@@ -1,16 +1,13 @@
 -- Statistics of a marched table.
-use Rattle.std.specs.Prelude.{ℕ, ◌+◌, cond, List, [], ◌∷◌, length, Float}
+use Rattle.std.specs.Prelude.{ℕ, ◌+◌, cond, List, [], ◌∷◌, length, Float, Ok, Err, Result}
 use Rattle.std.specs.Float.Ieee.{neg, lt, eq}
 use Rattle.floats.specs.Floats.{zero32, largest, smaller_of, larger_of}
 use Rattle.refusals.specs.Refusals.{number_of}
-use Rattle.table.specs.declared.Checked.{Checked}
-use Rattle.table.specs.declared.Checked.TheVariants as checked
 use Rattle.marching.specs.March.{MarchedRow}
 use Rattle.marched.specs.Marched.{MarchedTable, marched_rows, marched_check}
 use Rattle.esdf_surveys.specs.declared.Tally.{Tally}
 use Rattle.esdf_surveys.specs.declared.EsdfStats.{EsdfStats}
-use Rattle.esdf_surveys.specs.declared.Statistics.{Statistics}
-use Rattle.esdf_surveys.specs.declared.Statistics.TheVariants as statistics
+use Rattle.refusals.specs.declared.Refusal.{Refusal}
 
 -- before the first row: the lowest starts at the largest float, the highest at its negative
 abbrev pub no_tally : Tally
@@ -44,14 +41,14 @@ stats_of n t =
       max_distance = unless_start (neg largest) t.high;
     }
 
-unfoldable pub statistics_said : Checked → EsdfStats → Statistics
-statistics_said checked.Passed s = statistics.Of s
-statistics_said (checked.Refused why) s = statistics.Refused why
+unfoldable pub statistics_said : Result (Unit {0}) Refusal → EsdfStats → Result EsdfStats Refusal
+statistics_said (Ok tt) s = Ok s
+statistics_said (Err why) s = Err why
 
-abbrev pub get_stats : MarchedTable → Statistics
+abbrev pub get_stats : MarchedTable → Result EsdfStats Refusal
 get_stats t = statistics_said (marched_check t) (stats_of (length (marched_rows t)) (tallied_all no_tally (marched_rows t)))
 
 -- document 01's number of an answer, 0 where it is no refusal
-abbrev pub statistics_number : Statistics → ℕ
-statistics_number (statistics.Of s) = 0
-statistics_number (statistics.Refused why) = number_of why
+abbrev pub statistics_number : Result EsdfStats Refusal → ℕ
+statistics_number (Ok s) = 0
+statistics_number (Err why) = number_of why

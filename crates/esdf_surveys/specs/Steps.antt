@@ -1,17 +1,14 @@
 -- What the private functions promise each other.
-use Rattle.std.specs.Prelude.{ℕ, ◌+◌, ◌≤◌, ◌≡◌, Bool, cond, List, length, set, Float}
+use Rattle.std.specs.Prelude.{ℕ, ◌+◌, ◌≤◌, ◌≡◌, Bool, cond, List, length, set, Float, Ok, Result}
 use Rattle.std.proofs.lemmas.List.Edits.{sets}
-use Rattle.lists.specs.declared.Listed.{Listed}
-use Rattle.lists.specs.declared.Listed.TheVariants as listed
-use Rattle.table.specs.declared.Checked.{Checked}
-use Rattle.table.specs.declared.Checked.TheVariants as checked
 use Rattle.marched.specs.Steps.{Accepted}
 use Rattle.marching.specs.March.{MarchedRow, keys_of, distances_of}
+use Rattle.refusals.specs.declared.Refusal.{Refusal}
 
 -- where the tests have passed, the lists are accepted and those to be filled equally long
-abbrev pub MayFill : Checked → List ℕ → List Float → ℕ → List ℕ → List Float → Type 0
+abbrev pub MayFill : Result (Unit {0}) Refusal → List ℕ → List Float → ℕ → List ℕ → List Float → Type 0
 MayFill verdict ks ds n oks ods =
-    verdict ≡ checked.Passed → (Accepted ks ds n × (length ks ≤ 1048576) × (length ods ≡ length oks))
+    verdict ≡ (Ok tt) → (Accepted ks ds n × (length ks ≤ 1048576) × (length ods ≡ length oks))
 
 -- a row is put at place n if it passes
 pub record PutOne (passes : Bool) (k : ℕ) (d : Float) (n r : ℕ) (ks : List ℕ) (ds : List Float) (ks' : List ℕ) (ds' : List Float) : Type 0 where
@@ -32,6 +29,6 @@ pub record Counted (rs : List MarchedRow) (n : ℕ) (ks : List ℕ) (ds : List F
   pub distances_fit : n ≤ length ds
 
 -- the answer is the definition's, and what it counts is put
-pub record Filled (said : Listed) (rs : List MarchedRow) (r : Listed) (ks : List ℕ) (ds : List Float) (ks' : List ℕ) (ds' : List Float) : Type 0 where
+pub record Filled (said : Result ℕ Refusal) (rs : List MarchedRow) (r : Result ℕ Refusal) (ks : List ℕ) (ds : List Float) (ks' : List ℕ) (ds' : List Float) : Type 0 where
   pub answer : r ≡ said
-  pub counted : (n : ℕ) → r ≡ listed.Count n → Counted rs n ks ds ks' ds'
+  pub counted : (n : ℕ) → r ≡ Ok n → Counted rs n ks ds ks' ds'

@@ -1,15 +1,12 @@
 -- The cells within a distance, in the table's order.
-use Rattle.std.specs.Prelude.{Bool, List, ℕ, length, Float}
+use Rattle.std.specs.Prelude.{Bool, List, ℕ, length, Float, Ok, Err, Result}
 use Rattle.std.specs.Float.Ieee.{le}
 use Rattle.floats.specs.Floats.{zero32, size_of}
 use Rattle.lists.specs.Lists.{kept}
 use Rattle.lists.specs.Listing.{room_for, held_for}
-use Rattle.lists.specs.declared.Listed.{Listed}
-use Rattle.lists.specs.declared.Listed.TheVariants as listed
-use Rattle.table.specs.declared.Checked.{Checked}
-use Rattle.table.specs.declared.Checked.TheVariants as checked
 use Rattle.marching.specs.March.{MarchedRow, keys_of, distances_of}
 use Rattle.marched.specs.Marched.{MarchedTable, marched_rows, pair_ok, list_check}
+use Rattle.refusals.specs.declared.Refusal.{Refusal}
 
 -- |distance| at most the threshold
 abbrev pub is_within : Float → MarchedRow → Bool
@@ -19,12 +16,12 @@ abbrev pub cells_within : Float → List MarchedRow → List MarchedRow
 cells_within threshold rs = kept (is_within threshold) rs
 
 -- what passed goes on
-unfoldable pub listed_said : Checked → Listed → Listed
-listed_said checked.Passed l = l
-listed_said (checked.Refused why) l = listed.Refused why
+unfoldable pub listed_said : Result (Unit {0}) Refusal → Result ℕ Refusal → Result ℕ Refusal
+listed_said (Ok tt) l = l
+listed_said (Err why) l = Err why
 
 -- the answer to lists of these lengths
-unfoldable pub within_listed : MarchedTable → Float → ℕ → ℕ → Listed
+unfoldable pub within_listed : MarchedTable → Float → ℕ → ℕ → Result ℕ Refusal
 within_listed t threshold a b = listed_said (list_check t (pair_ok a b) threshold) (room_for (length (cells_within threshold (marched_rows t))) a)
 
 -- what the two lists then hold

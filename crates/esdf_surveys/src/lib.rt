@@ -11,10 +11,8 @@ ghost use Rattle.esdf_surveys.specs.Within.{is_within, cells_within, listed_said
 ghost use Rattle.esdf_surveys.specs.Statistics.{no_tally, tallied, tallied_all, unless_start, stats_of, get_stats};
 
 use floats::size;
-use lists::Listed;
 use marched::{check, check_list, pair_ok};
 use refusals::Refusal;
-use table::Checked;
 
 // How many rows there are, below zero and not, and the ends of their distances.
 #[derive(Clone, Copy)]
@@ -24,12 +22,6 @@ pub struct EsdfStats {
     pub free_voxel_count: usize,
     pub min_distance: f32,
     pub max_distance: f32,
-}
-
-#[derive(Clone, Copy)]
-pub enum Statistics {
-    Of(EsdfStats),
-    Refused(Refusal),
 }
 
 // What is counted over rows.
@@ -95,24 +87,22 @@ fn put_within(
         out_distances.new }
 {
     let mut n = 0;
-    let mut i = 0;
-    while i < count {
+    for i in 0..count {
         n = put_if(threshold, keys[i], distances[i], out_keys, out_distances, n);
-        i += 1;
     }
     n
 }
 
 // The rows within a distance, if the tests have passed; what is answered.
 fn fill(
-    verdict: Checked,
+    verdict: Result<(), Refusal>,
     keys: &[u64],
     distances: &[f32],
     count: usize,
     threshold: f32,
     out_keys: &mut [u64],
     out_distances: &mut [f32],
-) -> Listed
+) -> Result<usize, Refusal>
     requires { MayFill verdict keys.now distances.now count out_keys.old out_distances.old }
     ensures { Filled (listed_said verdict
         (room_for (length (cells_within threshold (marched_rows_of keys.now distances.now count)))
@@ -122,8 +112,8 @@ fn fill(
         out_distances.new }
 {
     match verdict {
-        Checked::Refused(why) => Listed::Refused(why),
-        Checked::Passed => {
+        Err(why) => Err(why),
+        Ok(()) => {
             let n = put_within(keys, distances, count, threshold, out_keys, out_distances);
             lists::room_for(n, out_keys.len())
         }
@@ -138,7 +128,7 @@ pub fn get_voxels_within_distance(
     threshold: f32,
     out_keys: &mut [u64],
     out_distances: &mut [f32],
-) -> Listed
+) -> Result<usize, Refusal>
     ensures value { result ≡ within_listed (marched_table keys.now distances.now count) threshold
         (length out_keys.old) (length out_distances.old) }
     ensures out_keys_after { out_keys.new ≡ within_keys
@@ -200,10 +190,8 @@ fn tally_all(keys: &[u64], distances: &[f32], count: usize) -> Tally
         low: 3.40282347e38,
         high: -3.40282347e38,
     };
-    let mut i = 0;
-    while i < count {
+    for i in 0..count {
         tally = tally_with(tally, distances[i]);
-        i += 1;
     }
     tally
 }
@@ -229,11 +217,11 @@ fn stats_of(count: usize, tally: Tally) -> EsdfStats
 }
 
 // How many rows there are, below zero and not, and the ends of their distances.
-pub fn stats(keys: &[u64], distances: &[f32], count: usize) -> Statistics
+pub fn stats(keys: &[u64], distances: &[f32], count: usize) -> Result<EsdfStats, Refusal>
     ensures { result ≡ get_stats (marched_table keys.now distances.now count) }
 {
     match check(keys, distances, count) {
-        Checked::Refused(why) => Statistics::Refused(why),
-        Checked::Passed => Statistics::Of(stats_of(count, tally_all(keys, distances, count))),
+        Err(why) => Err(why),
+        Ok(()) => Ok(stats_of(count, tally_all(keys, distances, count))),
     }
 }

@@ -1,8 +1,7 @@
 // Lines of questions: T the statistics; U the cells near the surface, u each; E the edges, e each.
 use floats::Metres;
-use lists::Listed;
-use tsdf_surveys::Statistics;
 use vectors::{Field, Line, float, same};
+use refusals::Refusal;
 
 // The lists that a line asked for, the next place of them to compare, and whether the last line's answer came out again.
 #[derive(Clone, Copy)]
@@ -22,10 +21,10 @@ pub(crate) fn none_given() -> Given {
     }
 }
 
-fn is_count(listed: Listed, n: u64) -> bool {
+fn is_count(listed: Result<usize, Refusal>, n: u64) -> bool {
     match listed {
-        Listed::Count(count) => count as u64 == n,
-        Listed::Refused(_) => false,
+        Ok(count) => count as u64 == n,
+        Err(_) => false,
     }
 }
 
@@ -122,13 +121,13 @@ pub(crate) fn statistics_again(field: Field, line: Line) -> bool {
     let distances = field.distances;
     let weights = field.weights;
     match tsdf_surveys::stats(settings, &keys, &distances, &weights, field.rows) {
-        Statistics::Of(s) => {
+        Ok(s) => {
             let counts = (s.voxel_count as u64 == words[0])
                 & (s.surface_voxel_count as u64 == words[1]);
             let least = same(s.min_distance.0, float(words[2]));
             let most = same(s.max_distance.0, float(words[3]));
             counts & least & most & same(s.average_weight, float(words[4]))
         }
-        Statistics::Refused(_) => false,
+        Err(_) => false,
     }
 }

@@ -1,8 +1,8 @@
 // Lines of readings: F direct, J a ray; and the row that each leaves.
 use floats::Metres;
 use fusing::Fused;
-use search::Found;
 use vectors::{Field, Line, float, same};
+use refusals::Refusal;
 
 // A field, and whether the line's answer and row came out again.
 #[derive(Clone, Copy)]
@@ -13,12 +13,12 @@ pub struct Fed {
 
 // The number of an answer: 0 where a row is stored, new or changed, since the Rust does not tell which; that of a refusal
 // is no vector's.
-fn fused_number(fused: Fused) -> u64 {
+fn fused_number(fused: Result<Fused, Refusal>) -> u64 {
     match fused {
-        Fused::New => 0,
-        Fused::Changed => 0,
-        Fused::Far => 100,
-        Fused::Refused(_) => 1,
+        Ok(Fused::New) => 0,
+        Ok(Fused::Changed) => 0,
+        Ok(Fused::Far) => 100,
+        Err(_) => 1,
     }
 }
 
@@ -28,14 +28,14 @@ fn row_is(field: Field, key: u64, distance: u64, weight: u64) -> bool {
     let distances = field.distances;
     let weights = field.weights;
     match search::find_row(&keys, field.rows, key) {
-        Found::At(place) => {
+        Some(place) => {
             if place < 32 {
                 same(distances[place], float(distance)) & same(weights[place], float(weight))
             } else {
                 false
             }
         }
-        Found::Absent => (distance == 0) & (weight == 0),
+        None => (distance == 0) & (weight == 0),
     }
 }
 

@@ -1,4 +1,5 @@
 -- Twice a size is a float exactly, and half of one more than its whole part is the size rounded, halves up. Assumes nothing.
+use Rattle.std.specs.Prelude.{Err}
 use Rattle.std.proofs.Common.{◌≡◌, ℕ, zero, suc, ◌+◌, ◌-◌, ◌*◌, ◌/◌, ◌^◌, ◌<◌, ◌≤◌, min, Bool, true, false, T, ℤ, pos, sym, refl, ap, ◌∙◌, true≢false, lt_trans, le_of_eq, lt_of_lt_of_le, lt_of_le_of_lt, mul-le-mul_right, mul_comm, div-lt_iff_lt-mul, lt_of_mul-lt-mul_right, mul-lt-mul_of_pos_right, mul-pos, pow-suc, le-div_iff_mul-le, mul_right_comm, div-mul-le_self, arith, lit<, lit≤, lt→ltb, pow_pos, ltb-false, ltb-true}
 use native.Mathlib.Nat.{eq_of_mul-eq-mul_right, add-div_right, div-div-eq-div-mul, min-eq_left, div-eq_of_lt, lt-div-mul-add}
 use lib.Ieee.{Float, nan, inf, fin, binary32, up, down, add, sum, lt, fits, of_bits, to_unsigned}
@@ -7,7 +8,6 @@ use lib.Ieee.Exact.{HasValue, round_exact}
 use lib.Ieee.Nearest.{div_same}
 use borrow.Author.Tests.{lt-leb}
 use lib.Ieee.Positive.{num, den}
-use Rattle.floats.specs.declared.Nearest.TheVariants.{Refused}
 use Rattle.refusals.specs.declared.Refusal.TheVariants.{OutOfRange}
 use Rattle.floats.specs.Floats.{zero32, size_of, halves_up, signed, whole_of}
 use Rattle.floats.specs.Steps.{too_large_lem, size_up}
@@ -110,11 +110,11 @@ up_of (fin s m e) h = refl
 large : (M d : ℕ) → 0 < d → 2 ^ 32 * d ≤ M → 2 ^ 31 < (2 * M + d) / (2 * d)
 large M d D h = lt_of_lt_of_le (lit< tt) ((le-div_iff_mul-le {k = 2 * d} {x = 2 ^ 32} (omega arith)).1 (omega arith))
 
-too_large : (s : Bool) (w : ℕ) → 2 ^ 31 < w → Refused OutOfRange ≡ signed s w
+too_large : (s : Bool) (w : ℕ) → 2 ^ 31 < w → Err OutOfRange ≡ signed s w
 too_large true w h = rw (lt-leb w (2 ^ 31) h)
 too_large false w h = rw (lt-leb w (2 ^ 31 - 1) (omega arith))
 
-pub outside : (x : Float) → lt (size_of x) too_large_lem ≡ false → Refused OutOfRange ≡ whole_of x
+pub outside : (x : Float) → lt (size_of x) too_large_lem ≡ false → Err OutOfRange ≡ whole_of x
 unfolding whole_of
 outside nan h = refl
 outside (inf s) h = refl

@@ -1,10 +1,9 @@
 -- Binary32 numbers by their bits, and what Rust's `abs`, `min`, `max`, `clamp`, `signum`, `is_finite` and `round` do, worked out here. Each is total.
-use Rattle.std.specs.Prelude.{ℕ, ◌+◌, ◌-◌, ◌*◌, ◌/◌, ◌^◌, Bool, true, false, cond, ◌&&◌, ◌||◌, ℤ, pos, neg_ℤ, from_bits, nat_le, Float}
+use Rattle.std.specs.Prelude.{ℕ, ◌+◌, ◌-◌, ◌*◌, ◌/◌, ◌^◌, Bool, true, false, cond, ◌&&◌, ◌||◌, ℤ, pos, neg_ℤ, from_bits, nat_le, Float, Ok, Err, Result}
 use Rattle.std.specs.Float.{nan, inf, fin, binary32}
 use Rattle.std.specs.Float.Ieee.{up, down, neg, lt, le}
 use Rattle.refusals.specs.declared.Refusal.TheVariants.{OutOfRange}
-use Rattle.floats.specs.declared.Nearest.{Nearest}
-use Rattle.floats.specs.declared.Nearest.TheVariants.{Whole, Refused}
+use Rattle.refusals.specs.declared.Refusal.{Refusal}
 
 -- ---- numbers
 
@@ -88,17 +87,17 @@ positive_to hi x = lt zero32 x && le x hi
 abbrev pub halves_up : ℕ → ℤ → ℕ
 halves_up m e = (2 * (m * up e) + down e) / (2 * down e)
 
-abbrev pub pick_nearest : Bool → Nearest → Nearest → Nearest
+abbrev pub pick_nearest : Bool → Result ℤ Refusal → Result ℤ Refusal → Result ℤ Refusal
 pick_nearest true a b = a
 pick_nearest false a b = b
 
 -- a whole size with its sign, where it is from -2 ^ 31 to 2 ^ 31 - 1
-abbrev pub signed : Bool → ℕ → Nearest
-signed true w = pick_nearest (nat_le w (2 ^ 31)) (Whole (neg_ℤ (pos w))) (Refused OutOfRange)
-signed false w = pick_nearest (nat_le w (2 ^ 31 - 1)) (Whole (pos w)) (Refused OutOfRange)
+abbrev pub signed : Bool → ℕ → Result ℤ Refusal
+signed true w = pick_nearest (nat_le w (2 ^ 31)) (Ok (neg_ℤ (pos w))) (Err OutOfRange)
+signed false w = pick_nearest (nat_le w (2 ^ 31 - 1)) (Ok (pos w)) (Err OutOfRange)
 
 -- the nearest whole number, halves away from zero; refused where it is no i32
-unfoldable pub whole_of : Float → Nearest
-whole_of nan = Refused OutOfRange
-whole_of (inf s) = Refused OutOfRange
+unfoldable pub whole_of : Float → Result ℤ Refusal
+whole_of nan = Err OutOfRange
+whole_of (inf s) = Err OutOfRange
 whole_of (fin s m e) = signed s (halves_up m e)

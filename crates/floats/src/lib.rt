@@ -12,13 +12,6 @@ use refusals::Refusal;
 #[derive(Clone, Copy)]
 pub struct Metres(pub f32);
 
-// What rounding to a whole number finds: it, or that no i32 is it (OutOfRange).
-#[derive(Clone, Copy)]
-pub enum Nearest {
-    Whole(i32),
-    Refused(Refusal),
-}
-
 // |x|, as Rust's abs.
 pub fn size(x: f32) -> f32
     ensures { result ≡ size_of x }
@@ -119,29 +112,29 @@ fn halves_up(x: f32) -> u64
 }
 
 // A whole size with a sign, if it is an i32.
-fn with_sign(below: bool, w: u64) -> Nearest
+fn with_sign(below: bool, w: u64) -> Result<i32, Refusal>
     ensures { result ≡ signed below w }
 {
     if below {
         if w <= 0x8000_0000 {
-            Nearest::Whole((0 - (w as i64)) as i32)
+            Ok((0 - (w as i64)) as i32)
         } else {
-            Nearest::Refused(Refusal::OutOfRange)
+            Err(Refusal::OutOfRange)
         }
     } else if w <= 0x7fff_ffff {
-        Nearest::Whole(w as i32)
+        Ok(w as i32)
     } else {
-        Nearest::Refused(Refusal::OutOfRange)
+        Err(Refusal::OutOfRange)
     }
 }
 
 // The nearest whole number, halves away from zero, as Rust's round, if it is an i32.
-pub fn round_whole(x: f32) -> Nearest
+pub fn round_whole(x: f32) -> Result<i32, Refusal>
     ensures { result ≡ whole_of x }
 {
     if size(x) < 4294967296.0 {
         with_sign(x < 0.0, halves_up(x))
     } else {
-        Nearest::Refused(Refusal::OutOfRange)
+        Err(Refusal::OutOfRange)
     }
 }

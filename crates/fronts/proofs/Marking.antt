@@ -1,4 +1,5 @@
 -- Marks hold a state: what one more mark, or another one, changes. Assumes nothing.
+use Rattle.std.specs.Prelude.{Ok, Err, Result}
 use mathlib.Core.Path.{◌≡◌, refl, sym, ap, subst, ◌∙◌}
 use mathlib.Core.Bool.{Bool, true, false, cond, ◌||◌, or-true, true≢false}
 use mathlib.Core.List.{List, [], ◌∷◌}
@@ -15,7 +16,6 @@ use Rattle.ids.specs.Key.{on_lattice}
 use Rattle.lists.specs.Lists.{insert}
 use Rattle.lists.proofs.Bools.{cases}
 use Rattle.lists.proofs.Inserting.{insert_length}
-use Rattle.marks.specs.declared.Spot.TheVariants.{At, Absent}
 use Rattle.marks.specs.Marks.{label, spot_of, look, Kept, Entered, Enters}
 use Rattle.marks.proofs.Keeping.{label_own, value_at_lem, value_absent, look_set, look_set_other}
 use Rattle.search.specs.Keys.{member}
@@ -28,9 +28,8 @@ use Rattle.hearing.proofs.Fitting.{marks_fit}
 use Rattle.hearing.proofs.Saying.{unmarked}
 use Rattle.hearing.proofs.Walking.{real_key}
 use Rattle.fronts.specs.declared.Stop.TheVariants.{NoRow, NoCell}
-use Rattle.fronts.specs.declared.Placed.{Placed}
-use Rattle.fronts.specs.declared.Placed.TheVariants.{Now, Not}
 use Rattle.fronts.specs.Fronts.{marking, Front, Stopped, LeftRows, LeftCells, DoesWait}
+use Rattle.fronts.specs.declared.Stop.{Stop}
 
 -- ---- stored cells
 
@@ -139,13 +138,13 @@ lattice_more e k cs own h j m =
 
 module _ (lean : Bool) (e : Float) (k : ℕ) (s : State) (w : ℕ) (ks : List ℕ) (ds es : List Float) (cs : List ℕ) (h : Front lean s ks ds w es cs) where
   -- a cell that is stored or waits changes nothing
-  wait_skips : is_stored k s.stored || waits k s.waiting ≡ true → LeftCells lean (wait (length cs) e k s) s (Now w) ks ds es cs
+  wait_skips : is_stored k s.stored || waits k s.waiting ≡ true → LeftCells lean (wait (length cs) e k s) s (Ok w) ks ds es cs
   unfolding wait LeftCells
   wait_skips q = (s, (rw q, (refl, h)))
 
   module _ (p : is_stored k s.stored ≡ false) (q : waits k s.waiting ≡ false) where
     -- no place is left
-    wait_refused : length cs ≤ w → LeftCells lean (wait (length cs) e k s) s (Not NoCell) ks ds es cs
+    wait_refused : length cs ≤ w → LeftCells lean (wait (length cs) e k s) s (Err NoCell) ks ds es cs
     unfolding wait LeftCells Stopped
     wait_refused l = rw (p, q, le-ltb (length s.waiting) (length cs) (let c = h.heap.counted in omega arith))
 
@@ -158,8 +157,8 @@ module _ (lean : Bool) (e : Float) (k : ℕ) (s : State) (w : ℕ) (ks : List �
 pub wait_marked : (lean : Bool) (e : Float) (k : ℕ) (real : k ≡ 1 → ⊥) (s : State) (w : ℕ) (ks : List ℕ) (ds es : List Float) (cs : List ℕ)
     → Front lean s ks ds w es cs
     → (i : ℕ)
-    → spot_of k ks ≡ At i
-    → LeftCells lean (wait (length cs) e k s) s (Now w) ks ds es cs
+    → spot_of k ks ≡ Ok i
+    → LeftCells lean (wait (length cs) e k s) s (Ok w) ks ds es cs
 unfolding or_waits marking member
 wait_marked lean e k real s w ks ds es cs h i a =
     wait_skips lean e k s w ks ds es cs h (known (distance_of k s.stored) refl (sym (value_at_lem (label k) ks ds i a) ∙ h.marked.marks k real))
@@ -177,14 +176,14 @@ wait_marked lean e k real s w ks ds es cs h i a =
 -- ---- in a march with marks of waiting cells
 
 module _ (e : Float) (k : ℕ) (on-lattice : on_lattice k ≡ true) (s : State) (w : ℕ) (ks : List ℕ) (ds es : List Float) (cs : List ℕ)
-    (h : Front false s ks ds w es cs) (p : ℕ) (a : spot_of k ks ≡ Absent p) where
+    (h : Front false s ks ds w es cs) (p : ℕ) (a : spot_of k ks ≡ Err p) where
   bare : (is_stored k s.stored ≡ false) × (waits k s.waiting ≡ false)
   unfolding marking
   bare =
       let u = unmarked s.stored (cells_of s.waiting) ks ds h.marked k (real_key k on-lattice) (value_absent (label k) ks ds p a) in
       (no_stored k s.stored u.0, u.1)
 
-  pub mark_full : length cs ≤ w → LeftCells false (wait (length cs) e k s) s (Not NoCell) ks ds es cs
+  pub mark_full : length cs ≤ w → LeftCells false (wait (length cs) e k s) s (Err NoCell) ks ds es cs
   mark_full l = wait_refused false e k s w ks ds es cs h bare.0 bare.1 l
 
   -- it gets a mark and a place
@@ -195,7 +194,7 @@ module _ (e : Float) (k : ℕ) (on-lattice : on_lattice k ≡ true) (s : State) 
       → eq e e ≡ true
       → (es' : List Float) (cs' : List ℕ)
       → ((l : List Cell) → Heaped l w es cs → eq e e ≡ true → waits k l ≡ false → Heaped (insert cell_before (cell e k) l) (w + 1) es' cs')
-      → LeftCells false (wait (length cs) e k s) s (Now (w + 1)) ks' ds' es' cs'
+      → LeftCells false (wait (length cs) e k s) s (Ok (w + 1)) ks' ds' es' cs'
   unfolding LeftCells marking
   mark_placed ks' ds' did l o es' cs' pushed =
       let m = h.marked in (
@@ -219,7 +218,7 @@ module _ (e : Float) (k : ℕ) (on-lattice : on_lattice k ≡ true) (s : State) 
 -- ---- in a lean march
 
 module _ (seed : ℕ → Bool) (f : Field) (from : ℕ) (e : Float) (k : ℕ) (on-lattice : on_lattice k ≡ true) (s : State) (w : ℕ) (ks : List ℕ)
-    (ds es : List Float) (cs : List ℕ) (h : Front true s ks ds w es cs) (told : Told seed f from (k ∷ []) s) (p : ℕ) (a : spot_of k ks ≡ Absent p)
+    (ds es : List Float) (cs : List ℕ) (h : Front true s ks ds w es cs) (told : Told seed f from (k ∷ []) s) (p : ℕ) (a : spot_of k ks ≡ Err p)
     (b : Bool) (asked : b ≡ other_spread seed f from s.stored (f.near k)) where
   new : is_stored k s.stored ≡ false
   new = no_stored k s.stored (unmarked s.stored _ ks ds h.marked k (real_key k on-lattice) (value_absent (label k) ks ds p a)).0
@@ -228,10 +227,10 @@ module _ (seed : ℕ → Bool) (f : Field) (from : ℕ) (e : Float) (k : ℕ) (o
   unfolding member
   tells = told k (rw (eq-eqb k k refl)) new ∙ sym asked
 
-  pub lean_already : b ≡ true → LeftCells true (wait (length cs) e k s) s (Now w) ks ds es cs
+  pub lean_already : b ≡ true → LeftCells true (wait (length cs) e k s) s (Ok w) ks ds es cs
   lean_already t = wait_skips true e k s w ks ds es cs h (rw (tells ∙ t) (or-true (is_stored k s.stored)))
 
-  pub lean_full : b ≡ false → length cs ≤ w → LeftCells true (wait (length cs) e k s) s (Not NoCell) ks ds es cs
+  pub lean_full : b ≡ false → length cs ≤ w → LeftCells true (wait (length cs) e k s) s (Err NoCell) ks ds es cs
   lean_full t l = wait_refused true e k s w ks ds es cs h new (tells ∙ t) l
 
   pub lean_placed :
@@ -240,7 +239,7 @@ module _ (seed : ℕ → Bool) (f : Field) (from : ℕ) (e : Float) (k : ℕ) (o
       → eq e e ≡ true
       → (es' : List Float) (cs' : List ℕ)
       → ((l : List Cell) → Heaped l w es cs → eq e e ≡ true → waits k l ≡ false → Heaped (insert cell_before (cell e k) l) (w + 1) es' cs')
-      → LeftCells true (wait (length cs) e k s) s (Now (w + 1)) ks ds es' cs'
+      → LeftCells true (wait (length cs) e k s) s (Ok (w + 1)) ks ds es' cs'
   unfolding LeftCells marking
   lean_placed t l o es' cs' pushed = (
     state s.stored (insert cell_before (cell e k) s.waiting) s.takings,
@@ -262,7 +261,7 @@ module _ (seed : ℕ → Bool) (f : Field) (from : ℕ) (e : Float) (k : ℕ) (o
 module _ (k : ℕ) (on-lattice : on_lattice k ≡ true) (v : Float) (f : is_finite v ≡ true) (s : State) (ws vs : List ℕ) (n : ℕ) (ks : List ℕ) (ds : List Float)
     (h : Marked s.stored ws ks ds) (same : (j : ℕ) → (k ≡ j → ⊥) → member j ws ≡ member j vs) (c : n ≡ length s.stored)
     (o : member k (keys_of s.stored) ≡ false) where
-  pub store_full : length ks ≤ n → LeftRows (store (length ks) (marched_row k v) s) s vs (Not NoRow) ks ds
+  pub store_full : length ks ≤ n → LeftRows (store (length ks) (marched_row k v) s) s vs (Err NoRow) ks ds
   unfolding store LeftRows Stopped
   store_full l = rw (le-ltb (length s.stored) (length ks) (omega arith))
 
@@ -273,7 +272,7 @@ module _ (k : ℕ) (on-lattice : on_lattice k ≡ true) (v : Float) (f : is_fini
         → length ds' ≡ length ks'
         → look k ks' ds' ≡ some v
         → ((j : ℕ) → (label j ≡ label k → ⊥) → look j ks' ds' ≡ look j ks ds)
-        → LeftRows (store (length ks) (marched_row k v) s) s vs (Now (n + 1)) ks' ds'
+        → LeftRows (store (length ks) (marched_row k v) s) s vs (Ok (n + 1)) ks' ds'
     unfolding store LeftRows
     stored ks' ds' kept long new others =
         let m = insert_length row_before (marched_row k v) s.stored in (
@@ -291,12 +290,12 @@ module _ (k : ℕ) (on-lattice : on_lattice k ≡ true) (v : Float) (f : is_fini
         )
 
     -- a key with a mark gets another
-    pub store_at : (i : ℕ) → spot_of k ks ≡ At i → LeftRows (store (length ks) (marched_row k v) s) s vs (Now (n + 1)) ks (set ds i v)
+    pub store_at : (i : ℕ) → spot_of k ks ≡ Ok i → LeftRows (store (length ks) (marched_row k v) s) s vs (Ok (n + 1)) ks (set ds i v)
     store_at i a =
         stored ks (set ds i v) h.kept (length-set ds i v ∙ h.long) (look_set k ks ds i a h.long v) (look_set_other k ks ds i a h.long v)
 
     -- one without gets its first
-    pub store_put : (ks' : List ℕ) (ds' : List Float) → Entered k v ks ds ks' ds' → LeftRows (store (length ks) (marched_row k v) s) s vs (Now (n + 1)) ks' ds'
+    pub store_put : (ks' : List ℕ) (ds' : List Float) → Entered k v ks ds ks' ds' → LeftRows (store (length ks) (marched_row k v) s) s vs (Ok (n + 1)) ks' ds'
     store_put ks' ds' did = stored ks' ds' did.kept (did.values ∙ sym did.places) did.value did.others
 
 -- ---- putting a mark in
@@ -307,7 +306,7 @@ pub entered_by :
     → Enters k p v ks ds ks' ds'
     → Marked rs ws ks ds
     → length rs + length ws < length ks
-    → spot_of k ks ≡ Absent p
+    → spot_of k ks ≡ Err p
     → Entered k v ks ds ks' ds'
 entered_by rs ws k p v ks ds ks' ds' did h few absent =
     did (record { kept = h.kept; long = h.long; absent = absent; room = let m = marks_fit rs ws ks ds h in omega arith })
@@ -318,7 +317,7 @@ pub waits_entered :
     → Enters k p v ks ds ks' ds'
     → Front false s ks ds w es cs
     → length s.stored + length s.waiting < length ks
-    → spot_of k ks ≡ Absent p
+    → spot_of k ks ≡ Err p
     → Entered k v ks ds ks' ds'
 unfolding marking
 waits_entered s k p v ks ds ks' ds' w es cs did h few absent =
@@ -328,7 +327,7 @@ waits_entered s k p v ks ds ks' ds' w es cs did h few absent =
 -- a march of the same kind
 pub wait_as :
     (lean l : Bool) (seed : ℕ → Bool) (f : Field) (k : ℕ) (ns : List ℕ) (go : State → Going) (ks : List ℕ) (ds : List Float) (w : ℕ) (es : List Float)
-    (cs : List ℕ) (r : Placed) (ks' : List ℕ) (ds' es' : List Float) (cs' : List ℕ)
+    (cs : List ℕ) (r : Result ℕ Stop) (ks' : List ℕ) (ds' es' : List Float) (cs' : List ℕ)
     → lean ≡ l
     → DoesWait l seed f k ns go ks ds w es cs r ks' ds' es' cs'
     → DoesWait lean seed f k ns go ks ds w es cs r ks' ds' es' cs'

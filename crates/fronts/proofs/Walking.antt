@@ -1,4 +1,5 @@
 -- The loop over a cell's neighbours, each of which waits: what is left to do says what the whole does. Assumes nothing.
+use Rattle.std.specs.Prelude.{Ok, Err, Result}
 use mathlib.Core.Path.{◌≡◌, refl, sym, ap, subst, ◌∙◌}
 use mathlib.Core.Bool.{Bool, true, false, ◌||◌, true≢false}
 use mathlib.Core.List.{List, [], ◌∷◌}
@@ -21,8 +22,6 @@ use Rattle.marching.proofs.Spreading.{Waited, wait_waited}
 use Rattle.marching.proofs.Telling.{told_on}
 use Rattle.fronts.specs.declared.Stop.{Stop}
 use Rattle.fronts.specs.declared.Stop.TheVariants.{NoRow, NoCell}
-use Rattle.fronts.specs.declared.Placed.{Placed}
-use Rattle.fronts.specs.declared.Placed.TheVariants.{Now, Not}
 use Rattle.fronts.specs.Fronts.{Front, MarksFit, Stopped, LeftCells, DoesWait}
 
 -- ---- a step that stopped
@@ -65,7 +64,7 @@ module _ (lean : Bool) (seed : ℕ → Bool) (f : Field) (k : ℕ) (e : Float) (
   rest_all s h told room = (s, (refl, (h, (told, (room, refl)))))
 
   module _ (i : ℕ) (ks : List ℕ) (ds : List Float) (w : ℕ) (es : List Float) (cs : List ℕ) (r : Rest_at i ks ds w es cs) where
-    module _ (long : length cs ≡ length cs₀) (l : i < length ns) (p : Placed) (ks' : List ℕ) (ds' es' : List Float)
+    module _ (long : length cs ≡ length cs₀) (l : i < length ns) (p : Result ℕ Stop) (ks' : List ℕ) (ds' es' : List Float)
         (cs' : List ℕ) (does : DoesWait lean seed f k (get_or list i 0 ∷ []) (wait (length cs) e (get_or list i 0)) ks ds w es cs p ks' ds' es' cs') where
       here : drop i ns ≡ get_or list i 0 ∷ drop (suc i) ns
       here = drop-cons ns i 0 l ∙ ap (λ (n : ℕ). n ∷ drop (suc i) ns) (sym (ap (λ (x : List ℕ). get_or x i 0) listed ∙ padded_at 0 14 ns i))
@@ -82,18 +81,18 @@ module _ (lean : Bool) (seed : ℕ → Bool) (f : Field) (k : ℕ) (e : Float) (
           wider true b q = refl
           wider false b q = absurd (true≢false (sym q))
 
-      done : (o : Placed) → p ≡ o → (t : State) → Front lean t ks ds w es cs → Told seed f k (drop i ns) t → MarksFit lean (length (drop i ns)) t ks
+      done : (o : Result ℕ Stop) → p ≡ o → (t : State) → Front lean t ks ds w es cs → Told seed f k (drop i ns) t → MarksFit lean (length (drop i ns)) t ks
           → LeftCells lean (wait (length cs) e (get_or list i 0) t) t o ks' ds' es' cs'
       done o a t h told room =
-          subst (λ (o : Placed). LeftCells lean (wait (length cs) e (get_or list i 0) t) t o ks' ds' es' cs') a
+          subst (λ (o : Result ℕ Stop). LeftCells lean (wait (length cs) e (get_or list i 0) t) t o ks' ds' es' cs') a
           (does t h (told_here t told) (λ q. let x = room q in let y = ap length here in omega arith))
 
       -- a cell waits, or already did
-      pub rest_more : length ks' ≡ length ks → (w' : ℕ) → p ≡ Now w' → Rest_at (i + 1) ks' ds' w' es' cs'
+      pub rest_more : length ks' ≡ length ks → (w' : ℕ) → p ≡ Ok w' → Rest_at (i + 1) ks' ds' w' es' cs'
       unfolding LeftCells and_then
       rest_more wide w' a s h told room =
           let x = r s h told room in
-          let y = done (Now w') a x.0 x.1.1.0 x.1.1.1.0 x.1.1.1.1.0 in
+          let y = done (Ok w') a x.0 x.1.1.0 x.1.1.1.0 x.1.1.1.1.0 in
           let step = wait (length cs) e (get_or list i 0) x.0 in
           let waited = after_on (Waited (get_or list i 0 ∷ []) x.0) step y.0 (wait_waited (length cs) e (get_or list i 0) x.0) y.1.0 in
           let added = after_on (Waiting 1 x.0) step y.0 (wait_adds (length cs) e (get_or list i 0) x.0) y.1.0 in
@@ -121,19 +120,19 @@ module _ (lean : Bool) (seed : ℕ → Bool) (f : Field) (k : ℕ) (e : Float) (
           )
 
       -- one stops
-      pub rest_stop : (why : Stop) → p ≡ Not why
+      pub rest_stop : (why : Stop) → p ≡ Err why
           → (s : State) → Front lean s ks₀ ds₀ w₀ es₀ cs₀ → Told seed f k ns s → MarksFit lean (length ns) s ks₀
-          → LeftCells lean (wait_all (length cs₀) e ns s) s (Not why) ks' ds' es' cs'
+          → LeftCells lean (wait_all (length cs₀) e ns s) s (Err why) ks' ds' es' cs'
       unfolding LeftCells
       rest_stop why a s h told room =
           let x = r s h told room in
           stopped_by _ _ why (x.1.1.1.1.1 ∙ one x.0)
-          (stopped_then _ _ why (done (Not why) a x.0 x.1.1.0 x.1.1.1.0 x.1.1.1.1.0))
+          (stopped_then _ _ why (done (Err why) a x.0 x.1.1.0 x.1.1.1.0 x.1.1.1.1.0))
 
     -- all of them wait
     pub rest_none : length ns ≤ i
         → (s : State) → Front lean s ks₀ ds₀ w₀ es₀ cs₀ → Told seed f k ns s → MarksFit lean (length ns) s ks₀
-        → LeftCells lean (wait_all (length cs₀) e ns s) s (Now w) ks ds es cs
+        → LeftCells lean (wait_all (length cs₀) e ns s) s (Ok w) ks ds es cs
     unfolding LeftCells wait_all
     rest_none l s h told room =
         let x = r s h told room in

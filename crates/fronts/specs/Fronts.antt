@@ -1,6 +1,6 @@
 -- What the functions of the march promise each other. The marched lists hold a mark for each stored cell and, but in a lean march, for each waiting
 -- one, in no order; the waiting lists are a heap.
-use Rattle.std.specs.Prelude.{ℕ, suc, ◌+◌, ◌≤◌, ◌≡◌, Bool, true, false, List, [], ◌∷◌, length, Float}
+use Rattle.std.specs.Prelude.{ℕ, suc, ◌+◌, ◌≤◌, ◌≡◌, Bool, true, false, List, [], ◌∷◌, length, Float, Ok, Err, Result}
 use Rattle.std.specs.Float.Ieee.{le}
 use Rattle.floats.specs.Floats.{zero32, is_finite}
 use Rattle.heap.specs.Heap.{Heaped}
@@ -14,10 +14,6 @@ use Rattle.marching.specs.Spreading.{Told}
 use Rattle.hearing.specs.Hearing.{Marked}
 use Rattle.fronts.specs.declared.Stop.{Stop}
 use Rattle.fronts.specs.declared.Stop.TheVariants.{NoRow, NoCell}
-use Rattle.fronts.specs.declared.Placed.{Placed}
-use Rattle.fronts.specs.declared.Placed.TheVariants as placed
-use Rattle.fronts.specs.declared.Step.{Step}
-use Rattle.fronts.specs.declared.Step.TheVariants as step
 
 -- ---- what is lent
 
@@ -64,20 +60,20 @@ Stopped g NoRow = g ≡ refused NoPlace
 Stopped g NoCell = g ≡ refused NoWaitingPlace
 
 -- a step on the rows, from the state s; afterwards the cells vs have marks beside them
-unfoldable pub LeftRows : Going → State → List ℕ → Placed → List ℕ → List Float → Type 0
-LeftRows g s vs (placed.Now n) ks ds =
+unfoldable pub LeftRows : Going → State → List ℕ → Result ℕ Stop → List ℕ → List Float → Type 0
+LeftRows g s vs (Ok n) ks ds =
     (t : State) × ((g ≡ on t) × ((t.waiting ≡ s.waiting) × (Marked t.stored vs ks ds × (n ≡ length t.stored))))
-LeftRows g s vs (placed.Not why) ks ds = Stopped g why
+LeftRows g s vs (Err why) ks ds = Stopped g why
 
 -- a step on the waiting cells
-unfoldable pub LeftCells : Bool → Going → State → Placed → List ℕ → List Float → List Float → List ℕ → Type 0
-LeftCells lean g s (placed.Now w) ks ds es cs = (t : State) × ((g ≡ on t) × ((t.stored ≡ s.stored) × Front lean t ks ds w es cs))
-LeftCells lean g s (placed.Not why) ks ds es cs = Stopped g why
+unfoldable pub LeftCells : Bool → Going → State → Result ℕ Stop → List ℕ → List Float → List Float → List ℕ → Type 0
+LeftCells lean g s (Ok w) ks ds es cs = (t : State) × ((g ≡ on t) × ((t.stored ≡ s.stored) × Front lean t ks ds w es cs))
+LeftCells lean g s (Err why) ks ds es cs = Stopped g why
 
 -- a step on both
-unfoldable pub Left : Bool → Going → Step → List ℕ → List Float → List Float → List ℕ → Type 0
-Left lean g (step.On n w) ks ds es cs = (t : State) × ((g ≡ on t) × Held lean t n ks ds w es cs)
-Left lean g (step.Not why) ks ds es cs = Stopped g why
+unfoldable pub Left : Bool → Going → Result (ℕ × ℕ) Stop → List ℕ → List Float → List Float → List ℕ → Type 0
+Left lean g (Ok (n, w)) ks ds es cs = (t : State) × ((g ≡ on t) × Held lean t n ks ds w es cs)
+Left lean g (Err why) ks ds es cs = Stopped g why
 
 -- once k is stored, it is told of its neighbours who waits
 abbrev pub ToldOnce : (ℕ → Bool) → Field → ℕ → State → Type 0
@@ -93,13 +89,13 @@ ToldFirst seed f s =
     → ToldOnce seed f c.key (state s.stored cs (suc s.takings))
 
 -- what a step does to lists that hold a state: some neighbours of k wait
-abbrev pub DoesWait : Bool → (ℕ → Bool) → Field → ℕ → List ℕ → (State → Going) → List ℕ → List Float → ℕ → List Float → List ℕ → Placed → List ℕ
+abbrev pub DoesWait : Bool → (ℕ → Bool) → Field → ℕ → List ℕ → (State → Going) → List ℕ → List Float → ℕ → List Float → List ℕ → Result ℕ Stop → List ℕ
     → List Float → List Float → List ℕ → Type 0
 DoesWait lean seed f k ns go ks ds w es cs r ks' ds' es' cs' =
     (s : State) → Front lean s ks ds w es cs → Told seed f k ns s → MarksFit lean (length ns) s ks → LeftCells lean (go s) s r ks' ds' es' cs'
 
 -- k, which is not stored yet, is stored
-abbrev pub DoesSow : Bool → (ℕ → Bool) → Field → ℕ → (State → Going) → ℕ → List ℕ → List Float → ℕ → List Float → List ℕ → Step → List ℕ → List Float
+abbrev pub DoesSow : Bool → (ℕ → Bool) → Field → ℕ → (State → Going) → ℕ → List ℕ → List Float → ℕ → List Float → List ℕ → Result (ℕ × ℕ) Stop → List ℕ → List Float
     → List Float → List ℕ → Type 0
 DoesSow lean seed f k go n ks ds w es cs r ks' ds' es' cs' =
     (s : State)
@@ -110,7 +106,7 @@ DoesSow lean seed f k go n ks ds w es cs r ks' ds' es' cs' =
     → Left lean (go s) r ks' ds' es' cs'
 
 -- the first waiting cell is taken
-abbrev pub DoesTake : Bool → (ℕ → Bool) → Field → (State → Going) → ℕ → List ℕ → List Float → ℕ → List Float → List ℕ → Step → List ℕ → List Float
+abbrev pub DoesTake : Bool → (ℕ → Bool) → Field → (State → Going) → ℕ → List ℕ → List Float → ℕ → List Float → List ℕ → Result (ℕ × ℕ) Stop → List ℕ → List Float
     → List Float → List ℕ → Type 0
 DoesTake lean seed f go n ks ds w es cs r ks' ds' es' cs' =
     (s : State)
@@ -132,7 +128,7 @@ pub record Taken (lean : Bool) (k : ℕ) (s : State) (n : ℕ) (ks : List ℕ) (
   pub count : n ≡ length s.stored
   pub new : member k (keys_of s.stored) ≡ false
 
-abbrev pub DoesSettle : Bool → (ℕ → Bool) → Field → ℕ → (State → Going) → ℕ → List ℕ → List Float → ℕ → List Float → List ℕ → Step → List ℕ
+abbrev pub DoesSettle : Bool → (ℕ → Bool) → Field → ℕ → (State → Going) → ℕ → List ℕ → List Float → ℕ → List Float → List ℕ → Result (ℕ × ℕ) Stop → List ℕ
     → List Float → List Float → List ℕ → Type 0
 DoesSettle lean seed f k go n ks ds w es cs r ks' ds' es' cs' =
     (s : State)

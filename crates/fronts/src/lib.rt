@@ -22,27 +22,13 @@ ghost use Rattle.fronts.specs.Fronts.{Fair, Paired, rooms_of, Front, LeftRows, L
 use heap::{pop, push};
 use hearing::{known, other_spread, settled};
 use marching::{Course, onward, spreads};
-use marks::{Spot, enter, find};
+use marks::{enter, find};
 
 // Why a march stopped: no place for a row, or none for a waiting cell.
 #[derive(Clone, Copy)]
 pub enum Stop {
     NoRow,
     NoCell,
-}
-
-// How many there are now.
-#[derive(Clone, Copy)]
-enum Placed {
-    Now(usize),
-    Not(Stop),
-}
-
-// How many rows and waiting cells there are now.
-#[derive(Clone, Copy)]
-pub enum Step {
-    On(usize, usize),
-    Not(Stop),
 }
 
 // A cell without a mark waits at an estimate; its mark goes in from a place on.
@@ -55,7 +41,7 @@ fn wait_marked(
     place: usize,
     estimate: f32,
     key: u64,
-) -> Placed
+) -> Result<usize, Stop>
     requires paired { Paired keys.old distances.old estimates.old cells.old }
     requires keys_value { (spot_of key keys.old ≡ Absent place) × ((on_lattice key ≡ true) × (eq estimate estimate ≡ true)) }
     ensures { (s : State)
@@ -65,12 +51,12 @@ fn wait_marked(
         keys.new distances.new estimates.new cells.new }
 {
     if cells.len() <= waiting {
-        return Placed::Not(Stop::NoCell);
+        return Err(Stop::NoCell);
     }
     enter(keys, distances, place, key, f32::from_bits(0x7F80_0000));
     let held = waiting + 1;
     push(estimates, cells, waiting, estimate, key);
-    Placed::Now(held)
+    Ok(held)
 }
 
 // A neighbour of a cell, not stored, waits at an estimate in a lean march: another stored neighbour of it that has spread tells that it does already.
@@ -90,7 +76,7 @@ fn wait_lean(
     estimate: f32,
     from: u64,
     key: u64,
-) -> Placed
+) -> Result<usize, Stop>
     requires lent { Lent fused_keys.now fused_distances.now fused_weights.now fused_count
         × Paired keys.now distances.now estimates.old cells.old }
     requires keys_value { (spot_of key keys.now ≡ Absent place) × ((on_lattice key ≡ true) × (eq estimate estimate ≡ true)) }
@@ -111,14 +97,14 @@ fn wait_lean(
         from,
         key,
     ) {
-        return Placed::Now(waiting);
+        return Ok(waiting);
     }
     if cells.len() <= waiting {
-        return Placed::Not(Stop::NoCell);
+        return Err(Stop::NoCell);
     }
     let held = waiting + 1;
     push(estimates, cells, waiting, estimate, key);
-    Placed::Now(held)
+    Ok(held)
 }
 
 // A neighbour of a cell that neither is stored nor waits begins to, at an estimate.
@@ -138,7 +124,7 @@ fn wait(
     estimate: f32,
     from: u64,
     key: u64,
-) -> Placed
+) -> Result<usize, Stop>
     requires lent { Lent fused_keys.now fused_distances.now fused_weights.now fused_count
         × Paired keys.old distances.old estimates.old cells.old }
     requires key_value { (on_lattice key ≡ true) × (eq estimate estimate ≡ true) }
@@ -147,8 +133,8 @@ fn wait(
         (wait (length cells.old) estimate key) keys.old distances.old waiting estimates.old cells.old result
         keys.new distances.new estimates.new cells.new }
 {
-    let Spot::Absent(place) = find(keys, key) else {
-        return Placed::Now(waiting);
+    let Err(place) = find(keys, key) else {
+        return Ok(waiting);
     };
     if lean {
         wait_lean(
@@ -191,7 +177,7 @@ fn wait_around(
     waiting: usize,
     estimate: f32,
     key: u64,
-) -> Placed
+) -> Result<usize, Stop>
     requires lent { Lent fused_keys.now fused_distances.now fused_weights.now fused_count
         × Paired keys.old distances.old estimates.old cells.old }
     requires key_value { (on_lattice key ≡ true) × (eq estimate estimate ≡ true) }
@@ -206,8 +192,7 @@ fn wait_around(
     let list = near.keys;
     let n = near.count;
     let mut held = waiting;
-    let mut i = 0;
-    while i < n {
+    for i in 0..n {
         match wait(
             lean,
             fused_keys,
@@ -225,16 +210,15 @@ fn wait_around(
             key,
             list[i],
         ) {
-            Placed::Not(why) => return Placed::Not(why),
-            Placed::Now(more) => held = more,
+            Err(why) => return Err(why),
+            Ok(more) => held = more,
         }
-        i += 1;
     }
-    Placed::Now(held)
+    Ok(held)
 }
 
 // A new row: its mark is its distance.
-fn store(keys: &mut [u64], distances: &mut [f32], count: usize, key: u64, distance: f32) -> Placed
+fn store(keys: &mut [u64], distances: &mut [f32], count: usize, key: u64, distance: f32) -> Result<usize, Stop>
     requires { (length distances.old ≡ length keys.old) × (on_lattice key ≡ true) }
     ensures { (s : State) (ws vs : List ℕ)
         → Marked s.stored ws keys.old distances.old
@@ -247,16 +231,16 @@ fn store(keys: &mut [u64], distances: &mut [f32], count: usize, key: u64, distan
         distances.new }
 {
     if keys.len() <= count {
-        return Placed::Not(Stop::NoRow);
+        return Err(Stop::NoRow);
     }
     match find(keys, key) {
-        Spot::At(place) => {
+        Ok(place) => {
             distances[place] = distance;
-            Placed::Now(count + 1)
+            Ok(count + 1)
         }
-        Spot::Absent(place) => {
+        Err(place) => {
             enter(keys, distances, place, key, distance);
-            Placed::Now(count + 1)
+            Ok(count + 1)
         }
     }
 }
@@ -278,7 +262,7 @@ pub fn sow(
     waiting: usize,
     key: u64,
     distance: f32,
-) -> Step
+) -> Result<(usize, usize), Stop>
     requires lent { Lent fused_keys.now fused_distances.now fused_weights.now fused_count
         × Paired keys.old distances.old estimates.old cells.old }
     requires key_value { (on_lattice key ≡ true) × (is_finite distance ≡ true) }
@@ -289,8 +273,8 @@ pub fn sow(
         keys.new distances.new estimates.new cells.new }
 {
     match store(keys, distances, count, key, distance) {
-        Placed::Not(why) => Step::Not(why),
-        Placed::Now(rows) => {
+        Err(why) => Err(why),
+        Ok(rows) => {
             match wait_around(
                 lean,
                 fused_keys,
@@ -307,8 +291,8 @@ pub fn sow(
                 floats::size(distance),
                 key,
             ) {
-                Placed::Not(why) => Step::Not(why),
-                Placed::Now(held) => Step::On(rows, held),
+                Err(why) => Err(why),
+                Ok(held) => Ok((rows, held)),
             }
         }
     }
@@ -330,7 +314,7 @@ fn spread(
     waiting: usize,
     key: u64,
     distance: f32,
-) -> Placed
+) -> Result<usize, Stop>
     requires lent { Lent fused_keys.now fused_distances.now fused_weights.now fused_count
         × Paired keys.old distances.old estimates.old cells.old }
     requires key_value { on_lattice key ≡ true }
@@ -360,7 +344,7 @@ fn spread(
             key,
         )
     } else {
-        Placed::Now(waiting)
+        Ok(waiting)
     }
 }
 
@@ -380,7 +364,7 @@ fn settle(
     cells: &mut [u64],
     waiting: usize,
     key: u64,
-) -> Step
+) -> Result<(usize, usize), Stop>
     requires lent { Lent fused_keys.now fused_distances.now fused_weights.now fused_count
         × Paired keys.old distances.old estimates.old cells.old }
     requires key_value { (on_lattice key ≡ true) × Fair course }
@@ -392,8 +376,8 @@ fn settle(
 {
     let distance = settled(keys, distances, course, key);
     match store(keys, distances, count, key, distance) {
-        Placed::Not(why) => Step::Not(why),
-        Placed::Now(rows) => {
+        Err(why) => Err(why),
+        Ok(rows) => {
             match spread(
                 lean,
                 fused_keys,
@@ -410,8 +394,8 @@ fn settle(
                 key,
                 distance,
             ) {
-                Placed::Not(why) => Step::Not(why),
-                Placed::Now(held) => Step::On(rows, held),
+                Err(why) => Err(why),
+                Ok(held) => Ok((rows, held)),
             }
         }
     }
@@ -432,7 +416,7 @@ pub fn take(
     estimates: &mut [f32],
     cells: &mut [u64],
     waiting: usize,
-) -> Step
+) -> Result<(usize, usize), Stop>
     requires lent { Lent fused_keys.now fused_distances.now fused_weights.now fused_count
         × Paired keys.old distances.old estimates.old cells.old }
     requires waiting_nonzero { (0 < waiting) × ((waiting ≤ length cells.old) × (Fair course × (on_lattice (get_or cells.old 0 0) ≡ true))) }
@@ -446,7 +430,7 @@ pub fn take(
     pop(estimates, cells, waiting);
     let left = waiting - 1;
     if floats::is_finite(known(keys, distances, key)) {
-        return Step::On(count, left);
+        return Ok((count, left));
     }
     settle(
         lean,

@@ -1,6 +1,7 @@
 -- Every public contract settles its outcome: two that meet it are equal, in the answer and in every lent place. Each is
 -- one equation of an answer beside the table that is left, and its parts follow.
 -- Assumes nothing.
+use Rattle.std.specs.Prelude.{Result}
 use mathlib.Core.Path.{◌≡◌, sym, ap, ◌∙◌}
 use mathlib.Core.List.{List}
 use Prim.Native.Nat.{ℕ}
@@ -16,9 +17,10 @@ use Rattle.fusing.proofs.fused_of.Reads as fused_of
 use Rattle.fusing.proofs.fuse.Reads as fuse
 use Rattle.fusing.proofs.update_from_depth.Reads as update_from_depth
 use Rattle.fusing.proofs.update_from_depth_ray.Reads as update_from_depth_ray
+use Rattle.refusals.specs.declared.Refusal.{Refusal}
 
 parts :
-    {a a' : Fused} {ks ks' : List ℕ} {ds ds' ws ws' : List Float} {n n' : ℕ}
+    {a a' : Result Fused Refusal} {ks ks' : List ℕ} {ds ds' ws ws' : List Float} {n n' : ℕ}
     → outcome a (table ks ds ws n) ≡ outcome a' (table ks' ds' ws' n')
     → (a ≡ a') × (ks ≡ ks') × (ds ≡ ds') × (ws ≡ ws') × (n ≡ n')
 parts e = (
@@ -30,7 +32,7 @@ parts e = (
 )
 
 effect_parts :
-    {a a' : Step} {ks ks' : List ℕ} {ds ds' ws ws' : List Float} {n n' : ℕ}
+    {a a' : Result Step Refusal} {ks ks' : List ℕ} {ds ds' ws ws' : List Float} {n n' : ℕ}
     → effect a (table ks ds ws n) ≡ effect a' (table ks' ds' ws' n')
     → (a ≡ a') × (ks ≡ ks') × (ds ≡ ds') × (ws ≡ ws') × (n ≡ n')
 effect_parts e = (

@@ -1,6 +1,7 @@
 -- Fusing keeps an accepted table accepted: the key is on the lattice, the distance was tested, and a weight of at least
 -- 0 grown by a confidence of at least 0 and capped is in range.
 -- Assumes nothing.
+use Rattle.std.specs.Prelude.{Ok, Err, Some, None, Option, Result}
 use mathlib.Core.Path.{◌≡◌, refl, ap}
 use mathlib.Core.Bool.{Bool, true, false, cond}
 use Prim.Native.Nat.{ℕ, ◌<◌, ◌≤◌}
@@ -17,9 +18,6 @@ use Rattle.ids.specs.Key.{on_lattice}
 use Rattle.lists.proofs.Bools.{and_first, cases}
 use Rattle.refusals.specs.declared.Refusal.TheVariants.{TooLarge}
 use Rattle.table.specs.declared.Settings.{Settings}
-use Rattle.search.specs.declared.Found.{Found}
-use Rattle.search.specs.declared.Found.TheVariants.{At, Absent}
-use Rattle.table.specs.declared.Checked.TheVariants.{Passed}
 use Rattle.search.specs.Keys.{find}
 use Rattle.table.specs.Table.{row, Table, rows, put, relaid, settings_ok, table_check}
 use Rattle.search.proofs.KeyLaws.{found}
@@ -35,11 +33,10 @@ use Rattle.fusing.specs.declared.Voxel.{Voxel}
 use Rattle.measuring.specs.declared.Reading.{Reading}
 use Rattle.fusing.specs.declared.Averaging.{Averaging}
 use Rattle.fusing.specs.declared.Step.{Step}
-use Rattle.measuring.specs.declared.Admitted.{Admitted}
-use Rattle.measuring.specs.declared.Admitted.TheVariants.{Near, Far, No}
 use Rattle.measuring.specs.Readings.{admitted}
 use Rattle.fusing.specs.Fusing.{effect, averaging_of, new_weight, voxel_at, has_place, step_at, stored, fused_voxel, fused_near, fused_if, fuse_if, effect_of, fuse}
 use Rattle.measuring.proofs.Admitting.{near_known}
+use Rattle.refusals.specs.declared.Refusal.{Refusal}
 
 -- a new weight is in range
 pub weight_kept :
@@ -71,7 +68,7 @@ pub zero_in : (most : Float) → lt zero32 most ≡ true → between zero32 most
 unfolding le lt eq of_bits of_fields odd
 zero_in most h = rw h
 
-module _ (s : Settings) (t : Table) (k : ℕ) (m : Measured) (e : table_check s t ≡ Passed) (on : on_lattice k ≡ true)
+module _ (s : Settings) (t : Table) (k : ℕ) (m : Measured) (e : table_check s t ≡ (Ok tt)) (on : on_lattice k ≡ true)
     (sure : between zero32 one32 m.confidence ≡ true) where
   abbrev most : Float
   most = s.max_weight
@@ -90,39 +87,39 @@ module _ (s : Settings) (t : Table) (k : ℕ) (m : Measured) (e : table_check s 
   many : length (rows t) ≡ t.count
   many = rows_length t.keys t.distances t.weights t.count (sound s t e).lengths
 
-  inside : (i : ℕ) → find k (take t.count t.keys) ≡ At i → i < t.count
+  inside : (i : ℕ) → find k (take t.count t.keys) ≡ Some i → i < t.count
   inside i q = rw (length-take-le t.count t.keys fit.0) at (found k (take t.count t.keys) i q).0
 
   -- the old weight is in range
-  old_weight : (f : Found) → find k (take t.count t.keys) ≡ f → between zero32 most (voxel_at f t).weight ≡ true
+  old_weight : (f : Option ℕ) → find k (take t.count t.keys) ≡ f → between zero32 most (voxel_at f t).weight ≡ true
   unfolding voxel_at
-  old_weight Absent q = zero_in most above
-  old_weight (At i) q =
+  old_weight None q = zero_in most above
+  old_weight (Some i) q =
       rw (← get_or-take t.count t.weights i nan (inside i q), ← cols.2) (at_ok most (rows t) i (sound s t e).ranges (rw many (inside i q)))
 
   -- a row that has a place does not outgrow the lists
-  placed : (f : Found) (d w : Float) → find k (take t.count t.keys) ≡ f → has_place f t ≡ true → length (put (row k d w) (rows t)) ≤ length t.keys
+  placed : (f : Option ℕ) (d w : Float) → find k (take t.count t.keys) ≡ f → has_place f t ≡ true → length (put (row k d w) (rows t)) ≤ length t.keys
   unfolding has_place
-  placed Absent d w q h = omega (arith, put_length (row k d w) (rows t), many, ltb-true t.count (length t.keys) h)
-  placed (At i) d w q h =
+  placed None d w q h = omega (arith, put_length (row k d w) (rows t), many, ltb-true t.count (length t.keys) h)
+  placed (Some i) d w q h =
       let p : put (row k d w) (rows t) ≡ set (rows t) i (row k d w) =
       put_set (row k d w) (rows t) i (rw cols.0 (sound s t e).order) (rw many (inside i q))
       (rw cols.0 (found k (take t.count t.keys) i q).1) in
       omega (arith, ap length p, length-set (rows t) i (row k d w), many, fit.0)
 
   keeps_if :
-      (b : Bool) (done : Step) (v : Voxel)
+      (b : Bool) (done : Result Step Refusal) (v : Voxel)
       → (b ≡ true → length (put (row k v.distance v.weight) (rows t)) ≤ length t.keys)
       → between zero32 most v.weight ≡ true
-      → table_check s (stored t k b done v).left ≡ Passed
+      → table_check s (stored t k b done v).left ≡ (Ok tt)
   unfolding stored
   keeps_if false done v h w = e
   keeps_if true done v h w =
       let r = row k v.distance v.weight in
       cases (λ (x : Bool).
       table_check s
-      (cond x (effect done (relaid t (put r (rows t)))) (effect (Step.Refused TooLarge) t)).left
-      ≡ Passed) (within million v.distance)
+      (cond x (effect done (relaid t (put r (rows t)))) (effect (Err TooLarge) t)).left
+      ≡ (Ok tt)) (within million v.distance)
       (λ x.
       relaid_check s t (put r (rows t)) e (h refl)
       (put-rows_ok most r (rows t) (rw (on, x, w)) (sound s t e).ranges)
@@ -131,22 +128,22 @@ module _ (s : Settings) (t : Table) (k : ℕ) (m : Measured) (e : table_check s 
 
   -- whatever storing answers, the table passes
   stored_keeps :
-      (f : Found)
+      (f : Option ℕ)
       → find k (take t.count t.keys) ≡ f
-      → table_check s (stored t k (has_place f t) (step_at f t k) (fused_voxel (averaging_of s) (voxel_at f t) m)).left ≡ Passed
+      → table_check s (stored t k (has_place f t) (step_at f t k) (fused_voxel (averaging_of s) (voxel_at f t) m)).left ≡ (Ok tt)
   stored_keeps f q =
       keeps_if (has_place f t) (step_at f t k) (fused_voxel (averaging_of s) (voxel_at f t) m) (λ h. placed f _ _ q h)
       (voxel_kept (averaging_of s) (voxel_at f t) m above (old_weight f q) sure)
 
-  near_keeps : table_check s (fused_near (averaging_of s) t k m).left ≡ Passed
+  near_keeps : table_check s (fused_near (averaging_of s) t k m).left ≡ (Ok tt)
   unfolding fused_near
   near_keeps = stored_keeps (find k (take t.count t.keys)) refl
 
 -- fusing keeps the table's rules
-pub fuse_keeps : (s : Settings) (t : Table) (k : ℕ) (r : Reading) → table_check s t ≡ Passed → table_check s (fuse s t k r).left ≡ Passed
+pub fuse_keeps : (s : Settings) (t : Table) (k : ℕ) (r : Reading) → table_check s t ≡ (Ok tt) → table_check s (fuse s t k r).left ≡ (Ok tt)
 unfolding fuse effect_of fuse_if fused_if
 fuse_keeps s t k r e = rw e (if_keeps (admitted s k r) refl) where
-  if_keeps : (a : Admitted) → admitted s k r ≡ a → table_check s (fused_if (averaging_of s) t k a).left ≡ Passed
-  if_keeps (No why) q = e
-  if_keeps Far q = e
-  if_keeps (Near m) q = let n = near_known s k r m q in near_keeps s t k m e n.0 n.1
+  if_keeps : (a : Result (Option Measured) Refusal) → admitted s k r ≡ a → table_check s (fused_if (averaging_of s) t k a).left ≡ (Ok tt)
+  if_keeps (Err why) q = e
+  if_keeps (Ok None) q = e
+  if_keeps (Ok (Some m)) q = let n = near_known s k r m q in near_keeps s t k m e n.0 n.1

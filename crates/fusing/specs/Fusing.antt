@@ -1,14 +1,11 @@
 -- Fusing one reading into the table.
-use Rattle.std.specs.Prelude.{ℕ, Bool, true, false, cond, length, get_or, take, ltb, Float}
+use Rattle.std.specs.Prelude.{ℕ, Bool, true, false, cond, length, get_or, take, ltb, Float, Ok, Err, Some, None, Option, Result}
 use Rattle.std.specs.Float.{nan, binary32}
 use Rattle.std.specs.Float.Ieee.{add, mul, div, lt}
 use Rattle.floats.specs.Floats.{zero32, million, within, smaller_of}
 use Rattle.refusals.specs.declared.Refusal.TheVariants.{NoPlace, TooLarge}
 use Rattle.refusals.specs.Refusals.{number_of}
 use Rattle.table.specs.declared.Settings.{Settings}
-use Rattle.search.specs.declared.Found.{Found}
-use Rattle.search.specs.declared.Found.TheVariants.{At, Absent}
-use Rattle.table.specs.declared.Checked.{Checked}
 use Rattle.search.specs.Keys.{member, find, place_of}
 use Rattle.table.specs.Table.{row, Table, rows, table_check, put, relaid}
 use Rattle.fusing.specs.declared.Averaging.{Averaging}
@@ -16,24 +13,24 @@ use Rattle.fusing.specs.declared.Voxel.{Voxel}
 use Rattle.fusing.specs.declared.Step.{Step}
 use Rattle.measuring.specs.declared.Reading.{Reading}
 use Rattle.measuring.specs.declared.Measured.{Measured}
-use Rattle.measuring.specs.declared.Admitted.{Admitted}
 use Rattle.fusing.specs.declared.Fused.{Fused}
 use Rattle.measuring.specs.Readings.{admitted}
+use Rattle.refusals.specs.declared.Refusal.{Refusal}
 
 -- what a fuse answers, and the table that it leaves
 pub record Outcome : Type 0 where
-  pub answer : Fused
+  pub answer : Result Fused Refusal
   pub left : Table
 
-abbrev pub outcome : Fused → Table → Outcome
+abbrev pub outcome : Result Fused Refusal → Table → Outcome
 outcome a t = record { answer = a; left = t }
 
 -- what a reading does, and the table that it leaves
 pub record Effect : Type 0 where
-  pub step : Step
+  pub step : Result Step Refusal
   pub left : Table
 
-abbrev pub effect : Step → Table → Effect
+abbrev pub effect : Result Step Refusal → Table → Effect
 effect step t = record { step = step; left = t }
 
 -- how readings are averaged: a row weighs at most the maximum weight
@@ -54,27 +51,27 @@ fused_voxel how old m =
     record { distance = cond (lt zero32 old.weight) (div binary32 sum w) m.distance; weight = w }
 
 -- the voxel at a found place, which is never past the lists; a new key starts with (0, 0)
-unfoldable pub voxel_at : Found → Table → Voxel
-voxel_at (At i) t = record { distance = get_or t.distances i nan; weight = get_or t.weights i nan }
-voxel_at Absent t = record { distance = zero32; weight = zero32 }
+unfoldable pub voxel_at : Option ℕ → Table → Voxel
+voxel_at (Some i) t = record { distance = get_or t.distances i nan; weight = get_or t.weights i nan }
+voxel_at None t = record { distance = zero32; weight = zero32 }
 
 -- a stored key has its place; a new one needs a free one
-unfoldable pub has_place : Found → Table → Bool
-has_place (At i) t = true
-has_place Absent t = ltb t.count (length t.keys)
+unfoldable pub has_place : Option ℕ → Table → Bool
+has_place (Some i) t = true
+has_place None t = ltb t.count (length t.keys)
 
 -- a stored key's row is changed at its place; a new one is added at the place that its key takes
-unfoldable pub step_at : Found → Table → ℕ → Step
-step_at (At i) t k = Step.Changed i
-step_at Absent t k = Step.Added (place_of k (take t.count t.keys))
+unfoldable pub step_at : Option ℕ → Table → ℕ → Result Step Refusal
+step_at (Some i) t k = Ok (Step.Changed i)
+step_at None t k = Ok (Step.Added (place_of k (take t.count t.keys)))
 
 -- the voxel v is k's: refusals 6 and 7, or the step done and the table with k's row
-unfoldable pub stored : Table → ℕ → Bool → Step → Voxel → Effect
-stored t k false done v = effect (Step.Refused NoPlace) t
+unfoldable pub stored : Table → ℕ → Bool → Result Step Refusal → Voxel → Effect
+stored t k false done v = effect (Err NoPlace) t
 stored t k true done v =
     cond (within million v.distance)
     (effect done (relaid t (put (row k v.distance v.weight) (rows t))))
-    (effect (Step.Refused TooLarge) t)
+    (effect (Err TooLarge) t)
 
 -- a reading that is not far, fused into k's voxel
 unfoldable pub fused_near : Averaging → Table → ℕ → Measured → Effect
@@ -84,17 +81,17 @@ fused_near how t k m =
     stored t k (has_place f t) (step_at f t k) (fused_voxel how (voxel_at f t) m)
 
 -- what the tests of the reading refuse stays refused, and Far is Far
-unfoldable pub fused_if : Averaging → Table → ℕ → Admitted → Effect
+unfoldable pub fused_if : Averaging → Table → ℕ → Result (Option Measured) Refusal → Effect
 unfolding fused_near
-fused_if how t k (Admitted.No why) = effect (Step.Refused why) t
-fused_if how t k Admitted.Far = effect Step.Far t
-fused_if how t k (Admitted.Near m) = fused_near how t k m
+fused_if how t k (Err why) = effect (Err why) t
+fused_if how t k (Ok None) = effect (Ok Step.Far) t
+fused_if how t k (Ok (Some m)) = fused_near how t k m
 
 -- what the tests of the table refuse stays refused
-unfoldable pub fuse_if : Checked → Settings → Table → ℕ → Reading → Effect
+unfoldable pub fuse_if : Result (Unit {0}) Refusal → Settings → Table → ℕ → Reading → Effect
 unfolding fused_if admitted
-fuse_if (Checked.Refused why) s t k r = effect (Step.Refused why) t
-fuse_if Checked.Passed s t k r = fused_if (averaging_of s) t k (admitted s k r)
+fuse_if (Err why) s t k r = effect (Err why) t
+fuse_if (Ok tt) s t k r = fused_if (averaging_of s) t k (admitted s k r)
 
 -- one reading: refusals 1, 2 and 3, then 4 and 5, Far, 6 and 7; only a reading that is stored changes the table
 unfoldable pub effect_of : Settings → Table → ℕ → Reading → Effect
@@ -106,11 +103,11 @@ abbrev pub stored_key : ℕ → Table → Bool
 stored_key k t = member k (take t.count t.keys)
 
 -- a row that was added is answered New, and one that was stored Changed, even if its bits come out the same
-abbrev pub fused_of : Step → Fused
-fused_of (Step.Added i) = Fused.New
-fused_of (Step.Changed i) = Fused.Changed
-fused_of Step.Far = Fused.Far
-fused_of (Step.Refused why) = Fused.Refused why
+abbrev pub fused_of : Result Step Refusal → Result Fused Refusal
+fused_of (Ok (Step.Added i)) = (Ok Fused.New)
+fused_of (Ok (Step.Changed i)) = (Ok Fused.Changed)
+fused_of (Ok Step.Far) = (Ok Fused.Far)
+fused_of (Err why) = Err why
 
 abbrev pub answered : Effect → Outcome
 answered e = outcome (fused_of e.step) e.left
@@ -121,8 +118,8 @@ unfolding effect_of
 fuse s t k r = answered (effect_of s t k r)
 
 -- the number of an answer: 102 for New, 103 for Changed, 100 for Far, and document 01's for a refusal
-abbrev pub fused_number : Fused → ℕ
-fused_number Fused.New = 102
-fused_number Fused.Changed = 103
-fused_number Fused.Far = 100
-fused_number (Fused.Refused why) = number_of why
+abbrev pub fused_number : Result Fused Refusal → ℕ
+fused_number (Ok Fused.New) = 102
+fused_number (Ok Fused.Changed) = 103
+fused_number (Ok Fused.Far) = 100
+fused_number (Err why) = number_of why

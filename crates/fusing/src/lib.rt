@@ -1,17 +1,17 @@
 // Fusing one reading into the table (src/layers/tsdf.rs: update_from_depth, update_from_depth_ray).
 #![tactic(auto)]
 
-ghost use Rattle.std.specs.Prelude.{◌≡◌, true, length, take};
+ghost use Rattle.std.specs.Prelude.{◌≡◌, true, length, take, Ok, None};
 ghost use Rattle.search.specs.Keys.{find, ascending};
 ghost use Rattle.table.specs.Table.{table, lengths_ok, table_check};
 ghost use Rattle.fusing.specs.Fusing.{outcome, effect, averaging_of, new_weight, fused_voxel, fused_near, effect_of, fused_of, fuse};
 
 use floats::{Metres, smaller, within};
 use lists::{insert_f32, insert_u64};
-use measuring::{Admitted, Measured, Reading, admit};
+use measuring::{Measured, Reading, admit};
 use refusals::Refusal;
-use search::{Found, find_row, place_of};
-use table::{Checked, Settings, check_table};
+use search::{find_row, place_of};
+use table::{Settings, check_table};
 
 // What a fuse answers: a row is new, a stored one is changed, the reading is far, or why it is refused.
 #[derive(Clone, Copy)]
@@ -87,16 +87,16 @@ fn add_row(
     count: &mut usize,
     key: u64,
     m: Measured,
-) -> Step
+) -> Result<Step, Refusal>
     requires count_value { lengths_ok (length keys.old) (length distances.old) (length weights.old) count.old ≡ true }
     requires keys_value { ascending (take count.old keys.old) ≡ true }
-    requires keys_value_2 { find key (take count.old keys.old) ≡ Found.Absent }
+    requires keys_value_2 { find key (take count.old keys.old) ≡ None }
     ensures { effect result (table keys.new distances.new weights.new count.new)
         ≡ fused_near how (table keys.old distances.old weights.old count.old) key m }
 {
     let n = *count;
     if keys.len() <= n {
-        return Step::Refused(Refusal::NoPlace);
+        return Err(Refusal::NoPlace);
     }
     let v = fused_voxel(
         how,
@@ -107,14 +107,14 @@ fn add_row(
         m,
     );
     if !within(1000000.0, v.distance) {
-        return Step::Refused(Refusal::TooLarge);
+        return Err(Refusal::TooLarge);
     }
     let place = place_of(keys, n, key);
     insert_u64(keys, n, place, key);
     insert_f32(distances, n, place, v.distance);
     insert_f32(weights, n, place, v.weight);
     *count = n + 1;
-    Step::Added(place)
+    Ok(Step::Added(place))
 }
 
 // A reading that is not far, fused into the row of `key`.
@@ -126,14 +126,14 @@ fn fuse_near(
     count: &mut usize,
     key: u64,
     m: Measured,
-) -> Step
+) -> Result<Step, Refusal>
     requires count_value { lengths_ok (length keys.old) (length distances.old) (length weights.old) count.old ≡ true }
     requires keys_value { ascending (take count.old keys.old) ≡ true }
     ensures { effect result (table keys.new distances.new weights.new count.new)
         ≡ fused_near how (table keys.old distances.old weights.old count.old) key m }
 {
     let n = *count;
-    let Found::At(i) = find_row(keys, n, key) else {
+    let Some(i) = find_row(keys, n, key) else {
         return add_row(how, keys, distances, weights, count, key, m);
     };
     let old = Voxel {
@@ -142,11 +142,11 @@ fn fuse_near(
     };
     let v = fused_voxel(how, old, m);
     if !within(1000000.0, v.distance) {
-        return Step::Refused(Refusal::TooLarge);
+        return Err(Refusal::TooLarge);
     }
     distances[i] = v.distance;
     weights[i] = v.weight;
-    Step::Changed(i)
+    Ok(Step::Changed(i))
 }
 
 // One reading, into a table that passed the check.
@@ -158,15 +158,15 @@ pub fn fuse_sound(
     count: &mut usize,
     key: u64,
     reading: Reading,
-) -> Step
-    requires { table_check settings (table keys.old distances.old weights.old count.old) ≡ Checked.Passed }
+) -> Result<Step, Refusal>
+    requires { table_check settings (table keys.old distances.old weights.old count.old) ≡ (Ok tt) }
     ensures { effect result (table keys.new distances.new weights.new count.new)
         ≡ effect_of settings (table keys.old distances.old weights.old count.old) key reading }
 {
     match admit(settings, key, reading) {
-        Admitted::No(why) => Step::Refused(why),
-        Admitted::Far => Step::Far,
-        Admitted::Near(near) => fuse_near(
+        Err(why) => Err(why),
+        Ok(None) => Ok(Step::Far),
+        Ok(Some(near)) => fuse_near(
             averaging_of(settings),
             keys,
             distances,
@@ -179,14 +179,14 @@ pub fn fuse_sound(
 }
 
 // What is answered to what a reading did.
-pub fn fused_of(step: Step) -> Fused
+pub fn fused_of(step: Result<Step, Refusal>) -> Result<Fused, Refusal>
     ensures { result ≡ fused_of step }
 {
     match step {
-        Step::Added(_) => Fused::New,
-        Step::Changed(_) => Fused::Changed,
-        Step::Far => Fused::Far,
-        Step::Refused(why) => Fused::Refused(why),
+        Ok(Step::Added(_)) => Ok(Fused::New),
+        Ok(Step::Changed(_)) => Ok(Fused::Changed),
+        Ok(Step::Far) => Ok(Fused::Far),
+        Err(why) => Err(why),
     }
 }
 
@@ -199,13 +199,13 @@ pub fn fuse(
     count: &mut usize,
     key: u64,
     reading: Reading,
-) -> Fused
+) -> Result<Fused, Refusal>
     ensures { outcome result (table keys.new distances.new weights.new count.new)
         ≡ fuse settings (table keys.old distances.old weights.old count.old) key reading }
 {
     match check_table(settings, keys, distances, weights, *count) {
-        Checked::Refused(why) => Fused::Refused(why),
-        Checked::Passed => {
+        Err(why) => Err(why),
+        Ok(()) => {
             let step = fuse_sound(settings, keys, distances, weights, count, key, reading);
             fused_of(step)
         }
@@ -222,7 +222,7 @@ pub fn update_from_depth(
     key: u64,
     distance: Metres,
     confidence: f32,
-) -> Fused
+) -> Result<Fused, Refusal>
     ensures { outcome result (table keys.new distances.new weights.new count.new)
         ≡ fuse settings (table keys.old distances.old weights.old count.old)
         key (Reading.Direct distance confidence) }
@@ -247,7 +247,7 @@ pub fn update_from_depth_ray(
     sensor_z: Metres,
     depth: Metres,
     confidence: f32,
-) -> Fused
+) -> Result<Fused, Refusal>
     ensures { outcome result (table keys.new distances.new weights.new count.new)
         ≡ fuse settings (table keys.old distances.old weights.old count.old)
         key (Reading.Ray sensor_x sensor_y sensor_z depth confidence) }

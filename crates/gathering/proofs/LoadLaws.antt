@@ -1,5 +1,6 @@
 -- Loaded rows change nothing where they are settled, and those that wait are not in the table.
 -- Assumes nothing.
+use Rattle.std.specs.Prelude.{Some, None}
 use mathlib.Core.Path.{◌≡◌, refl, sym, ap, ◌∙◌}
 use mathlib.Core.Bool.{Bool, true, false, cond}
 use mathlib.Core.List.{List, [], ◌∷◌}
@@ -12,7 +13,6 @@ use Rattle.lists.proofs.Bools.{cases}
 use lib.Seq.{set-get_or, get_or-take, length-take-le}
 use lib.Ieee.{Float, nan, le, lt, eq, odd, of_bits, of_fields}
 use Rattle.floats.specs.Floats.{f32, zero32, between}
-use Rattle.search.specs.declared.Found.TheVariants.{At, Absent}
 use Rattle.search.specs.Keys.{ascending, find}
 use Rattle.table.specs.Table.{Row, row, Table, table, rows_of, rows, rows_ok, lengths_ok, put}
 use Rattle.search.proofs.KeyLaws.{found}
@@ -60,7 +60,7 @@ module _ (most : Float) (ks : List ℕ) (ds ws : List Float) (n : ℕ)
       )
 
   -- the row that stands there is put for nothing
-  put_there : (k i : ℕ) (d w : Float) → find k (take n ks) ≡ At i → put (row k (get_or ds i d) (get_or ws i w)) (rows t) ≡ rows t
+  put_there : (k i : ℕ) (d w : Float) → find k (take n ks) ≡ Some i → put (row k (get_or ds i d) (get_or ws i w)) (rows t) ≡ rows t
   put_there k i d w e =
       sym (relaid_rows t (put (row k (get_or ds i d) (get_or ws i w)) (rows t)))
       ∙ ap (λ (u : Table). rows u) (relaid_set ks ds ws n known a k i (get_or ds i d) (get_or ws i w) e)
@@ -73,7 +73,7 @@ module _ (most : Float) (ks : List ℕ) (ds ws : List Float) (n : ℕ)
   unfolding value_at
   stands_there k =
       cases (λ (b : Bool).
-      find k (take n ks) ≡ cond b (At (below (seat k))) Absent
+      find k (take n ks) ≡ cond b (Some (below (seat k))) None
       → standing most (cond b (get_or ws (below (seat k)) (f32 0xBF80_0000)) (f32 0xBF80_0000)) ≡ true
       → put
       (row k (cond b (get_or ds (below (seat k)) zero32) zero32) (cond b (get_or ws (below (seat k)) (f32 0xBF80_0000)) (f32 0xBF80_0000)))
@@ -101,13 +101,13 @@ module _ (most : Float) (ks : List ℕ) (ds ws : List Float) (n : ℕ)
       (λ s. rest)
 
   -- a row that waits is not in the table
-  waits_there : rows_ok most (rows t) ≡ true → (k : ℕ) → standing most (value_at ws (f32 0xBF80_0000) (seat k)) ≡ false → find k (take n ks) ≡ Absent
+  waits_there : rows_ok most (rows t) ≡ true → (k : ℕ) → standing most (value_at ws (f32 0xBF80_0000) (seat k)) ≡ false → find k (take n ks) ≡ None
   unfolding value_at
   waits_there ok k =
       cases (λ (b : Bool).
-      find k (take n ks) ≡ cond b (At (below (seat k))) Absent
+      find k (take n ks) ≡ cond b (Some (below (seat k))) None
       → standing most (cond b (get_or ws (below (seat k)) (f32 0xBF80_0000)) (f32 0xBF80_0000)) ≡ false
-      → find k (take n ks) ≡ Absent) (over k)
+      → find k (take n ks) ≡ None) (over k)
       (λ c e s.
       let f = lengths_known (length ks) (length ds) (length ws) n known in
       let i : ℕ = below (seat k) in
@@ -126,5 +126,5 @@ module _ (most : Float) (ks : List ℕ) (ds ws : List Float) (n : ℕ)
     pub puts_loaded : puts most (rows_of oks ods ows m) (rows t) ≡ rows t
     puts_loaded = puts_each oks ods ows m (each ss oks ods ows m p q r h)
 
-    pub waits_loaded : rows_ok most (rows t) ≡ true → (i : ℕ) → i < m → standing most (get_or ows i nan) ≡ false → find (get_or oks i 0) (take n ks) ≡ Absent
+    pub waits_loaded : rows_ok most (rows t) ≡ true → (i : ℕ) → i < m → standing most (get_or ows i nan) ≡ false → find (get_or oks i 0) (take n ks) ≡ None
     waits_loaded ok i l s = waits_there ok (get_or oks i 0) (rw (each ss oks ods ows m p q r h i l).1 at s)

@@ -1,5 +1,6 @@
 -- Putting rows: an equal key replaces, different keys change places, and what was put is found.
 -- Assumes nothing.
+use Rattle.std.specs.Prelude.{Some, None}
 use mathlib.Core.Path.{◌≡◌, refl, sym, ap, ◌∙◌}
 use mathlib.Core.Logic.{◌⊎◌, inl, inr}
 use mathlib.Core.Bool.{Bool, true, false, cond}
@@ -12,7 +13,6 @@ use lib.Dec.{ltb, eqb}
 use lib.ListN.{length, get_or, set, length-map}
 use lib.Ieee.{Float, nan}
 use Rattle.lists.proofs.Bools.{cases}
-use Rattle.search.specs.declared.Found.TheVariants.{At, Absent}
 use Rattle.search.specs.Keys.{ascending, find, next}
 use Rattle.table.specs.Table.{Row, put}
 use Rattle.search.proofs.KeyLaws.{first_below, tail_ascends, absent_differs}
@@ -83,18 +83,18 @@ put_swaps r s (x ∷ l) h = go (put_swaps r s l h) (three x.key s.key) (three x.
 -- r's row is found in l
 pub record HasRow (r : Row) (l : List Row) : Type 0 where
   pub place : ℕ
-  pub at : find r.key (keys_of l) ≡ At place
+  pub at : find r.key (keys_of l) ≡ Some place
   pub distance : get_or (distances_of l) place nan ≡ r.distance
   pub weight : get_or (weights_of l) place nan ≡ r.weight
 
-at_first : (r : Row) (l : List Row) → find r.key (keys_of (r ∷ l)) ≡ At 0
+at_first : (r : Row) (l : List Row) → find r.key (keys_of (r ∷ l)) ≡ Some 0
 unfolding find
 at_first r l = rw (eq-eqb r.key r.key refl)
 
 first_row : (r : Row) (l : List Row) → HasRow r (r ∷ l)
 first_row r l = record { place = 0; at = at_first r l; distance = refl; weight = refl }
 
-at_later : (r x : Row) (l : List Row) (p : ℕ) → x.key < r.key → find r.key (keys_of l) ≡ At p → find r.key (keys_of (x ∷ l)) ≡ At (suc p)
+at_later : (r x : Row) (l : List Row) (p : ℕ) → x.key < r.key → find r.key (keys_of l) ≡ Some p → find r.key (keys_of (x ∷ l)) ≡ Some (suc p)
 unfolding find next
 at_later r x l p h e = rw (ne_eqb x.key r.key (λ q. omega arith), e)
 
@@ -111,12 +111,12 @@ has_put r (x ∷ l) = go (has_put r l) (three x.key r.key)
     go ih (inr (inl h)) = rw (here r x l h) (first_row r l)
     go ih (inr (inr h)) = rw (front r x l h) (first_row r (x ∷ l))
 
-absent_cons : (k : ℕ) (x : Row) (l : List Row) → (x.key ≡ k → ⊥) → find k (keys_of l) ≡ Absent → find k (keys_of (x ∷ l)) ≡ Absent
+absent_cons : (k : ℕ) (x : Row) (l : List Row) → (x.key ≡ k → ⊥) → find k (keys_of l) ≡ None → find k (keys_of (x ∷ l)) ≡ None
 unfolding find next
 absent_cons k x l h a = rw (ne_eqb x.key k h, a)
 
 -- another key stays absent
-pub absent_put : (k : ℕ) (r : Row) (l : List Row) → (r.key ≡ k → ⊥) → find k (keys_of l) ≡ Absent → find k (keys_of (put r l)) ≡ Absent
+pub absent_put : (k : ℕ) (r : Row) (l : List Row) → (r.key ≡ k → ⊥) → find k (keys_of l) ≡ None → find k (keys_of (put r l)) ≡ None
 unfolding put
 absent_put k r [] h a = absent_cons k r [] h a
 absent_put k r (x ∷ l) h a =
@@ -124,16 +124,16 @@ absent_put k r (x ∷ l) h a =
     go (absent_put k r l h d.1) d (three x.key r.key)
   where
     go :
-        find k (keys_of (put r l)) ≡ Absent
-        → (x.key ≡ k → ⊥) × (find k (keys_of l) ≡ Absent)
+        find k (keys_of (put r l)) ≡ None
+        → (x.key ≡ k → ⊥) × (find k (keys_of l) ≡ None)
         → (x.key < r.key) ⊎ ((x.key ≡ r.key) ⊎ (r.key < x.key))
-        → find k (keys_of (put r (x ∷ l))) ≡ Absent
+        → find k (keys_of (put r (x ∷ l))) ≡ None
     go ih d (inl q) = rw (past r x l q) (absent_cons k x (put r l) d.0 ih)
     go ih d (inr (inl q)) = rw (here r x l q) (absent_cons k r l h d.1)
     go ih d (inr (inr q)) = rw (front r x l q) (absent_cons k r (x ∷ l) h a)
 
 -- a new key makes one row more, and no key makes fewer
-pub longer : (r : Row) (l : List Row) → find r.key (keys_of l) ≡ Absent → length (put r l) ≡ suc (length l)
+pub longer : (r : Row) (l : List Row) → find r.key (keys_of l) ≡ None → length (put r l) ≡ suc (length l)
 unfolding put
 longer r [] a = refl
 longer r (x ∷ l) a =
@@ -207,11 +207,11 @@ module _ (most : Float) where
   pub puts_absent :
       (own rs : List Row) (k : ℕ)
       → ((q : ℕ) → q < length own → standing most (get_or (weights_of own) q nan) ≡ true → get_or (keys_of own) q 0 ≡ k → ⊥)
-      → find k (keys_of rs) ≡ Absent
-      → find k (keys_of (puts most own rs)) ≡ Absent
+      → find k (keys_of rs) ≡ None
+      → find k (keys_of (puts most own rs)) ≡ None
   unfolding puts
   puts_absent [] rs k h a = a
   puts_absent (x ∷ own) rs k h a =
-      by_first (λ t. find k (keys_of t) ≡ Absent) x own rs
+      by_first (λ t. find k (keys_of t) ≡ None) x own rs
       (λ w. absent_put k x (puts most own rs) (h 0 (suc-le-suc zero-le) w) (puts_absent own rs k (λ q l. h (suc q) (suc-le-suc l)) a))
       (λ w. puts_absent own rs k (λ q l. h (suc q) (suc-le-suc l)) a)

@@ -1,5 +1,6 @@
 -- The seat of a key: a row is put there, the seats of ascending keys are in order, and putting a later row moves no earlier seat.
 -- Assumes nothing.
+use Rattle.std.specs.Prelude.{Some, None}
 use mathlib.Core.Path.{◌≡◌, refl, sym, ap, ◌∙◌}
 use mathlib.Core.Logic.{◌⊎◌, inl, inr}
 use mathlib.Core.Bool.{Bool, true, cond, ◌&&◌, and-false}
@@ -12,7 +13,6 @@ use lib.ListN.{length, get_or, take, drop}
 use lib.Seq.{length-take-le, get_or-take}
 use lib.Ieee.{Float}
 use Rattle.lists.proofs.Bools.{cases}
-use Rattle.search.specs.declared.Found.TheVariants.{At, Absent}
 use Rattle.search.specs.Keys.{ascending, place_of, find, find_by}
 use Rattle.search.proofs.KeyLaws.{place_length, halved_place, find_by-find}
 use Rattle.table.specs.Table.{Row, put}
@@ -141,16 +141,16 @@ seat_place k (l ∷ ls) =
 by_over :
     (b : Bool) (p s : ℕ)
     → s ≡ seat_by b p
-    → cond b (At p) Absent ≡ cond (ltb (below s) (above s)) (At (below s)) Absent
+    → cond b (Some p) None ≡ cond (ltb (below s) (above s)) (Some (below s)) None
 by_over b p s =
-    cases (λ (t : Bool). s ≡ seat_by t p → cond t (At p) Absent ≡ cond (ltb (below s) (above s)) (At (below s)) Absent) b
+    cases (λ (t : Bool). s ≡ seat_by t p → cond t (Some p) None ≡ cond (ltb (below s) (above s)) (Some (below s)) None) b
     (λ c e. let q : below s ≡ p = omega arith in rw (lt-ltb (below s) (above s) (omega arith), q) refl)
     (λ c e. rw (le-ltb (below s) (above s) (omega arith)) refl)
 
 -- on ascending keys a seat over a row is where its key is found
 pub seat_find : (k : ℕ) (ks : List ℕ)
     → ascending ks ≡ true
-    → find k ks ≡ cond (ltb (below (seat_of k ks)) (above (seat_of k ks))) (At (below (seat_of k ks))) Absent
+    → find k ks ≡ cond (ltb (below (seat_of k ks)) (above (seat_of k ks))) (Some (below (seat_of k ks))) None
 unfolding find_by
 seat_find k ks a =
     sym (find_by-find k ks a)

@@ -119,12 +119,10 @@ pub fn locate(keys: &[u64], count: usize, own_keys: &[u64], seats: &mut [u32], o
     ensures { take own seats.new ≡ seats_of (take count keys.now) (take own own_keys.now) }
 {
     let mut place = first_place(keys, count, own_keys, own);
-    let mut i = 0;
-    while i < own {
+    for i in 0..own {
         let key = own_keys[i];
         place = place_past(keys, count, place, key);
         seats[i] = seat_at(keys, count, place, key);
-        i += 1;
     }
 }
 
@@ -146,10 +144,8 @@ pub fn load_f32(column: &[f32], seats: &[u32], own_column: &mut [f32], own: usiz
     requires within { Within (length column.now) seats.now own }
     ensures { take own own_column.new ≡ loaded column.now absent (take own seats.now) }
 {
-    let mut i = 0;
-    while i < own {
+    for i in 0..own {
         own_column[i] = value_f32(column, seats[i], absent);
-        i += 1;
     }
 }
 
@@ -165,11 +161,9 @@ pub fn hold_back(most: f32, own_weights: &[f32], seats: &mut [u32], own: usize)
     requires { (own ≤ length own_weights.now) × (own ≤ length seats.old) }
     ensures { seats.new ≡ held_back most (take own own_weights.now) seats.old }
 {
-    let mut i = 0;
-    while i < own {
+    for i in 0..own {
         let stands = between(0.0, most, own_weights[i]);
         seats[i] = seat_if(stands, seats[i]);
-        i += 1;
     }
 }
 

@@ -1,5 +1,6 @@
 -- A cell's group by its neighbourhood: the numbers of the edges to its neighbours, put in order, are its group.
 -- Assumes nothing.
+use Rattle.std.specs.Prelude.{Some, None, Option}
 use Prim.Native.Nat.{ℕ, suc, ◌-◌, ◌<◌, ◌≤◌, min, max}
 use native.Mathlib.Omega.{arith}
 use mathlib.Core.Path.{◌≡◌, refl, sym, ap, ◌∙◌}
@@ -15,8 +16,6 @@ use Rattle.table.specs.Table.{Row}
 use Rattle.edges.specs.Edges.{Edge, edge}
 use Rattle.edges.specs.EdgeList.{pair_of, SamePair, Neighbourhood, Before, IsEdgeList}
 use Rattle.edges.specs.Listing.{firsts}
-use Rattle.search.specs.declared.Found.{Found}
-use Rattle.search.specs.declared.Found.TheVariants.{At, Absent}
 use Rattle.lists.specs.Padding.{padded}
 use Rattle.handful.specs.declared.Handful.{Handful}
 use Rattle.handful.specs.Handfuls.{held, numbers_of, Roomy}
@@ -69,56 +68,56 @@ pair_end a b c h = ⊎_elim (λ l. up l h) (λ r. ⊎_elim (λ l. down l h) (λ 
 
 -- ---- what is gathered, on any edge list
 
-pub absent_at : (i : ℕ) → Absent ≡ At i → ⊥
+pub absent_at : (i : ℕ) → None ≡ Some i → ⊥
 absent_at i e = let z : ◌≡◌ {A = ℕ} 0 1 = cc in omega arith
 
-module _ (look : ℕ → Found) where
+module _ (look : ℕ → Option ℕ) where
   -- no more numbers than cells
   pub gathered_few : (others : List ℕ) → length (gathered look others) ≤ length others
   unfolding gathered with_number
   gathered_few [] = omega arith
   gathered_few (o ∷ others) = go (look o) (gathered_few others)
     where
-      go : (f : Found) → length (gathered look others) ≤ length others → length (with_number f (gathered look others)) ≤ length (o ∷ others)
-      go (At i) h = omega (arith, placed_length i (gathered look others))
-      go Absent h = omega arith
+      go : (f : Option ℕ) → length (gathered look others) ≤ length others → length (with_number f (gathered look others)) ≤ length (o ∷ others)
+      go (Some i) h = omega (arith, placed_length i (gathered look others))
+      go None h = omega arith
 
   -- each is found of one of the cells
-  pub gathered_in : (others : List ℕ) (i : ℕ) → i ∈ gathered look others → (o : ℕ) × (o ∈ others) × (look o ≡ At i)
+  pub gathered_in : (others : List ℕ) (i : ℕ) → i ∈ gathered look others → (o : ℕ) × (o ∈ others) × (look o ≡ Some i)
   unfolding gathered with_number
   gathered_in [] i m = absurd (Memᴰ.not-nil m)
   gathered_in (o ∷ others) i m = go (look o) refl (λ t. let r = gathered_in others i t in (r.0, Memᴰ.tail r.1, r.2)) m
     where
-      go : (f : Found) → look o ≡ f → (i ∈ gathered look others → (p : ℕ) × (p ∈ (o ∷ others)) × (look p ≡ At i)) →
-          i ∈ with_number f (gathered look others) → (p : ℕ) × (p ∈ (o ∷ others)) × (look p ≡ At i)
-      go (At j) e rest t = ⊎_elim (λ q. (o, Memᴰ.head refl, e ∙ ap At (sym q))) rest (placed_only j (gathered look others) i t)
-      go Absent e rest t = rest t
+      go : (f : Option ℕ) → look o ≡ f → (i ∈ gathered look others → (p : ℕ) × (p ∈ (o ∷ others)) × (look p ≡ Some i)) →
+          i ∈ with_number f (gathered look others) → (p : ℕ) × (p ∈ (o ∷ others)) × (look p ≡ Some i)
+      go (Some j) e rest t = ⊎_elim (λ q. (o, Memᴰ.head refl, e ∙ ap Some (sym q))) rest (placed_only j (gathered look others) i t)
+      go None e rest t = rest t
 
-  pub in_gathered : (others : List ℕ) (o i : ℕ) → o ∈ others → look o ≡ At i → i ∈ gathered look others
+  pub in_gathered : (others : List ℕ) (o i : ℕ) → o ∈ others → look o ≡ Some i → i ∈ gathered look others
   unfolding gathered with_number
   in_gathered [] o i m e = absurd (Memᴰ.not-nil m)
   in_gathered (p ∷ others) o i m e =
       ⊎_elim (λ q. here (look p) (ap look (sym q) ∙ e)) (λ t. there (look p) (in_gathered others o i t e)) (Memᴰ.cases_cons m)
     where
-      here : (f : Found) → f ≡ At i → i ∈ with_number f (gathered look others)
-      here (At j) q = let same : i ≡ j = cc in rw same (placed_here j (gathered look others))
-      here Absent q = absurd (absent_at i q)
+      here : (f : Option ℕ) → f ≡ Some i → i ∈ with_number f (gathered look others)
+      here (Some j) q = let same : i ≡ j = cc in rw same (placed_here j (gathered look others))
+      here None q = absurd (absent_at i q)
 
-      there : (f : Found) → i ∈ gathered look others → i ∈ with_number f (gathered look others)
-      there (At j) t = placed_kept j (gathered look others) i t
-      there Absent t = t
+      there : (f : Option ℕ) → i ∈ gathered look others → i ∈ with_number f (gathered look others)
+      there (Some j) t = placed_kept j (gathered look others) i t
+      there None t = t
 
   -- ascending, where each cell is named once and none is found where another is
-  pub gathered_ordered : ((a b i : ℕ) → look a ≡ At i → look b ≡ At i → a ≡ b) → (others : List ℕ) → Distinct others → Ordered ◌<◌ (gathered look others)
+  pub gathered_ordered : ((a b i : ℕ) → look a ≡ Some i → look b ≡ Some i → a ≡ b) → (others : List ℕ) → Distinct others → Ordered ◌<◌ (gathered look others)
   unfolding gathered with_number Ordered
   gathered_ordered only [] d = tt
   gathered_ordered only (o ∷ others) d = go (look o) refl (gathered_ordered only others d.1)
     where
-      go : (f : Found) → look o ≡ f → Ordered ◌<◌ (gathered look others) → Ordered ◌<◌ (with_number f (gathered look others))
-      go (At i) e rest =
+      go : (f : Option ℕ) → look o ≡ f → Ordered ◌<◌ (gathered look others) → Ordered ◌<◌ (with_number f (gathered look others))
+      go (Some i) e rest =
           placed_ordered i (gathered look others) rest
           (λ t. let r = gathered_in others i t in d.0 r.0 r.1 (only o r.0 i e r.2))
-      go Absent e rest = rest
+      go None e rest = rest
 
 -- an edge leads to one cell
 pair_other : (cell a b : ℕ) → pair_of cell a ≡ pair_of cell b → a ≡ b
@@ -138,20 +137,20 @@ group_few first second count cell =
 -- ---- the loop, from the last cell down
 
 pub gather_begun :
-    (look : ℕ → Found) (others : List ℕ) (i : ℕ)
+    (look : ℕ → Option ℕ) (others : List ℕ) (i : ℕ)
     → length others ≤ i
     → record { numbers = replicate 14 0; count = 0 } ≡ held (gathered look (drop i others))
 unfolding gathered padded
 gather_begun look others i h = rw (drop_of_length-le others {i = i} h)
 
-module _ (look : ℕ → Found) (others : List ℕ) (i : ℕ) (g : Handful)
+module _ (look : ℕ → Option ℕ) (others : List ℕ) (i : ℕ) (g : Handful)
     (e : g ≡ held (gathered look (drop i others))) (up : 0 < i) (h : i ≤ length others) where
   pub gather_roomy : length others ≤ 14 → Roomy g
   gather_roomy m =
       rw e (held_roomy (gathered look (drop i others)) (omega (arith, gathered_few look (drop i others), length-drop i others)))
 
   pub gather_turn :
-      (f : Found) (r : Handful)
+      (f : Option ℕ) (r : Handful)
       → f ≡ look (get_or others (i - 1) 0)
       → r ≡ held (with_number f (numbers_of g))
       → r ≡ held (gathered look (drop (i - 1) others))
@@ -162,7 +161,7 @@ module _ (look : ℕ → Found) (others : List ℕ) (i : ℕ) (g : Handful)
       drop-cons others (i - 1) 0 (omega arith) ∙ ap (λ (k : ℕ). get_or others (i - 1) 0 ∷ drop k others) next in
       let held-now : numbers_of g ≡ gathered look (drop i others) =
       ap numbers_of e ∙ held_numbers (gathered look (drop i others)) in
-      t ∙ ap (λ (y : Found). held (with_number y (numbers_of g))) q
+      t ∙ ap (λ (y : Option ℕ). held (with_number y (numbers_of g))) q
       ∙ ap (λ (l : List ℕ). held (with_number (look (get_or others (i - 1) 0)) l)) held-now
       ∙ rw rest
 
@@ -210,9 +209,9 @@ module _ (near : ℕ → List ℕ) (adjacent : ℕ → ℕ → Bool) (crosses : 
       let f = number_complete (min cell t.0) (max cell t.0) es firsts_ascend i h.numbered t.2 in
       let s = number_sound (min cell t.0) (max cell t.0) es f.0 f.1 in
       let same : f.0 ≡ i = one_number f.0 i s.0 h.numbered (s.1 ∙ sym t.2) in
-      in_gathered (pair_number es cell) (near cell) t.0 i t.1 (f.1 ∙ ap At same))
+      in_gathered (pair_number es cell) (near cell) t.0 i t.1 (f.1 ∙ ap Some same))
     where
-      one_other : (a b i : ℕ) → pair_number es cell a ≡ At i → pair_number es cell b ≡ At i → a ≡ b
+      one_other : (a b i : ℕ) → pair_number es cell a ≡ Some i → pair_number es cell b ≡ Some i → a ≡ b
       one_other a b i e f =
           pair_other cell a b
           (sym (number_sound (min cell a) (max cell a) es i e).1 ∙ (number_sound (min cell b) (max cell b) es i f).1)

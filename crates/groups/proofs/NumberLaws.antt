@@ -1,6 +1,7 @@
 -- Finding an edge's number by halves: the first keys of an edge list ascend, though not strictly, so the edges that start at a key stand together
 -- from its place on.
 -- Assumes nothing.
+use Rattle.std.specs.Prelude.{Some, None, Option}
 use Prim.Native.Nat.{ℕ, zero, suc, ◌+◌, ◌-◌, ◌≤◌, ◌<◌, zero-le, suc-le-suc}
 use native.Mathlib.Nat.{not-suc-le-zero, le_of_suc-le-suc, suc-ne-zero, suc_inj, zero-lt-suc}
 use native.Mathlib.Numerals.{add-one}
@@ -17,8 +18,6 @@ use Rattle.lists.proofs.Bools.{cases}
 use Rattle.lists.proofs.ListLaws.{ordered_at}
 use Rattle.search.specs.Keys.{place_of, halved}
 use Rattle.search.specs.Nearby.{place_near}
-use Rattle.search.specs.declared.Found.{Found}
-use Rattle.search.specs.declared.Found.TheVariants.{At, Absent}
 use Rattle.search.proofs.KeyLaws.{place_le, ordered_lt_place, ordered_halved}
 use Rattle.search.proofs.NearbyLaws.{near_place}
 use Rattle.edges.specs.Edges.{Edge, edge}
@@ -55,7 +54,7 @@ module _ (first second : List ℕ) (n a b : ℕ) (p : length second ≡ length f
   number_started = rw (firsts_taken first second n p)
 
   -- what is found from the place of a on
-  pub number_found : (place : ℕ) → place ≡ halved a (take n first) → (r : Found) → r ≡ number_from place a b es → r ≡ number_by a b es
+  pub number_found : (place : ℕ) → place ≡ halved a (take n first) → (r : Option ℕ) → r ≡ number_from place a b es → r ≡ number_by a b es
   number_found place q r e = e ∙ ap (λ (i : ℕ). number_from i a b es) q ∙ sym number_started
 
   -- where the first keys ascend, a search from near finds the same
@@ -63,12 +62,12 @@ module _ (first second : List ℕ) (n a b : ℕ) (p : length second ≡ length f
   near_number o near =
       number_found _ (near_place a (take n first) near o ∙ sym (ordered_halved a (take n first) o)) _ refl
 
-  pub number_ended : (i : ℕ) → n ≤ i → Absent ≡ scanned i a b (drop i es)
+  pub number_ended : (i : ℕ) → n ≤ i → None ≡ scanned i a b (drop i es)
   unfolding scanned
   number_ended i h = rw (none_left first second n i h)
 
   module _ (g : n ≤ length first) (i : ℕ) (h : i < n) where
-    pub number_here : get_or first i 0 ≡ a → get_or second i 0 ≡ b → At i ≡ scanned i a b (drop i es)
+    pub number_here : get_or first i 0 ≡ a → get_or second i 0 ≡ b → Some i ≡ scanned i a b (drop i es)
     unfolding scanned
     number_here q r = rw (edge_next first second n i p h g, eq-eqb (get_or first i 0) a q, eq-eqb (get_or second i 0) b r)
 
@@ -76,20 +75,20 @@ module _ (first second : List ℕ) (n a b : ℕ) (p : length second ≡ length f
     unfolding scanned
     number_next q r = rw (edge_next first second n i p h g, eq-eqb (get_or first i 0) a q, ne_eqb (get_or second i 0) b r, add-one i)
 
-    pub number_gone : (get_or first i 0 ≡ a → ⊥) → Absent ≡ scanned i a b (drop i es)
+    pub number_gone : (get_or first i 0 ≡ a → ⊥) → None ≡ scanned i a b (drop i es)
     unfolding scanned
     number_gone r = rw (edge_next first second n i p h g, ne_eqb (get_or first i 0) a r)
 
 -- ---- what is found
 
-absent_at : (i : ℕ) → Absent ≡ At i → ⊥
+absent_at : (i : ℕ) → None ≡ Some i → ⊥
 absent_at i e = let z : ◌≡◌ {A = ℕ} 0 1 = cc in omega arith
 
 -- a number of an edge between a and b among edges from number n on
 Among : ℕ → ℕ → ℕ → List Edge → ℕ → Type 0
 Among n a b es i = (j : ℕ) × (i ≡ n + j) × (j < length es) × (edge_at es j ≡ edge a b)
 
-scanned_sound : (n a b : ℕ) (es : List Edge) (i : ℕ) → scanned n a b es ≡ At i → Among n a b es i
+scanned_sound : (n a b : ℕ) (es : List Edge) (i : ℕ) → scanned n a b es ≡ Some i → Among n a b es i
 unfolding scanned Among
 scanned_sound n a b [] i e = absurd (absent_at i e)
 scanned_sound n a b (x ∷ es) i e = go (eqb x.first a) (eqb x.second b) refl refl (λ h. scanned_sound (suc n) a b es i h) e
@@ -98,8 +97,8 @@ scanned_sound n a b (x ∷ es) i e = go (eqb x.first a) (eqb x.second b) refl re
         (p q : Bool)
         → eqb x.first a ≡ p
         → eqb x.second b ≡ q
-        → (scanned (suc n) a b es ≡ At i → Among (suc n) a b es i)
-        → cond p (cond q (At n) (scanned (suc n) a b es)) Absent ≡ At i
+        → (scanned (suc n) a b es ≡ Some i → Among (suc n) a b es i)
+        → cond p (cond q (Some n) (scanned (suc n) a b es)) None ≡ Some i
         → Among n a b (x ∷ es) i
     go true true h k rest f =
         let same : n ≡ i = cc in
@@ -114,20 +113,20 @@ scanned_complete :
     → j < length es
     → edge_at es j ≡ edge a b
     → ((k : ℕ) → k ≤ j → (edge_at es k).first ≡ a)
-    → (i : ℕ) × (scanned n a b es ≡ At i)
+    → (i : ℕ) × (scanned n a b es ≡ Some i)
 unfolding scanned
 scanned_complete n a b [] j l e h = absurd (not-suc-le-zero l)
 scanned_complete n a b (x ∷ es) zero l e h =
     (n, rw (eq-eqb x.first a (ap (λ (y : Edge). y.first) e), eq-eqb x.second b (ap (λ (y : Edge). y.second) e)))
 scanned_complete n a b (x ∷ es) (suc j) l e h =
     let r = scanned_complete (suc n) a b es j (le_of_suc-le-suc l) e (λ k m. h (suc k) (suc-le-suc m)) in
-    cases (λ (q : Bool). (i : ℕ) × (cond (eqb x.first a) (cond q (At n) (scanned (suc n) a b es)) Absent ≡ At i)) (eqb x.second b)
+    cases (λ (q : Bool). (i : ℕ) × (cond (eqb x.first a) (cond q (Some n) (scanned (suc n) a b es)) None ≡ Some i)) (eqb x.second b)
     (λ q. (n, rw (eq-eqb x.first a (h 0 zero-le))))
     (λ q. (r.0, rw (eq-eqb x.first a (h 0 zero-le)) r.1))
 
 module _ (a b : ℕ) (es : List Edge) where
   -- what is found is the number of the edge
-  pub number_sound : (i : ℕ) → number_by a b es ≡ At i → (i < length es) × (edge_at es i ≡ edge a b)
+  pub number_sound : (i : ℕ) → number_by a b es ≡ Some i → (i < length es) × (edge_at es i ≡ edge a b)
   unfolding number_by Among
   number_sound i e =
       let p = halved a (firsts es) in
@@ -156,7 +155,7 @@ module _ (a b : ℕ) (es : List Edge) where
       (λ t q. let same : k ≡ i = omega (arith, ltb-false k i q) in rw same e) refl
 
   -- and where the first keys ascend, an edge is found
-  pub number_complete : Ordered ◌≤◌ (firsts es) → (i : ℕ) → i < length es → edge_at es i ≡ edge a b → (j : ℕ) × (number_by a b es ≡ At j)
+  pub number_complete : Ordered ◌≤◌ (firsts es) → (i : ℕ) → i < length es → edge_at es i ≡ edge a b → (j : ℕ) × (number_by a b es ≡ Some j)
   unfolding number_by
   number_complete o i l e =
       let p = place_of a (firsts es) in

@@ -1,7 +1,5 @@
 -- What the private functions promise each other.
-use Rattle.std.specs.Prelude.{ℕ, ◌<◌, ◌≤◌, ◌≡◌, List, length}
-use Rattle.search.specs.declared.Found.{Found}
-use Rattle.search.specs.declared.Found.TheVariants.{At, Absent}
+use Rattle.std.specs.Prelude.{ℕ, ◌<◌, ◌≤◌, ◌≡◌, List, length, Some, None, Option}
 
 -- two lists of edges that refusal 2 lets pass
 pub record Pairs (first second : List ℕ) (count : ℕ) : Type 0 where
@@ -10,6 +8,6 @@ pub record Pairs (first second : List ℕ) (count : ℕ) : Type 0 where
   pub few : length first ≤ 1048576
 
 -- what was found is the number of one of n edges
-abbrev pub Below : ℕ → Found → Type 0
-Below n (At i) = i < n
-Below n Absent = Unit
+abbrev pub Below : ℕ → Option ℕ → Type 0
+Below n (Some i) = i < n
+Below n None = Unit

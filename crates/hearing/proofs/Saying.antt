@@ -1,4 +1,5 @@
 -- What a mark says of a cell. Assumes nothing.
+use Rattle.std.specs.Prelude.{Ok, Err}
 use mathlib.Core.Path.{◌≡◌, refl, sym, ◌∙◌}
 use mathlib.Core.Bool.{Bool, true, false}
 use mathlib.Core.List.{List}
@@ -8,7 +9,6 @@ use native.Mathlib.Omega.{arith}
 use lib.ListN.{length, get_or}
 use lib.Ieee.{Float, nan, of_bits}
 use Rattle.floats.specs.Floats.{is_finite}
-use Rattle.marks.specs.declared.Spot.TheVariants.{At, Absent}
 use Rattle.marks.specs.Marks.{label, spot_of, look}
 use Rattle.marks.proofs.Keeping.{label_real, within, standing_at, value_at_lem, value_absent}
 use Rattle.search.specs.Keys.{member}
@@ -16,11 +16,11 @@ use Rattle.marching.specs.March.{MarchedRow, distance_of}
 use Rattle.hearing.specs.Hearing.{waiting_mark, or_waits, said, Marked}
 
 -- a key that is found stands at a place of the list
-pub place_in : (k : ℕ) (ks : List ℕ) (i : ℕ) → spot_of k ks ≡ At i → i < length ks
+pub place_in : (k : ℕ) (ks : List ℕ) (i : ℕ) → spot_of k ks ≡ Ok i → i < length ks
 place_in k ks i e = within ks i (λ z. label_real k (sym (standing_at (label k) ks i e) ∙ z))
 
 module _ (rs : List MarchedRow) (ws : List ℕ) (ks : List ℕ) (ds : List Float) (h : Marked rs ws ks ds) (k : ℕ) (real : k ≡ 1 → ⊥) where
-  pub known_at : (i : ℕ) → spot_of k ks ≡ At i → distance_of k rs ≡ said (get_or ds i nan)
+  pub known_at : (i : ℕ) → spot_of k ks ≡ Ok i → distance_of k rs ≡ said (get_or ds i nan)
   unfolding or_waits of_bits
   known_at i e = go (distance_of k rs) (member k ws) refl (sym (value_at_lem (label k) ks ds i e) ∙ h.marks k real)
     where
@@ -39,7 +39,7 @@ module _ (rs : List MarchedRow) (ws : List ℕ) (ks : List ℕ) (ds : List Float
       go none true q = absurd (let z : ◌≡◌ {A = ℕ} 0 1 = cc in omega arith)
       go none false q = (refl, refl)
 
-  pub known_absent : (p : ℕ) → spot_of k ks ≡ Absent p → distance_of k rs ≡ said waiting_mark
+  pub known_absent : (p : ℕ) → spot_of k ks ≡ Err p → distance_of k rs ≡ said waiting_mark
   unfolding of_bits
   known_absent p e = (unmarked (value_absent (label k) ks ds p e)).0
 

@@ -1,4 +1,5 @@
 -- A seed is looked up in the fused table. Assumes nothing.
+use Rattle.std.specs.Prelude.{Some, None}
 use mathlib.Core.Path.{◌≡◌, refl, sym, ◌∙◌}
 use mathlib.Core.Bool.{Bool, true, false, ◌||◌, or-true}
 use mathlib.Core.List.{List}
@@ -8,7 +9,6 @@ use lib.ListN.{get_or, take}
 use lib.Seq.{get_or-take, length-take-le}
 use lib.Ieee.{Float, nan, le}
 use Rattle.search.specs.Keys.{find_by}
-use Rattle.search.specs.declared.Found.TheVariants.{At, Absent}
 use Rattle.search.proofs.KeyLaws.{find_by-find, found}
 use Rattle.table.specs.Table.{row, rows_of}
 use Rattle.table.proofs.Laying.{columns}
@@ -23,16 +23,16 @@ module _ (t : Float) (ks : List ℕ) (ds ws : List Float) (n : ℕ) (lent : Lent
       let c = columns ks ds ws n lent.distances lent.weights in
       seed_found t (rows_of ks ds ws n) k ∙ rw (c.0, c.1, c.2, find_by-find k (take n ks) lent.ascends)
 
-  pub place_below : (i : ℕ) → find_by k (take n ks) ≡ At i → i < n
+  pub place_below : (i : ℕ) → find_by k (take n ks) ≡ Some i → i < n
   place_below i e =
       let h = (found k (take n ks) i (sym (find_by-find k (take n ks) lent.ascends) ∙ e)).0 in
       rw (length-take-le n ks lent.fits) at h
 
-  pub seed_absent : find_by k (take n ks) ≡ Absent → false ≡ seed_in t (rows_of ks ds ws n) k
+  pub seed_absent : find_by k (take n ks) ≡ None → false ≡ seed_in t (rows_of ks ds ws n) k
   unfolding seed_at
   seed_absent e = sym (by_place ∙ rw e)
 
-  pub seed_at_lem : (i : ℕ) → find_by k (take n ks) ≡ At i → is_seed t (row k (get_or ds i nan) (get_or ws i nan)) ≡ seed_in t (rows_of ks ds ws n) k
+  pub seed_at_lem : (i : ℕ) → find_by k (take n ks) ≡ Some i → is_seed t (row k (get_or ds i nan) (get_or ws i nan)) ≡ seed_in t (rows_of ks ds ws n) k
   unfolding seed_at
   seed_at_lem i e =
       let l = place_below i e in

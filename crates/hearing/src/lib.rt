@@ -13,8 +13,8 @@ ghost use Rattle.marching.specs.Spreading.{seed_in, has_spread, other_spread};
 ghost use Rattle.hearing.specs.Hearing.{said, Marked, Lent};
 
 use marching::{Course, better, candidate, clamped, is_seed, onward, spreads, step_length};
-use marks::{Spot, find};
-use search::{Found, find_row};
+use marks::find;
+use search::find_row;
 
 // A cell's distance where it is stored, else +infinity.
 pub fn known(keys: &[u64], distances: &[f32], key: u64) -> f32
@@ -22,7 +22,7 @@ pub fn known(keys: &[u64], distances: &[f32], key: u64) -> f32
     ensures { (rs : List MarchedRow) (ws : List ℕ) → Marked rs ws keys.now distances.now → distance_of key rs ≡ said result }
 {
     let absent = f32::from_bits(0x7F80_0000);
-    let Spot::At(i) = find(keys, key) else {
+    let Ok(i) = find(keys, key) else {
         return absent;
     };
     distances[i]
@@ -61,10 +61,8 @@ pub fn settled(keys: &[u64], distances: &[f32], course: Course, key: u64) -> f32
     let list = near.keys;
     let n = near.count;
     let mut best = 3.40282347e38;
-    let mut i = 0;
-    while i < n {
+    for i in 0..n {
         best = hear(keys, distances, course, best, i, list[i]);
-        i += 1;
     }
     clamped(course, best)
 }
@@ -82,7 +80,7 @@ fn has_seed(
     ensures { result ≡ seed_in threshold
         (rows_of fused_keys.now fused_distances.now fused_weights.now fused_count) key }
 {
-    let Found::At(i) = find_row(fused_keys, fused_count, key) else {
+    let Some(i) = find_row(fused_keys, fused_count, key) else {
         return false;
     };
     is_seed(threshold, key, fused_distances[i], fused_weights[i])
@@ -181,8 +179,7 @@ pub fn other_spread(
     let near = neighbors::around(key);
     let list = near.keys;
     let n = near.count;
-    let mut i = 0;
-    while i < n {
+    for i in 0..n {
         if spread_at(
             fused_keys,
             fused_distances,
@@ -197,7 +194,6 @@ pub fn other_spread(
         ) {
             return true;
         }
-        i += 1;
     }
     false
 }

@@ -1,5 +1,6 @@
 -- On an accepted table a row's higher neighbours are those of the definition: both lists ascend and hold the same keys.
 -- Assumes nothing.
+use Rattle.std.specs.Prelude.{Some, None, Option}
 use Prim.Native.Nat.{ℕ, ◌+◌, ◌<◌}
 use native.Mathlib.Omega.{arith}
 use mathlib.Core.Path.{◌≡◌, refl, sym, ap, ◌∙◌}
@@ -17,8 +18,6 @@ use Rattle.neighbors.specs.Neighbors.{neighbours}
 use Rattle.neighbors.proofs.Adjacency.{neighbour_adjacent, adjacent_neighbour, neighbours_distinct}
 use Rattle.search.specs.Keys.{find_by}
 use Rattle.search.specs.Nearby.{find_above}
-use Rattle.search.specs.declared.Found.{Found}
-use Rattle.search.specs.declared.Found.TheVariants.{At, Absent}
 use Rattle.search.proofs.KeyLaws.{ascending_keys}
 use Rattle.search.proofs.NearbyLaws.{found_above_lem}
 use Rattle.table.specs.Table.{Row, rows_of}
@@ -53,7 +52,7 @@ module _ (ks : List ℕ) (ds ws : List Float) (n row : ℕ) (acc : Accepted ks d
   abbrev k : ℕ
   k = get_or ks row 0
 
-  abbrev look : ℕ → Found
+  abbrev look : ℕ → Option ℕ
   look = found_above ks ws n row
 
   abbrev places : List ℕ
@@ -74,16 +73,16 @@ module _ (ks : List ℕ) (ds ws : List Float) (n row : ℕ) (acc : Accepted ks d
     same_weight = found_weight ks ds ws n acc cell _ same_search
 
     -- where it is above 0, the cell is placed
-    placed : weighted_at rows cell ≡ true → (i : ℕ) × (look cell ≡ At i)
+    placed : weighted_at rows cell ≡ true → (i : ℕ) × (look cell ≡ Some i)
     unfolding weighted_found
     placed w = go (find_above cell (take n ks) (row + 1)) refl (same_weight ∙ w)
       where
-        go : (f : Found) → find_above cell (take n ks) (row + 1) ≡ f → weighted_found ws f ≡ true → (i : ℕ) × (look cell ≡ At i)
-        go (At i) e t = (i, in_place ks ws n row cell larger (same_weight ∙ w) ∙ e)
-        go Absent e t = absurd (false≢true t)
+        go : (f : Option ℕ) → find_above cell (take n ks) (row + 1) ≡ f → weighted_found ws f ≡ true → (i : ℕ) × (look cell ≡ Some i)
+        go (Some i) e t = (i, in_place ks ws n row cell larger (same_weight ∙ w) ∙ e)
+        go None e t = absurd (false≢true t)
 
-  module _ (cell i : ℕ) (e : look cell ≡ At i) where
-    known : (k < cell) × (find_above cell (take n ks) (row + 1) ≡ At i) × (weighted_found ws (find_above cell (take n ks) (row + 1)) ≡ true)
+  module _ (cell i : ℕ) (e : look cell ≡ Some i) where
+    known : (k < cell) × (find_above cell (take n ks) (row + 1) ≡ Some i) × (weighted_found ws (find_above cell (take n ks) (row + 1)) ≡ true)
     known = place_known ks ws n row cell i e
 
     place_in : i < n

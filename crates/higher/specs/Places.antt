@@ -1,12 +1,10 @@
 -- A row's higher neighbours: the places of those with a larger key and weight above 0, ascending, and the keys and sides there, on any lists. On an
 -- accepted table they are `higher` of tetrahedra's specs/Near.antt (proofs/HigherLaws.antt).
-use Rattle.std.specs.Prelude.{ℕ, ◌+◌, Bool, false, cond, ◌&&◌, List, [], map, ltb, Float, length, get_or, take}
+use Rattle.std.specs.Prelude.{ℕ, ◌+◌, Bool, false, cond, ◌&&◌, List, [], map, ltb, Float, length, get_or, take, None, Option}
 use Rattle.std.specs.Float.{nan}
 use Rattle.lists.specs.Padding.{padded}
 use Rattle.neighbors.specs.Neighbors.{neighbours}
 use Rattle.search.specs.Nearby.{find_above}
-use Rattle.search.specs.declared.Found.{Found}
-use Rattle.search.specs.declared.Found.TheVariants.{Absent}
 use Rattle.table.specs.Table.{lengths_ok}
 use Rattle.rings.specs.Sides.{is_inside}
 use Rattle.rings.specs.Rings.{weighted_found}
@@ -14,14 +12,14 @@ use Rattle.groups.specs.Near.{gathered}
 use Rattle.higher.specs.declared.Higher.{Higher}
 
 -- what was found, if the weight there is above 0
-unfoldable pub if_weighted : List Float → Found → Found
+unfoldable pub if_weighted : List Float → Option ℕ → Option ℕ
 unfolding weighted_found
-if_weighted ws f = cond (weighted_found ws f) f Absent
+if_weighted ws f = cond (weighted_found ws f) f None
 
 -- where a cell stands past a row, if its key is larger and its weight above 0
-unfoldable pub found_above : List ℕ → List Float → ℕ → ℕ → ℕ → Found
+unfoldable pub found_above : List ℕ → List Float → ℕ → ℕ → ℕ → Option ℕ
 unfolding if_weighted
-found_above ks ws n row cell = cond (ltb (get_or ks row 0) cell) (if_weighted ws (find_above cell (take n ks) (row + 1))) Absent
+found_above ks ws n row cell = cond (ltb (get_or ks row 0) cell) (if_weighted ws (find_above cell (take n ks) (row + 1))) None
 
 -- the places of a row's higher neighbours; none where the lists have lengths that no table has, or no such row
 unfoldable pub places_in : List ℕ → ℕ → List Float → ℕ → ℕ → List ℕ

@@ -9,7 +9,6 @@ ghost use Rattle.higher.specs.Places.{key_at, is_inside_at, found_above, places_
 ghost use Rattle.higher.specs.Steps.{AtRow, AllBelow};
 
 use handful::Handful;
-use search::Found;
 
 // Keys in a room of 14, which of them are inside, and how many there are.
 #[derive(Clone, Copy)]
@@ -34,7 +33,7 @@ fn with_higher(
     if cell <= keys[row] {
         return places;
     }
-    let Found::At(place) = search::find_above(&keys[..count], row + 1, cell) else {
+    let Some(place) = search::find_above(&keys[..count], row + 1, cell) else {
         return places;
     };
     if 0.0 < weights[place] {
@@ -89,11 +88,9 @@ fn keys_at(keys: &[u64], places: [u32; 14], n: usize) -> [u64; 14]
     ensures { result ≡ padded 0 14 (map (key_at keys.now) (take n places)) }
 {
     let mut out = [0u64; 14];
-    let mut i = 0;
-    while i < n {
+    for i in 0..n {
         let place = places[i] as usize;
         out[i] = keys[place];
-        i += 1;
     }
     out
 }
@@ -104,11 +101,9 @@ fn inside_at(distances: &[f32], places: [u32; 14], n: usize) -> [bool; 14]
     ensures { result ≡ padded false 14 (map (is_inside_at distances.now) (take n places)) }
 {
     let mut out = [false; 14];
-    let mut i = 0;
-    while i < n {
+    for i in 0..n {
         let place = places[i] as usize;
         out[i] = distances[place] < 0.0;
-        i += 1;
     }
     out
 }

@@ -1,5 +1,6 @@
 -- Laws of keys: a key and its parts settle each other, and the lattice shows in the three lowest bits.
 -- Assumes nothing.
+use Rattle.std.specs.Prelude.{Ok, Err, Result}
 use mathlib.Core.Path.{◌≡◌, refl, sym, ap, ◌∙◌}
 use mathlib.Core.Bool.{Bool, true, false, cond, ◌||◌}
 use Prim.Native.Nat.{ℕ, suc, ◌/◌, ◌%◌, ◌<◌}
@@ -10,11 +11,10 @@ use Rattle.lists.proofs.Bools.{and_first, and_second}
 use lib.Pow.{field, mod-mod-pow}
 use native.Mathlib.Nat.{mod-mod}
 use Rattle.lists.proofs.Table.{below, same, same→eq}
+use Rattle.refusals.specs.declared.Refusal.{Refusal}
 use Rattle.refusals.specs.declared.Refusal.TheVariants.{OffLattice}
 use Rattle.ids.specs.Morton.{respaced, gather}
 use Rattle.ids.specs.declared.Cells.{Cells}
-use Rattle.ids.specs.declared.Made.TheVariants as made
-use Rattle.ids.specs.declared.Decoded.TheVariants as decoded
 use Rattle.ids.specs.Key.{key_of, head_of, x_of, y_of, z_of, same_parity, on_lattice, made_of, decoded_of}
 use Rattle.ids.proofs.MortonLaws.{gather_x, gather_y, gather_z, gather_small, morton_gather, morton_small}
 
@@ -122,15 +122,15 @@ pub made_on_lattice : (head x y z : ℕ) → x < 65536 → y < 65536 → z < 655
 made_on_lattice head x y z lx ly lz = rw (x_of_key head x y z lx, y_of_key head x y z ly, z_of_key head x y z lz)
 
 -- what the constructor made is decoded to what it was made of
-made_key : (b : Bool) (n k : ℕ) → cond b (made.Key n) (made.Refused OffLattice) ≡ made.Key k → (b ≡ true) × (n ≡ k)
+made_key : (b : Bool) (n k : ℕ) → cond b (Ok n) (Err OffLattice) ≡ Ok k → (b ≡ true) × (n ≡ k)
 made_key true n k e = (refl, cc)
 made_key false n k e = let z : ◌≡◌ {A = ℕ} 0 1 = cc in let no : ⊥ = omega arith in absurd no
 
-module _ (head x y z k : ℕ) (lx : x < 65536) (ly : y < 65536) (lz : z < 65536) (e : made_of head x y z ≡ made.Key k) where
+module _ (head x y z k : ℕ) (lx : x < 65536) (ly : y < 65536) (lz : z < 65536) (e : made_of head x y z ≡ Ok k) where
   key_made : key_of head x y z ≡ k
   key_made = (made_key (same_parity x y z) (key_of head x y z) k e).1
 
-  pub decoded_made : decoded_of k ≡ decoded.At (record { 0 = x }) (record { 0 = y }) (record { 0 = z })
+  pub decoded_made : decoded_of k ≡ Ok (record { 0 = x }, record { 0 = y }, record { 0 = z })
   decoded_made =
       rw (
         ← key_made,
@@ -146,13 +146,15 @@ module _ (head x y z k : ℕ) (lx : x < 65536) (ly : y < 65536) (lz : z < 65536)
 
 -- what was decoded makes the key again
 decoded_on : (b : Bool) (x y z : ℕ) (x' y' z' : Cells)
-    → cond b (decoded.At (record { 0 = x }) (record { 0 = y }) (record { 0 = z })) (decoded.Refused OffLattice)
-    ≡ decoded.At x' y' z'
+    → cond {A = Result (Cells × Cells × Cells) Refusal} b (Ok (record { 0 = x }, record { 0 = y }, record { 0 = z })) (Err OffLattice)
+    ≡ Ok (x', y', z')
     → (b ≡ true) × (x ≡ x'.0) × (y ≡ y'.0) × (z ≡ z'.0)
-decoded_on true x y z x' y' z' e = (refl, cc, cc, cc)
+decoded_on true x y z x' y' z' e =
+    let p : ◌≡◌ {A = Cells × Cells × Cells} (record { 0 = x }, record { 0 = y }, record { 0 = z }) (x', y', z') = cc in
+    (refl, ap (λ c. c.0.0) p, ap (λ c. c.1.0) p, ap (λ c. c.2.0) p)
 decoded_on false x y z x' y' z' e = let o : ◌≡◌ {A = ℕ} 0 1 = cc in let no : ⊥ = omega arith in absurd no
 
-pub made_decoded : (k : ℕ) (x y z : Cells) → decoded_of k ≡ decoded.At x y z → made_of (head_of k) x.0 y.0 z.0 ≡ made.Key k
+pub made_decoded : (k : ℕ) (x y z : Cells) → decoded_of k ≡ Ok (x, y, z) → made_of (head_of k) x.0 y.0 z.0 ≡ Ok k
 made_decoded k x y z e =
     let d = decoded_on (on_lattice k) (x_of k) (y_of k) (z_of k) x y z e in
-    rw (← d.1, ← d.2, ← d.3, d.0) (ap made.Key (key_of_parts k))
+    rw (← d.1, ← d.2, ← d.3, d.0) (ap Ok (key_of_parts k))

@@ -1,12 +1,10 @@
 -- Keys: 16 bits of head over a Morton number of 48, and the lattice they stand on.
-use Rattle.std.specs.Prelude.{ℕ, ◌+◌, ◌*◌, ◌/◌, ◌%◌, ◌^◌, Bool, cond, ◌&&◌, eqb}
+use Rattle.std.specs.Prelude.{ℕ, ◌+◌, ◌*◌, ◌/◌, ◌%◌, ◌^◌, Bool, cond, ◌&&◌, eqb, Ok, Err, Result}
 use Rattle.ids.specs.Morton.{morton, gather}
 use Rattle.refusals.specs.Refusals.{number_of}
 use Rattle.refusals.specs.declared.Refusal.TheVariants.{OffLattice}
-use Rattle.ids.specs.declared.Made.{Made}
-use Rattle.ids.specs.declared.Made.TheVariants as made
-use Rattle.ids.specs.declared.Decoded.{Decoded}
-use Rattle.ids.specs.declared.Decoded.TheVariants as decoded
+use Rattle.refusals.specs.declared.Refusal.{Refusal}
+use Rattle.ids.specs.declared.Cells.{Cells}
 
 -- the key of a head and three coordinates
 abbrev pub key_of : ℕ → ℕ → ℕ → ℕ → ℕ
@@ -47,19 +45,19 @@ abbrev pub on_lattice : ℕ → Bool
 on_lattice key = same_parity (x_of key) (y_of key) (z_of key)
 
 -- what the constructor answers
-abbrev pub made_of : ℕ → ℕ → ℕ → ℕ → Made
-made_of head x y z = cond (same_parity x y z) (made.Key (key_of head x y z)) (made.Refused OffLattice)
+abbrev pub made_of : ℕ → ℕ → ℕ → ℕ → Result ℕ Refusal
+made_of head x y z = cond (same_parity x y z) (Ok (key_of head x y z)) (Err OffLattice)
 
 -- what decoding answers
-abbrev pub decoded_of : ℕ → Decoded
+abbrev pub decoded_of : ℕ → Result (Cells × Cells × Cells) Refusal
 decoded_of key =
-    cond (on_lattice key) (decoded.At (record { 0 = x_of key }) (record { 0 = y_of key }) (record { 0 = z_of key })) (decoded.Refused OffLattice)
+    cond (on_lattice key) (Ok (record { 0 = x_of key }, record { 0 = y_of key }, record { 0 = z_of key })) (Err OffLattice)
 
 -- document 01's number of each answer; 0 where it is no refusal
-abbrev pub made_number : Made → ℕ
-made_number (made.Key key) = 0
-made_number (made.Refused why) = number_of why
+abbrev pub made_number : Result ℕ Refusal → ℕ
+made_number (Ok key) = 0
+made_number (Err why) = number_of why
 
-abbrev pub decoded_number : Decoded → ℕ
-decoded_number (decoded.At x y z) = 0
-decoded_number (decoded.Refused why) = number_of why
+abbrev pub decoded_number : Result (Cells × Cells × Cells) Refusal → ℕ
+decoded_number (Ok (x, y, z)) = 0
+decoded_number (Err why) = number_of why

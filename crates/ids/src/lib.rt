@@ -19,20 +19,6 @@ pub struct Coords {
     pub z: u16,
 }
 
-// What the constructor answers.
-#[derive(Clone, Copy)]
-pub enum Made {
-    Key(u64),
-    Refused(Refusal),
-}
-
-// What decoding answers.
-#[derive(Clone, Copy)]
-pub enum Decoded {
-    At(Cells, Cells, Cells),
-    Refused(Refusal),
-}
-
 // Each byte's bits, three apart.
 const SPREAD: [u32; 256] = [
     0x000000, 0x000001, 0x000008, 0x000009, 0x000040, 0x000041, 0x000048, 0x000049, 0x000200,
@@ -113,21 +99,21 @@ pub fn morton_decode(m: u64) -> Coords
 }
 
 // The key of a head and three numbers of 16 bits, where these are all even or all odd.
-fn key_of(head: u16, x: u16, y: u16, z: u16) -> Made
+fn key_of(head: u16, x: u16, y: u16, z: u16) -> Result<u64, Refusal>
     ensures { result ≡ made_of head x y z }
 {
     if x % 2 != y % 2 {
-        return Made::Refused(Refusal::OffLattice);
+        return Err(Refusal::OffLattice);
     }
     if y % 2 != z % 2 {
-        return Made::Refused(Refusal::OffLattice);
+        return Err(Refusal::OffLattice);
     }
     let key = (head as u64) * 0x1_0000_0000_0000 + morton_encode(x, y, z);
-    Made::Key(key)
+    Ok(key)
 }
 
 // The key of a head and coordinates that are all even or all odd.
-pub fn new(head: u16, x: Cells, y: Cells, z: Cells) -> Made
+pub fn new(head: u16, x: Cells, y: Cells, z: Cells) -> Result<u64, Refusal>
     ensures { result ≡ made_of head x.0 y.0 z.0 }
 {
     key_of(head, x.0, y.0, z.0)
@@ -142,14 +128,14 @@ pub fn is_on_lattice(key: u64) -> bool
 }
 
 // The coordinates of a key.
-pub fn decode_coords(key: u64) -> Decoded
+pub fn decode_coords(key: u64) -> Result<(Cells, Cells, Cells), Refusal>
     ensures { result ≡ decoded_of key }
 {
     if is_on_lattice(key) {
         let c = morton_decode(key);
-        Decoded::At(Cells(c.x), Cells(c.y), Cells(c.z))
+        Ok((Cells(c.x), Cells(c.y), Cells(c.z)))
     } else {
-        Decoded::Refused(Refusal::OffLattice)
+        Err(Refusal::OffLattice)
     }
 }
 

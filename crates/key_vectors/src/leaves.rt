@@ -1,26 +1,26 @@
 // Lines that stand alone: keys, neighbours, the root, snapping.
-use bcc_utils::{Snapped, WideCells};
+use bcc_utils::WideCells;
 use floats::Metres;
-use ids::{Cells, Decoded, Made};
-use root::Rooted;
+use ids::Cells;
 use vectors::{Line, float, low16, same, signed};
+use refusals::Refusal;
 
 fn new_again(words: [u64; 16]) -> bool {
     let x = Cells(low16(words[1]));
     let y = Cells(low16(words[2]));
     let z = Cells(low16(words[3]));
     match ids::new(low16(words[0]), x, y, z) {
-        Made::Key(key) => key == words[4],
-        Made::Refused(_) => false,
+        Ok(key) => key == words[4],
+        Err(_) => false,
     }
 }
 
 fn decode_again(words: [u64; 16]) -> bool {
     match ids::decode_coords(words[0]) {
-        Decoded::At(x, y, z) => {
+        Ok((x, y, z)) => {
             (x.0 as u64 == words[1]) & (y.0 as u64 == words[2]) & (z.0 as u64 == words[3])
         }
-        Decoded::Refused(_) => false,
+        Err(_) => false,
     }
 }
 
@@ -46,15 +46,15 @@ fn neighbors_again(words: [u64; 16]) -> bool {
 
 fn root_again(words: [u64; 16]) -> bool {
     match root::root(float(words[0])) {
-        Rooted::Root(r) => same(r, float(words[1])),
-        Rooted::Refused(_) => false,
+        Ok(r) => same(r, float(words[1])),
+        Err(_) => false,
     }
 }
 
-fn snapped_at(snapped: Snapped, x: u64, y: u64, z: u64) -> bool {
+fn snapped_at(snapped: Result<(WideCells, WideCells, WideCells), Refusal>, x: u64, y: u64, z: u64) -> bool {
     match snapped {
-        Snapped::At(a, b, c) => (a.0 == signed(x)) & (b.0 == signed(y)) & (c.0 == signed(z)),
-        Snapped::Refused(_) => false,
+        Ok((a, b, c)) => (a.0 == signed(x)) & (b.0 == signed(y)) & (c.0 == signed(z)),
+        Err(_) => false,
     }
 }
 

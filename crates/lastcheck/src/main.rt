@@ -233,11 +233,9 @@ fn feed(
         (state_of result line.new (table keys.new distances.new weights.new count.new)) }
 {
     let mut run = begin;
-    let mut i = 0;
-    while i < bytes.len() {
+    for i in 0..bytes.len() {
         let next = take_byte(run, bytes[i], line, keys, distances, weights, count, out);
         run = written(next, out);
-        i += 1;
     }
     run
 }

@@ -1,5 +1,6 @@
 -- Laws of what M prints.
 -- Assumes nothing.
+use Rattle.std.specs.Prelude.{Ok, Err, Some, None, Option, Result}
 use Prim.Native.Nat.{ℕ, zero, suc, ◌+◌, ◌*◌, ◌/◌, ◌%◌, ◌≤◌}
 use native.Mathlib.Nat.{zero-add, add-zero}
 use native.Mathlib.Omega.{arith}
@@ -19,30 +20,17 @@ use Rattle.refusals.specs.Refusals.{number_of}
 use Rattle.refusals.specs.declared.Refusal.TheVariants.{Setting, OffLattice, BadReading, NoPlace}
 use Rattle.table.specs.Table.{Table}
 use Rattle.table.specs.declared.Settings.{Settings}
-use Rattle.table.specs.declared.Checked.{Checked}
-use Rattle.table.specs.declared.Checked.TheVariants as checked
 use Rattle.lines.specs.declared.Line.{Line}
 use Rattle.lines.specs.declared.Line.TheVariants as line
 use Rattle.lines.specs.Lines.{line_of}
-use Rattle.mesh.specs.declared.Meshed.{Meshed}
-use Rattle.mesh.specs.declared.Meshed.TheVariants as meshed
 use Rattle.mesh.specs.Mesh.{edges_of, triangles_of, vertices_of, have_room, held_in, mesh_check, meshed_on, meshed_if, mesh_answer_on, mesh_answer}
 use Rattle.slopes.specs.Vertices.{xs_of, ys_of, zs_of}
 use Rattle.texts.specs.Texts.{hex_digits, hex_field, decimal_from, counts_line, vertex_line, bad_line, refused_line}
 use Rattle.fusing.specs.declared.Fused.{Fused}
-use Rattle.fusing.specs.declared.Fused.TheVariants as fused
 use Rattle.measuring.specs.declared.Reading.TheVariants as reading
 use Rattle.fusing.specs.Fusing.{outcome, fuse}
 use Rattle.ids.specs.Key.{made_of}
-use Rattle.ids.specs.declared.Made.{Made}
-use Rattle.ids.specs.declared.Made.TheVariants as made
-use Rattle.lastlines.specs.declared.Given.{Given}
-use Rattle.lastlines.specs.declared.Given.TheVariants.{Number, NotNumber}
-use Rattle.lastlines.specs.declared.Setup.{Setup}
-use Rattle.lastlines.specs.declared.Setup.TheVariants.{Ready, Refused}
 use Rattle.lastlines.specs.declared.Stepped.{Stepped}
-use Rattle.lastlines.specs.declared.Taken.{Taken}
-use Rattle.lastlines.specs.declared.Taken.TheVariants as taken
 use Rattle.lastlines.specs.Lastcheck.{placed_of, given_of, settings_from, setup_of, cell_of, taken_of, fused_as, reading_of, vertex_lines, printed_for, mesh_text, goes_on_lem, held, After, after, after_setup, after_reading, after_mesh, after_line, step_of, stepped_as, IsStep}
 use Rattle.lastlines.specs.Steps.{edges_in, Prints}
 
@@ -115,22 +103,22 @@ abbrev pub stepped : Bool → Settings → ℕ → Bool → Stepped
 stepped started s n goes = record { started = started; settings = s; length = n; goes_on = goes }
 
 -- an answer has at most 512 edges
-bound_if : (v : Checked) (t : Table) → edges_in (meshed_if v t held) ≤ 512
+bound_if : (v : Result (Unit {0}) Refusal) (t : Table) → edges_in (meshed_if v t held) ≤ 512
 unfolding meshed_on
-bound_if checked.Passed t =
-    cases (λ (b : Bool). edges_in (cond b (meshed.Done (length (edges_of t)) (length (triangles_of t))) (meshed.Refused NoPlace)) ≤ 512) (have_room t held)
+bound_if (Ok tt) t =
+    cases (λ (b : Bool). edges_in (cond b (Ok (length (edges_of t), length (triangles_of t))) (Err NoPlace)) ≤ 512) (have_room t held)
     (λ e. leb-true _ _ (and_first _ _ e))
     (λ e. omega arith)
-bound_if (checked.Refused why) t = omega arith
+bound_if (Err why) t = omega arith
 
 pub edges_bound : (s : Settings) (t : Table) → edges_in (mesh_answer s t held) ≤ 512
 unfolding mesh_answer_on
 edges_bound s t = bound_if (mesh_check s t held) t
 
-pub edges_in_lem : (s : Settings) (t : Table) {a : Meshed} → a ≡ mesh_answer s t held → edges_in a ≤ 512
+pub edges_in_lem : (s : Settings) (t : Table) {a : Result (ℕ × ℕ) Refusal} → a ≡ mesh_answer s t held → edges_in a ≤ 512
 edges_in_lem s t e = rw e (edges_bound s t)
 
-pub edges_few : {a : Meshed} {n m : ℕ} → a ≡ meshed.Done n m → edges_in a ≤ 512 → n ≤ 512
+pub edges_few : {a : Result (ℕ × ℕ) Refusal} {n m : ℕ} → a ≡ Ok (n, m) → edges_in a ≤ 512 → n ≤ 512
 edges_few e h = rw e at h
 
 -- what is written is what a step prints
@@ -145,43 +133,43 @@ prints started s text goes e f t = record { answer = ap (λ (n : ℕ). stepped s
 -- P and D, case by case
 module _ (started : Bool) (s : Settings) where
   pub setup_ready :
-      (l : List ℕ) {w : Setup} {ready : Settings}
-      → w ≡ Ready ready
+      (l : List ℕ) {w : Result Settings Refusal} {ready : Settings}
+      → w ≡ Ok ready
       → (t : Table)
       → Prints (after_setup w started s t) (stepped true ready 0 true) l l
   unfolding after_setup
   setup_ready l e t = rw e (record { answer = refl; text = refl })
 
   pub setup_refused :
-      {w : Setup} {why : Refusal} {r : Stepped} {l o : List ℕ} → w ≡ Refused why → ((t : Table) → Prints (after started s t (refused_line why) false) r l o) →
+      {w : Result Settings Refusal} {why : Refusal} {r : Stepped} {l o : List ℕ} → w ≡ Err why → ((t : Table) → Prints (after started s t (refused_line why) false) r l o) →
       (t : Table) → Prints (after_setup w started s t) r l o
   unfolding after_setup
   setup_refused e p t = rw e (p t)
 
   pub fused_refused :
       {w :
-      Fused} {why : Refusal} {r : Stepped} {l o : List ℕ} → w ≡ fused.Refused why → ((t : Table)
+      Result Fused Refusal} {why : Refusal} {r : Stepped} {l o : List ℕ} → w ≡ Err why → ((t : Table)
       → Prints (after started s t (refused_line why) false) r l o) →
       (t : Table) → Prints (after_reading w started s t) r l o
   unfolding after_reading
   fused_refused e p t = rw e (p t)
 
-  pub fused_far : (l : List ℕ) {w : Fused} → w ≡ fused.Far → (t : Table) → Prints (after_reading w started s t) (stepped started s 0 true) l l
+  pub fused_far : (l : List ℕ) {w : Result Fused Refusal} → w ≡ (Ok Fused.Far) → (t : Table) → Prints (after_reading w started s t) (stepped started s 0 true) l l
   unfolding after_reading
   fused_far l e t = rw e (record { answer = refl; text = refl })
 
-  pub fused_new : (l : List ℕ) {w : Fused} → w ≡ fused.New → (t : Table) → Prints (after_reading w started s t) (stepped started s 0 true) l l
+  pub fused_new : (l : List ℕ) {w : Result Fused Refusal} → w ≡ (Ok Fused.New) → (t : Table) → Prints (after_reading w started s t) (stepped started s 0 true) l l
   unfolding after_reading
   fused_new l e t = rw e (record { answer = refl; text = refl })
 
-  pub fused_changed : (l : List ℕ) {w : Fused} → w ≡ fused.Changed → (t : Table) → Prints (after_reading w started s t) (stepped started s 0 true) l l
+  pub fused_changed : (l : List ℕ) {w : Result Fused Refusal} → w ≡ (Ok Fused.Changed) → (t : Table) → Prints (after_reading w started s t) (stepped started s 0 true) l l
   unfolding after_reading
   fused_changed l e t = rw e (record { answer = refl; text = refl })
 
 -- counts and then vertices are what a mesh prints
 module _ (started : Bool) (s : Settings) (t : Table) (rows n m : ℕ) (xs ys zs : List Float) (l : List ℕ) where
   pub print_done :
-      {a : Meshed} {k o : List ℕ} {at : ℕ} → a ≡ meshed.Done n m → at ≡ length (counts_line rows n m) → k ≡ sets l 0 (counts_line rows n m) →
+      {a : Result (ℕ × ℕ) Refusal} {k o : List ℕ} {at : ℕ} → a ≡ Ok (n, m) → at ≡ length (counts_line rows n m) → k ≡ sets l 0 (counts_line rows n m) →
       o ≡ sets k at (vertex_lines n 0 xs ys zs) →
       Prints (after started s t (printed_for a rows xs ys zs) (goes_on_lem a)) (stepped started s (at + 29 * n) true) l o
   unfolding printed_for
@@ -195,9 +183,9 @@ module _ (started : Bool) (s : Settings) (t : Table) (rows n m : ℕ) (xs ys zs 
       })
 
 pub print_refused :
-    (started : Bool) (s : Settings) (t : Table) (rows : ℕ) (xs ys zs : List Float) (why : Refusal) {a : Meshed}
+    (started : Bool) (s : Settings) (t : Table) (rows : ℕ) (xs ys zs : List Float) (why : Refusal) {a : Result (ℕ × ℕ) Refusal}
     {r : Stepped} {l o : List ℕ}
-    → a ≡ meshed.Refused why
+    → a ≡ Err why
     →
     Prints (after started s t (refused_line why) false) r l o → Prints (after started s t (printed_for a rows xs ys zs) (goes_on_lem a)) r l o
 unfolding printed_for
@@ -205,7 +193,7 @@ print_refused started s t rows xs ys zs why e p = rw e p
 
 -- what the mesh's answer and its lists print is what M prints
 pub surface :
-    (started : Bool) (s : Settings) (t : Table) (l : List ℕ) {a : Meshed} {xs ys zs : List Float} {r : Stepped} {o : List ℕ} → a ≡ mesh_answer s t held →
+    (started : Bool) (s : Settings) (t : Table) (l : List ℕ) {a : Result (ℕ × ℕ) Refusal} {xs ys zs : List Float} {r : Stepped} {o : List ℕ} → a ≡ mesh_answer s t held →
     xs ≡ held_in zero32 (mesh_answer s t held) 512 (xs_of (vertices_of s t)) → ys ≡ held_in zero32 (mesh_answer s t held) 512 (ys_of (vertices_of s t)) →
     zs ≡ held_in zero32 (mesh_answer s t held) 512 (zs_of (vertices_of s t)) →
     Prints (after started s t (printed_for a t.count xs ys zs) (goes_on_lem a)) r l o → Prints (after_mesh started s t) r l o
@@ -221,24 +209,24 @@ bad_length : (n : ℕ) → length (bad_line n) ≤ 25
 unfolding bad_line
 bad_length n = simp length-append (omega (arith, decimal_length 20 n []))
 
-mesh_short : (a : Meshed) (rows : ℕ) (xs ys zs : List Float) → edges_in a ≤ 512 → length (printed_for a rows xs ys zs) ≤ 15000
+mesh_short : (a : Result (ℕ × ℕ) Refusal) (rows : ℕ) (xs ys zs : List Float) → edges_in a ≤ 512 → length (printed_for a rows xs ys zs) ≤ 15000
 unfolding printed_for
-mesh_short (meshed.Done n m) rows xs ys zs h =
+mesh_short (Ok (n, m)) rows xs ys zs h =
     rw (length-append (counts_line rows n m) (vertex_lines n 0 xs ys zs), lines_length xs ys zs n 0) (omega (arith, counts_length rows n m))
-mesh_short (meshed.Refused why) rows xs ys zs h = omega (arith, refused_length why)
+mesh_short (Err why) rows xs ys zs h = omega (arith, refused_length why)
 
 module _ (started : Bool) (s : Settings) (t : Table) where
-  setup_short : (w : Setup) → length (after_setup w started s t).text ≤ 15000
+  setup_short : (w : Result Settings Refusal) → length (after_setup w started s t).text ≤ 15000
   unfolding after_setup
-  setup_short (Ready s') = omega arith
-  setup_short (Refused why) = omega (arith, refused_length why)
+  setup_short (Ok s') = omega arith
+  setup_short (Err why) = omega (arith, refused_length why)
 
-  reading_short : (r : Fused) → length (after_reading r started s t).text ≤ 15000
+  reading_short : (r : Result Fused Refusal) → length (after_reading r started s t).text ≤ 15000
   unfolding after_reading
-  reading_short fused.New = omega arith
-  reading_short fused.Changed = omega arith
-  reading_short fused.Far = omega arith
-  reading_short (fused.Refused why) = omega (arith, refused_length why)
+  reading_short (Ok Fused.New) = omega arith
+  reading_short (Ok Fused.Changed) = omega arith
+  reading_short (Ok Fused.Far) = omega arith
+  reading_short (Err why) = omega (arith, refused_length why)
 
 module _ (started : Bool) (s : Settings) (t : Table) where
   surface_short : length (after_mesh started s t).text ≤ 15000
@@ -253,17 +241,17 @@ module _ (started : Bool) (s : Settings) (t : Table) where
   line_short n line.Bad = omega (arith, bad_length n)
 
   -- P and D leave the table that they are handed
-  setup_left : (w : Setup) → t ≡ (after_setup w started s t).left
+  setup_left : (w : Result Settings Refusal) → t ≡ (after_setup w started s t).left
   unfolding after_setup
-  setup_left (Ready s') = refl
-  setup_left (Refused why) = refl
+  setup_left (Ok s') = refl
+  setup_left (Err why) = refl
 
-  reading_left : (r : Fused) → t ≡ (after_reading r started s t).left
+  reading_left : (r : Result Fused Refusal) → t ≡ (after_reading r started s t).left
   unfolding after_reading
-  reading_left fused.New = refl
-  reading_left fused.Changed = refl
-  reading_left fused.Far = refl
-  reading_left (fused.Refused why) = refl
+  reading_left (Ok Fused.New) = refl
+  reading_left (Ok Fused.Changed) = refl
+  reading_left (Ok Fused.Far) = refl
+  reading_left (Err why) = refl
 
 -- one line is what its kind does
 module _ (bytes : List ℕ) (n : ℕ) (started : Bool) (s : Settings) (t : Table) (l : List ℕ) {f g : Line}
@@ -289,7 +277,7 @@ module _ (bytes : List ℕ) (n : ℕ) (started : Bool) (s : Settings) (t : Table
       }
 
   pub step_settings :
-      {a b c : ℕ} {w : Setup} {r : Stepped} {o : List ℕ}
+      {a b c : ℕ} {w : Result Settings Refusal} {r : Stepped} {o : List ℕ}
       → g ≡ line.Settings a b c
       → w ≡ setup_of a b c
       → Prints (after_setup w started s t) r l o
@@ -298,7 +286,7 @@ module _ (bytes : List ℕ) (n : ℕ) (started : Bool) (s : Settings) (t : Table
   step_settings {w = w} k d p = is_step (rw (k, d)) p (setup_left started s t w)
 
   pub step_reading :
-      {x y z d c : ℕ} {w : Fused} {t' : Table} {r : Stepped} {o : List ℕ}
+      {x y z d c : ℕ} {w : Result Fused Refusal} {t' : Table} {r : Stepped} {o : List ℕ}
       → g ≡ line.Reading x y z d c
       → outcome w t' ≡ reading_of s t x y z d c
       → Prints (after_reading w started s t') r l o
@@ -316,55 +304,55 @@ module _ (bytes : List ℕ) (n : ℕ) (started : Bool) (s : Settings) (t : Table
   step_bad k p = is_step (rw k) p refl
 
 -- what was read, fused or refused
-module _ (s : Settings) (t : Table) (x y z d c : ℕ) {r : Taken} (e : r ≡ taken_of x y z d c) where
-  pub reading_refused : (why : Refusal) → r ≡ taken.Refused why → reading_of s t x y z d c ≡ outcome (fused.Refused why) t
+module _ (s : Settings) (t : Table) (x y z d c : ℕ) {r : Result (ℕ × Float × Float) Refusal} (e : r ≡ taken_of x y z d c) where
+  pub reading_refused : (why : Refusal) → r ≡ Err why → reading_of s t x y z d c ≡ outcome (Err why) t
   unfolding reading_of fused_as
   reading_refused why f = rw (← e, f)
 
-  pub reading_direct : (k : ℕ) (a b : Float) → r ≡ taken.Direct k a b → reading_of s t x y z d c ≡ fuse s t k (reading.Direct (record { 0 = a }) b)
+  pub reading_direct : (k : ℕ) (a b : Float) → r ≡ Ok (k, a, b) → reading_of s t x y z d c ≡ fuse s t k (reading.Direct (record { 0 = a }) b)
   unfolding reading_of fused_as
   reading_direct k a b f = rw (← e, f)
 
 -- P's words, one after the other
-module _ (t w s : ℕ) {f : Given} (e : f ≡ given_of t) where
-  pub setup_first : f ≡ NotNumber → setup_of t w s ≡ Refused Setting
+module _ (t w s : ℕ) {f : Option Float} (e : f ≡ given_of t) where
+  pub setup_first : f ≡ None → setup_of t w s ≡ Err Setting
   unfolding setup_of
   setup_first n = rw (← e, n)
 
-  module _ {a : Float} (n : f ≡ Number a) {g : Given} (d : g ≡ given_of w) where
-    pub setup_second : g ≡ NotNumber → setup_of t w s ≡ Refused Setting
+  module _ {a : Float} (n : f ≡ Some a) {g : Option Float} (d : g ≡ given_of w) where
+    pub setup_second : g ≡ None → setup_of t w s ≡ Err Setting
     unfolding setup_of
     setup_second m = rw (← e, n, ← d, m)
 
-    module _ {b : Float} (m : g ≡ Number b) {h : Given} (q : h ≡ given_of s) where
-      pub setup_third : h ≡ NotNumber → setup_of t w s ≡ Refused Setting
+    module _ {b : Float} (m : g ≡ Some b) {h : Option Float} (q : h ≡ given_of s) where
+      pub setup_third : h ≡ None → setup_of t w s ≡ Err Setting
       unfolding setup_of
       setup_third o = rw (← e, n, ← d, m, ← q, o)
 
-      pub setup_read : {c : Float} → h ≡ Number c → setup_of t w s ≡ settings_from a b c
+      pub setup_read : {c : Float} → h ≡ Some c → setup_of t w s ≡ settings_from a b c
       unfolding setup_of
       setup_read o = rw (← e, n, ← d, m, ← q, o)
 
 -- D's cell and words, one after the other
-module _ (x y z d c : ℕ) {r : Made} (e : r ≡ made_of 0 x y z) where
+module _ (x y z d c : ℕ) {r : Result ℕ Refusal} (e : r ≡ made_of 0 x y z) where
   cell : r ≡ cell_of x y z
   unfolding cell_of
   cell = e
 
-  pub cell_refused : {why : Refusal} → r ≡ made.Refused why → taken_of x y z d c ≡ taken.Refused OffLattice
+  pub cell_refused : {why : Refusal} → r ≡ Err why → taken_of x y z d c ≡ Err OffLattice
   unfolding taken_of
   cell_refused n = rw (← cell, n)
 
-  module _ {k : ℕ} (n : r ≡ made.Key k) {g : Given} (f : g ≡ given_of d) where
-    pub cell_distance : g ≡ NotNumber → taken_of x y z d c ≡ taken.Refused BadReading
+  module _ {k : ℕ} (n : r ≡ Ok k) {g : Option Float} (f : g ≡ given_of d) where
+    pub cell_distance : g ≡ None → taken_of x y z d c ≡ Err BadReading
     unfolding taken_of
     cell_distance m = rw (← cell, n, ← f, m)
 
-    module _ {a : Float} (m : g ≡ Number a) {h : Given} (q : h ≡ given_of c) where
-      pub cell_confidence : h ≡ NotNumber → taken_of x y z d c ≡ taken.Refused BadReading
+    module _ {a : Float} (m : g ≡ Some a) {h : Option Float} (q : h ≡ given_of c) where
+      pub cell_confidence : h ≡ None → taken_of x y z d c ≡ Err BadReading
       unfolding taken_of
       cell_confidence o = rw (← cell, n, ← f, m, ← q, o)
 
-      pub cell_read : {b : Float} → h ≡ Number b → taken_of x y z d c ≡ taken.Direct k a b
+      pub cell_read : {b : Float} → h ≡ Some b → taken_of x y z d c ≡ Ok (k, a, b)
       unfolding taken_of
       cell_read o = rw (← cell, n, ← f, m, ← q, o)

@@ -1,17 +1,13 @@
 -- What each line does, and what the run prints.
-use Rattle.std.specs.Prelude.{ℕ, zero, suc, ◌≤◌, ◌≡◌, Bool, true, false, cond, List, [], ◌∷◌, ◌++◌, eqb, length, get_or, replicate, Float}
+use Rattle.std.specs.Prelude.{ℕ, zero, suc, ◌≤◌, ◌≡◌, Bool, true, false, cond, List, [], ◌∷◌, ◌++◌, eqb, length, get_or, replicate, Float, Ok, Err, Some, None, Option, Result}
 use Rattle.std.proofs.lemmas.List.Edits.{sets}
 use Rattle.std.specs.Float.{nan, binary32}
 use Rattle.std.specs.Float.Ieee.{nan_bits, of_bits}
 use Rattle.floats.specs.Floats.{zero32}
 use Rattle.ids.specs.Key.{made_of}
-use Rattle.ids.specs.declared.Made.{Made}
-use Rattle.ids.specs.declared.Made.TheVariants as made
 use Rattle.lines.specs.declared.Line.{Line}
 use Rattle.lines.specs.declared.Line.TheVariants as line
 use Rattle.lines.specs.Lines.{line_of}
-use Rattle.mesh.specs.declared.Meshed.{Meshed}
-use Rattle.mesh.specs.declared.Meshed.TheVariants as meshed
 use Rattle.mesh.specs.declared.Rooms.{Rooms}
 use Rattle.mesh.specs.Mesh.{rooms, mesh_answer, held_in, vertices_of}
 use Rattle.refusals.specs.declared.Refusal.TheVariants.{Setting, OffLattice, BadReading}
@@ -19,17 +15,11 @@ use Rattle.table.specs.declared.Settings.{Settings}
 use Rattle.table.specs.Table.{Table, table, settings_of, settings_ok}
 use Rattle.texts.specs.Texts.{counts_line, vertex_line, bad_line, refused_line}
 use Rattle.fusing.specs.declared.Fused.{Fused}
-use Rattle.fusing.specs.declared.Fused.TheVariants as fused
 use Rattle.measuring.specs.declared.Reading.TheVariants as reading
 use Rattle.fusing.specs.Fusing.{Outcome, outcome, fuse}
 use Rattle.slopes.specs.Vertices.{xs_of, ys_of, zs_of}
-use Rattle.lastlines.specs.declared.Given.{Given}
-use Rattle.lastlines.specs.declared.Given.TheVariants.{Number, NotNumber}
-use Rattle.lastlines.specs.declared.Taken.{Taken}
-use Rattle.lastlines.specs.declared.Taken.TheVariants as taken
-use Rattle.lastlines.specs.declared.Setup.{Setup}
-use Rattle.lastlines.specs.declared.Setup.TheVariants.{Ready, Refused}
 use Rattle.lastlines.specs.declared.Stepped.{Stepped}
+use Rattle.refusals.specs.declared.Refusal.{Refusal}
 
 -- P comes first and once; a misplaced line is bad
 unfoldable pub placed_of : Bool → Line → Line
@@ -39,29 +29,29 @@ placed_of started line.Mesh = cond started line.Mesh line.Bad
 placed_of started line.Bad = line.Bad
 
 -- the float of 32 bits; a NaN's bits are none
-unfoldable pub given_of : ℕ → Given
-given_of bits = cond (nan_bits binary32 bits) NotNumber (Number (of_bits binary32 bits))
+unfoldable pub given_of : ℕ → Option Float
+given_of bits = cond (nan_bits binary32 bits) None (Some (of_bits binary32 bits))
 
 -- settings, tested at once: 1 where one is outside its range
-unfoldable pub tested_as : Bool → Settings → Setup
-tested_as true settings = Ready settings
-tested_as false settings = Refused Setting
+unfoldable pub tested_as : Bool → Settings → Result Settings Refusal
+tested_as true settings = Ok settings
+tested_as false settings = Err Setting
 
 -- the maximum distance is +0
 abbrev pub settings_with : Float → Float → Float → Settings
 settings_with t w s = settings_of t w s zero32
 
 -- three numbers as settings
-unfoldable pub settings_from : Float → Float → Float → Setup
+unfoldable pub settings_from : Float → Float → Float → Result Settings Refusal
 settings_from t w s = tested_as (settings_ok (settings_with t w s)) (settings_with t w s)
 
 -- a NaN's bits are a setting outside its range
-abbrev pub with_setting : Given → (Float → Setup) → Setup
-with_setting (Number x) rest = rest x
-with_setting NotNumber rest = Refused Setting
+abbrev pub with_setting : Option Float → (Float → Result Settings Refusal) → Result Settings Refusal
+with_setting (Some x) rest = rest x
+with_setting None rest = Err Setting
 
 -- what P does: truncation, maximum weight and size as bits
-unfoldable pub setup_of : ℕ → ℕ → ℕ → Setup
+unfoldable pub setup_of : ℕ → ℕ → ℕ → Result Settings Refusal
 setup_of t w s =
     with_setting (given_of t) λ a.
     with_setting (given_of w) λ b.
@@ -69,31 +59,31 @@ setup_of t w s =
     settings_from a b c
 
 -- a NaN's bits are a reading that is not finite, or a confidence outside 0..1: 5
-abbrev pub with_reading : Given → (Float → Taken) → Taken
-with_reading (Number x) rest = rest x
-with_reading NotNumber rest = taken.Refused BadReading
+abbrev pub with_reading : Option Float → (Float → Result (ℕ × Float × Float) Refusal) → Result (ℕ × Float × Float) Refusal
+with_reading (Some x) rest = rest x
+with_reading None rest = Err BadReading
 
 -- mixed parity is 4
-abbrev pub with_key : Made → (ℕ → Taken) → Taken
-with_key (made.Key k) rest = rest k
-with_key (made.Refused why) rest = taken.Refused OffLattice
+abbrev pub with_key : Result ℕ Refusal → (ℕ → Result (ℕ × Float × Float) Refusal) → Result (ℕ × Float × Float) Refusal
+with_key (Ok k) rest = rest k
+with_key (Err why) rest = Err OffLattice
 
 -- the cell at x, y, z, head 0
-unfoldable pub cell_of : ℕ → ℕ → ℕ → Made
+unfoldable pub cell_of : ℕ → ℕ → ℕ → Result ℕ Refusal
 cell_of x y z = made_of 0 x y z
 
 -- a direct reading of it
-unfoldable pub taken_of : ℕ → ℕ → ℕ → ℕ → ℕ → Taken
+unfoldable pub taken_of : ℕ → ℕ → ℕ → ℕ → ℕ → Result (ℕ × Float × Float) Refusal
 taken_of x y z d c =
     with_key (cell_of x y z) λ k.
     with_reading (given_of d) λ distance.
     with_reading (given_of c) λ confidence.
-    taken.Direct k distance confidence
+    Ok (k, distance, confidence)
 
 -- fused into the table
-unfoldable pub fused_as : Taken → Settings → Table → Outcome
-fused_as (taken.Direct k distance confidence) s t = fuse s t k (reading.Direct (record { 0 = distance }) confidence)
-fused_as (taken.Refused why) s t = outcome (fused.Refused why) t
+unfoldable pub fused_as : Result (ℕ × Float × Float) Refusal → Settings → Table → Outcome
+fused_as (Ok (k, distance, confidence)) s t = fuse s t k (reading.Direct (record { 0 = distance }) confidence)
+fused_as (Err why) s t = outcome (Err why) t
 
 -- what D does: x, y, z, then distance and confidence as bits
 unfoldable pub reading_of : Settings → Table → ℕ → ℕ → ℕ → ℕ → ℕ → Outcome
@@ -109,9 +99,9 @@ abbrev pub held : Rooms
 held = rooms 512 512 512 512 512 512 512 512 1024 1024 1024 1024
 
 -- what an answer prints: the counts and each vertex's bits, or why it is refused
-unfoldable pub printed_for : Meshed → ℕ → List Float → List Float → List Float → List ℕ
-printed_for (meshed.Done n m) rows xs ys zs = counts_line rows n m ++ vertex_lines n 0 xs ys zs
-printed_for (meshed.Refused why) rows xs ys zs = refused_line why
+unfoldable pub printed_for : Result (ℕ × ℕ) Refusal → ℕ → List Float → List Float → List Float → List ℕ
+printed_for (Ok (n, m)) rows xs ys zs = counts_line rows n m ++ vertex_lines n 0 xs ys zs
+printed_for (Err why) rows xs ys zs = refused_line why
 
 -- what M prints
 unfoldable pub mesh_text : Settings → Table → List ℕ
@@ -123,9 +113,9 @@ mesh_text s t =
     (held_in zero32 a 512 (zs_of (vertices_of s t)))
 
 -- the run goes on unless M is refused
-abbrev pub goes_on_lem : Meshed → Bool
-goes_on_lem (meshed.Done n m) = true
-goes_on_lem (meshed.Refused why) = false
+abbrev pub goes_on_lem : Result (ℕ × ℕ) Refusal → Bool
+goes_on_lem (Ok (n, m)) = true
+goes_on_lem (Err why) = false
 
 -- after a line: whether P came, the settings, the table, what is printed, and whether the run goes on
 pub record After : Type 0 where
@@ -139,16 +129,16 @@ abbrev pub after : Bool → Settings → Table → List ℕ → Bool → After
 after started s t text goes = record { started = started; settings = s; left = t; text = text; goes = goes }
 
 -- P is silent unless it is refused
-unfoldable pub after_setup : Setup → Bool → Settings → Table → After
-after_setup (Ready s') started s t = after true s' t [] true
-after_setup (Refused why) started s t = after started s t (refused_line why) false
+unfoldable pub after_setup : Result Settings Refusal → Bool → Settings → Table → After
+after_setup (Ok s') started s t = after true s' t [] true
+after_setup (Err why) started s t = after started s t (refused_line why) false
 
 -- D is silent unless it is refused
-unfoldable pub after_reading : Fused → Bool → Settings → Table → After
-after_reading fused.New started s t = after started s t [] true
-after_reading fused.Changed started s t = after started s t [] true
-after_reading fused.Far started s t = after started s t [] true
-after_reading (fused.Refused why) started s t = after started s t (refused_line why) false
+unfoldable pub after_reading : Result Fused Refusal → Bool → Settings → Table → After
+after_reading (Ok Fused.New) started s t = after started s t [] true
+after_reading (Ok Fused.Changed) started s t = after started s t [] true
+after_reading (Ok Fused.Far) started s t = after started s t [] true
+after_reading (Err why) started s t = after started s t (refused_line why) false
 
 -- M leaves the table as it is
 unfoldable pub after_mesh : Bool → Settings → Table → After

@@ -11,9 +11,8 @@ ghost use Rattle.lastlines.specs.Steps.{edges_in, Prints};
 
 use floats::Metres;
 use fusing::Fused;
-use ids::{Cells, Made};
+use ids::Cells;
 use lines::Line;
-use mesh::Meshed;
 use refusals::Refusal;
 use table::{Settings, settings_of};
 
@@ -24,27 +23,6 @@ pub struct Stepped {
     pub settings: Settings,
     pub length: usize,
     pub goes_on: bool,
-}
-
-// What 32 bits are as a float.
-#[derive(Clone, Copy)]
-enum Given {
-    Number(f32),
-    NotNumber,
-}
-
-// What D reads.
-#[derive(Clone, Copy)]
-enum Taken {
-    Direct(u64, f32, f32),
-    Refused(Refusal),
-}
-
-// What P answers.
-#[derive(Clone, Copy)]
-enum Setup {
-    Ready(Settings),
-    Refused(Refusal),
 }
 
 // A line in its place: P first and once, the others after it; a misplaced one is bad.
@@ -72,59 +50,59 @@ fn placed(started: bool, line: Line) -> Line
 }
 
 // The float of 32 bits; a NaN's bits are none.
-fn number_of(bits: u32) -> Given
+fn number_of(bits: u32) -> Option<f32>
     ensures { result ≡ given_of bits }
 {
     if (bits % 0x8000_0000 / 0x80_0000 == 255) & (bits % 0x80_0000 != 0) {
-        Given::NotNumber
+        None
     } else {
         let x = f32::from_bits(bits);
-        Given::Number(x)
+        Some(x)
     }
 }
 
 // Settings that are tested at once; the maximum distance is +0.
-fn tested(truncation: f32, weight: f32, size: f32) -> Setup
+fn tested(truncation: f32, weight: f32, size: f32) -> Result<Settings, Refusal>
     ensures { result ≡ settings_from truncation weight size }
 {
     let settings = settings_of(truncation, weight, size, 0.0);
     if table::settings_ok(settings) {
-        Setup::Ready(settings)
+        Ok(settings)
     } else {
-        Setup::Refused(Refusal::Setting)
+        Err(Refusal::Setting)
     }
 }
 
 // What P does: truncation, maximum weight and size as bits.
-fn set_up(truncation: u32, weight: u32, size: u32) -> Setup
+fn set_up(truncation: u32, weight: u32, size: u32) -> Result<Settings, Refusal>
     ensures { result ≡ setup_of truncation weight size }
 {
-    let Given::Number(t) = number_of(truncation) else {
-        return Setup::Refused(Refusal::Setting);
+    let Some(t) = number_of(truncation) else {
+        return Err(Refusal::Setting);
     };
-    let Given::Number(w) = number_of(weight) else {
-        return Setup::Refused(Refusal::Setting);
+    let Some(w) = number_of(weight) else {
+        return Err(Refusal::Setting);
     };
-    let Given::Number(s) = number_of(size) else {
-        return Setup::Refused(Refusal::Setting);
+    let Some(s) = number_of(size) else {
+        return Err(Refusal::Setting);
     };
     tested(t, w, s)
 }
 
 // A direct reading from coordinates, head 0, and bits.
-fn read_cell(x: u16, y: u16, z: u16, distance: u32, confidence: u32) -> Taken
+fn read_cell(x: u16, y: u16, z: u16, distance: u32, confidence: u32) -> Result<(u64, f32, f32), Refusal>
     ensures { result ≡ taken_of x y z distance confidence }
 {
-    let Made::Key(key) = ids::new(0, Cells(x), Cells(y), Cells(z)) else {
-        return Taken::Refused(Refusal::OffLattice);
+    let Ok(key) = ids::new(0, Cells(x), Cells(y), Cells(z)) else {
+        return Err(Refusal::OffLattice);
     };
-    let Given::Number(d) = number_of(distance) else {
-        return Taken::Refused(Refusal::BadReading);
+    let Some(d) = number_of(distance) else {
+        return Err(Refusal::BadReading);
     };
-    let Given::Number(c) = number_of(confidence) else {
-        return Taken::Refused(Refusal::BadReading);
+    let Some(c) = number_of(confidence) else {
+        return Err(Refusal::BadReading);
     };
-    Taken::Direct(key, d, c)
+    Ok((key, d, c))
 }
 
 // What D does: a reading fused, or why it is refused.
@@ -139,13 +117,13 @@ fn take_reading(
     z: u16,
     distance: u32,
     confidence: u32,
-) -> Fused
+) -> Result<Fused, Refusal>
     ensures { outcome result (table keys.new distances.new weights.new count.new)
         ≡ reading_of settings (table keys.old distances.old weights.old count.old) x y z distance confidence }
 {
     match read_cell(x, y, z, distance, confidence) {
-        Taken::Refused(why) => Fused::Refused(why),
-        Taken::Direct(key, d, c) => fusing::update_from_depth(
+        Err(why) => Err(why),
+        Ok((key, d, c)) => fusing::update_from_depth(
             settings,
             keys,
             distances,
@@ -164,14 +142,12 @@ fn vertex_lines(out: &mut [u8], at: usize, xs: &[f32], ys: &[f32], zs: &[f32], n
     requires n_bound { (n ≤ 512) × (n ≤ length xs.now) × (n ≤ length ys.now) × (n ≤ length zs.now) }
     ensures { out.new ≡ sets out.old at (vertex_lines n 0 xs.now ys.now zs.now) }
 {
-    let mut i = 0;
-    while i < n {
+    for i in 0..n {
         let place = at + 29 * i;
         let x = xs[i];
         let y = ys[i];
         let z = zs[i];
         texts::vertex_line(out, place, x, y, z);
-        i += 1;
     }
 }
 
@@ -202,39 +178,39 @@ fn reject(started: bool, settings: Settings, number: u64, out: &mut [u8]) -> Ste
 }
 
 // P is silent unless it is refused.
-fn after_setup(answer: Setup, started: bool, settings: Settings, out: &mut [u8]) -> Stepped
+fn after_setup(answer: Result<Settings, Refusal>, started: bool, settings: Settings, out: &mut [u8]) -> Stepped
     ensures { (t : Table) → Prints (after_setup answer started settings t) result out.old out.new }
 {
     match answer {
-        Setup::Ready(ready) => Stepped {
+        Ok(ready) => Stepped {
             started: true,
             settings: ready,
             length: 0,
             goes_on: true,
         },
-        Setup::Refused(why) => refuse(started, settings, why, out),
+        Err(why) => refuse(started, settings, why, out),
     }
 }
 
 // D is silent unless it is refused.
-fn after_reading(answer: Fused, started: bool, settings: Settings, out: &mut [u8]) -> Stepped
+fn after_reading(answer: Result<Fused, Refusal>, started: bool, settings: Settings, out: &mut [u8]) -> Stepped
     ensures { (t : Table) → Prints (after_reading answer started settings t) result out.old out.new }
 {
     match answer {
-        Fused::Refused(why) => refuse(started, settings, why, out),
-        Fused::Far => Stepped {
+        Err(why) => refuse(started, settings, why, out),
+        Ok(Fused::Far) => Stepped {
             started,
             settings,
             length: 0,
             goes_on: true,
         },
-        Fused::New => Stepped {
+        Ok(Fused::New) => Stepped {
             started,
             settings,
             length: 0,
             goes_on: true,
         },
-        Fused::Changed => Stepped {
+        Ok(Fused::Changed) => Stepped {
             started,
             settings,
             length: 0,
@@ -247,7 +223,7 @@ fn after_reading(answer: Fused, started: bool, settings: Settings, out: &mut [u8
 fn print_mesh(
     started: bool,
     settings: Settings,
-    meshed: Meshed,
+    meshed: Result<(usize, usize), Refusal>,
     rows: usize,
     xs: &[f32],
     ys: &[f32],
@@ -260,7 +236,7 @@ fn print_mesh(
         (goes_on_lem meshed)) result out.old out.new }
 {
     match meshed {
-        Meshed::Done(edges, triangles) => {
+        Ok((edges, triangles)) => {
             let at = texts::counts_line(out, rows as u64, edges as u64, triangles as u64);
             vertex_lines(out, at, xs, ys, zs, edges);
             Stepped {
@@ -270,7 +246,7 @@ fn print_mesh(
                 goes_on: true,
             }
         }
-        Meshed::Refused(why) => refuse(started, settings, why, out),
+        Err(why) => refuse(started, settings, why, out),
     }
 }
 

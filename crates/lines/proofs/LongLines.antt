@@ -1,5 +1,6 @@
 -- A line of more than 37 bytes is bad: every field ends within its widest form. So the program keeps no more than 38 bytes of a line.
 -- Assumes nothing.
+use Rattle.std.specs.Prelude.{Some, None, Option}
 use Prim.Native.Nat.{ℕ, zero, suc, ◌+◌, ◌*◌, ◌<◌, ◌≤◌}
 use native.Mathlib.Omega.{arith}
 use mathlib.Core.Path.{◌≡◌, refl, sym, ap, ◌∙◌}
@@ -12,10 +13,6 @@ use borrow.Author.Tests.{leb-true, leb-false, ne_eqb}
 use Rattle.lists.proofs.Bools.{cases}
 use Rattle.lines.specs.declared.Line.{Line}
 use Rattle.lines.specs.declared.Line.TheVariants.{Mesh, Bad}
-use Rattle.lines.specs.declared.Word.{Word}
-use Rattle.lines.specs.declared.Word.TheVariants as word
-use Rattle.lines.specs.declared.Number.{Number}
-use Rattle.lines.specs.declared.Number.TheVariants as number
 use Rattle.lines.specs.declared.Digits.{Digits}
 use Rattle.lines.specs.Lines.{digit_value, digits_from, coordinate, number_at, word_at, with_word, with_number, ends_at, settings_line, reading_line, line_of}
 use Rattle.lines.specs.Steps.{end_of}
@@ -32,33 +29,33 @@ digits_end (suc n) s at v =
 
 coordinate_end : (d : Digits) (n : ℕ) → d.next ≤ n → end_of (coordinate d) ≤ n
 coordinate_end d n h =
-    cases (λ (b : Bool). end_of (cond b (number.Read d.value d.next) number.Missing) ≤ n) (leb d.value 65535) (λ e. h) (λ e. omega arith)
+    cases (λ (b : Bool). end_of (cond b (Some (d.value, d.next)) None) ≤ n) (leb d.value 65535) (λ e. h) (λ e. omega arith)
 
 -- a number ends within its space and five digits
 number_end : (s : List ℕ) (at : ℕ) → end_of (number_at s at) ≤ at + 6
 unfolding number_at
 number_end s at =
     let digits = coordinate (digits_from 5 s (at + 1) 0) in
-    let one = cond (ltb (digit_value (get_or s (at + 1) 0)) 10) digits number.Missing in
-    cases (λ (b : Bool). end_of (cond b (cond (eqb (get_or s (at + 1) 0) 48) (number.Read 0 (at + 1 + 1)) one) number.Missing) ≤ at + 6)
+    let one = cond (ltb (digit_value (get_or s (at + 1) 0)) 10) digits None in
+    cases (λ (b : Bool). end_of (cond b (cond (eqb (get_or s (at + 1) 0) 48) (Some (0, at + 1 + 1)) one) None) ≤ at + 6)
     (eqb (get_or s at 0) 32)
     (λ e.
-    cases (λ (b : Bool). end_of (cond b (number.Read 0 (at + 1 + 1)) one) ≤ at + 6) (eqb (get_or s (at + 1) 0) 48)
+    cases (λ (b : Bool). end_of (cond b (Some (0, at + 1 + 1)) one) ≤ at + 6) (eqb (get_or s (at + 1) 0) 48)
     (λ e. omega arith)
     (λ e.
-    cases (λ (b : Bool). end_of (cond b digits number.Missing) ≤ at + 6) (ltb (digit_value (get_or s (at + 1) 0)) 10)
+    cases (λ (b : Bool). end_of (cond b digits None) ≤ at + 6) (ltb (digit_value (get_or s (at + 1) 0)) 10)
     (λ e. coordinate_end (digits_from 5 s (at + 1) 0) (at + 6) (omega (arith, digits_end 5 s (at + 1) 0)))
     (λ e. omega arith)))
     (λ e. omega arith)
 
 -- what is bad after every field is bad
-bad_number : (m : Number) (n : ℕ) (rest : ℕ → ℕ → Line) → end_of m ≤ n → ((v p : ℕ) → p ≤ n → rest v p ≡ Bad) → with_number m rest ≡ Bad
-bad_number (number.Read v p) n rest h f = f v p h
-bad_number number.Missing n rest h f = refl
+bad_number : (m : Option (ℕ × ℕ)) (n : ℕ) (rest : ℕ → ℕ → Line) → end_of m ≤ n → ((v p : ℕ) → p ≤ n → rest v p ≡ Bad) → with_number m rest ≡ Bad
+bad_number (Some (v, p)) n rest h f = f v p h
+bad_number None n rest h f = refl
 
-bad_word : (w : Word) (rest : ℕ → Line) → ((v : ℕ) → rest v ≡ Bad) → with_word w rest ≡ Bad
-bad_word (word.Bits v) rest f = f v
-bad_word word.Missing rest f = refl
+bad_word : (w : Option ℕ) (rest : ℕ → Line) → ((v : ℕ) → rest v ≡ Bad) → with_word w rest ≡ Bad
+bad_word (Some v) rest f = f v
+bad_word None rest f = refl
 
 module _ (s : List ℕ) (long : 37 < length s) where
   bad_end : (n : ℕ) (l : Line) → n ≤ 37 → ends_at n s l ≡ Bad

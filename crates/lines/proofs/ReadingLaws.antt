@@ -1,5 +1,6 @@
 -- Laws of digits read one after the other.
 -- Assumes nothing.
+use Rattle.std.specs.Prelude.{Some, None}
 use Prim.Native.Nat.{ℕ, suc, ◌+◌, ◌-◌, ◌*◌, ◌^◌, ◌<◌, ◌≤◌}
 use native.Mathlib.Nat.{pow-suc, pow-le-pow_right}
 use native.Mathlib.Omega.{arith}
@@ -9,8 +10,6 @@ use lib.ListN.{length, get_or}
 use lib.Dec.{lit<}
 use borrow.Author.Tests.{lt-ltb, le-ltb, le-leb, lt-leb, eq-eqb, ne_eqb}
 use Rattle.lines.specs.declared.Line.TheVariants.{Mesh, Bad}
-use Rattle.lines.specs.declared.Word.TheVariants as word
-use Rattle.lines.specs.declared.Number.TheVariants as number
 use Rattle.lines.specs.declared.Digits.{Digits}
 use Rattle.lines.specs.Lines.{digit_value, hex_value, hex_from, digits_from, word_at, number_at, coordinate, settings_line, reading_line, line_of}
 
@@ -37,7 +36,7 @@ module _ (n : ℕ) (s : List ℕ) (at i v d : ℕ) (h : i < n) where
       let f : at + (i + 1) ≡ suc (at + i) = omega arith in
       rw (m, f, ← e, lt-ltb d 16 k)
 
-  pub hex_none : d ≡ hex_value (get_or s (at + i) 0) → 16 ≤ d → hex_from (n - i) s (at + i) v ≡ word.Missing
+  pub hex_none : d ≡ hex_value (get_or s (at + i) 0) → 16 ≤ d → hex_from (n - i) s (at + i) v ≡ None
   unfolding hex_from
   hex_none e k =
       let m : n - i ≡ suc (n - (i + 1)) = omega arith in
@@ -62,21 +61,21 @@ module _ (s : List ℕ) (at : ℕ) where
   unfolding word_at
   word_there e = rw e
 
-  pub word_missing : (get_or s at 0 ≡ 32 → ⊥) → word_at s at ≡ word.Missing
+  pub word_missing : (get_or s at 0 ≡ 32 → ⊥) → word_at s at ≡ None
   unfolding word_at
   word_missing h = rw (ne_eqb (get_or s at 0) 32 h)
 
-  pub number_missing : (get_or s at 0 ≡ 32 → ⊥) → number_at s at ≡ number.Missing
+  pub number_missing : (get_or s at 0 ≡ 32 → ⊥) → number_at s at ≡ None
   unfolding number_at
   number_missing h = rw (ne_eqb (get_or s at 0) 32 h)
 
   module _ (e : get_or s at 0 ≡ 32) where
-    pub number_zero : get_or s (at + 1) 0 ≡ 48 → number_at s at ≡ number.Read 0 (at + 1 + 1)
+    pub number_zero : get_or s (at + 1) 0 ≡ 48 → number_at s at ≡ Some (0, at + 1 + 1)
     unfolding number_at
     number_zero f = rw (e, f)
 
     module _ (n : get_or s (at + 1) 0 ≡ 48 → ⊥) where
-      pub number_none : 10 ≤ digit_value (get_or s (at + 1) 0) → number_at s at ≡ number.Missing
+      pub number_none : 10 ≤ digit_value (get_or s (at + 1) 0) → number_at s at ≡ None
       unfolding number_at
       number_none h = rw (e, ne_eqb (get_or s (at + 1) 0) 48 n, le-ltb (digit_value (get_or s (at + 1) 0)) 10 h)
 
@@ -84,10 +83,10 @@ module _ (s : List ℕ) (at : ℕ) where
       unfolding number_at
       number_there h = rw (e, ne_eqb (get_or s (at + 1) 0) 48 n, lt-ltb (digit_value (get_or s (at + 1) 0)) 10 h)
 
-pub coordinate_there : (d : Digits) → d.value ≤ 65535 → coordinate d ≡ number.Read d.value d.next
+pub coordinate_there : (d : Digits) → d.value ≤ 65535 → coordinate d ≡ Some (d.value, d.next)
 coordinate_there d h = rw (le-leb d.value 65535 h)
 
-pub coordinate_missing : (d : Digits) → 65535 < d.value → coordinate d ≡ number.Missing
+pub coordinate_missing : (d : Digits) → 65535 < d.value → coordinate d ≡ None
 coordinate_missing d h = rw (lt-leb d.value 65535 h)
 
 -- by the first byte, b

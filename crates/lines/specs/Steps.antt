@@ -1,9 +1,7 @@
 -- What the private readers of a line promise each other.
-use Rattle.std.specs.Prelude.{ℕ}
-use Rattle.lines.specs.declared.Number.{Number}
-use Rattle.lines.specs.declared.Number.TheVariants.{Read, Missing}
+use Rattle.std.specs.Prelude.{ℕ, Some, None, Option}
 
 -- the place after a number
-abbrev pub end_of : Number → ℕ
-end_of (Read v at) = at
-end_of Missing = 0
+abbrev pub end_of : Option (ℕ × ℕ) → ℕ
+end_of (Some (v, at)) = at
+end_of None = 0

@@ -14,20 +14,6 @@ pub enum Line {
     Bad,
 }
 
-// Eight lowercase hex digits after a space.
-#[derive(Clone, Copy)]
-enum Word {
-    Bits(u32),
-    Missing,
-}
-
-// A coordinate after a space, and the place after it.
-#[derive(Clone, Copy)]
-enum Number {
-    Read(u16, usize),
-    Missing,
-}
-
 // The value of decimal digits, and the place after them.
 #[derive(Clone, Copy)]
 struct Digits {
@@ -71,32 +57,30 @@ fn hex_value(byte: u8) -> u32
 }
 
 // Eight hex digits from a place on.
-fn hex_from(line: &[u8], at: usize) -> Word
+fn hex_from(line: &[u8], at: usize) -> Option<u32>
     requires { at ≤ 1000 }
     ensures { result ≡ hex_from 8 line.now at 0 }
 {
     let mut bits: u32 = 0;
-    let mut i = 0;
-    while i < 8 {
+    for i in 0..8 {
         let digit = hex_value(byte_at(line, at + i));
         if 16 <= digit {
-            return Word::Missing;
+            return None;
         }
         bits = bits * 16 + digit;
-        i += 1;
     }
-    Word::Bits(bits)
+    Some(bits)
 }
 
 // A space and eight hex digits.
-fn word_at(line: &[u8], at: usize) -> Word
+fn word_at(line: &[u8], at: usize) -> Option<u32>
     requires { at < 1000 }
     ensures { result ≡ word_at line.now at }
 {
     if byte_at(line, at) == 32 {
         hex_from(line, at + 1)
     } else {
-        Word::Missing
+        None
     }
 }
 
@@ -126,28 +110,28 @@ fn digits_from(line: &[u8], at: usize) -> Digits
 }
 
 // A space and a coordinate: 0 to 65,535 without leading zeros.
-fn number_at(line: &[u8], at: usize) -> Number
+fn number_at(line: &[u8], at: usize) -> Option<(u16, usize)>
     requires { at < 1000 }
     ensures value { result ≡ number_at line.now at }
     ensures result_bound { end_of result ≤ at + 6 }
 {
     if byte_at(line, at) != 32 {
-        return Number::Missing;
+        return None;
     }
     let from = at + 1;
     let first = byte_at(line, from);
     if first == 48 {
-        return Number::Read(0, from + 1);
+        return Some((0, from + 1));
     }
     if 10 <= digit_value(first) {
-        return Number::Missing;
+        return None;
     }
     let digits = digits_from(line, from);
     let value = digits.value;
     if value <= 65535 {
-        Number::Read(value as u16, digits.next)
+        Some((value as u16, digits.next))
     } else {
-        Number::Missing
+        None
     }
 }
 
@@ -155,13 +139,13 @@ fn number_at(line: &[u8], at: usize) -> Number
 fn settings_line(line: &[u8]) -> Line
     ensures { result ≡ settings_line line.now }
 {
-    let Word::Bits(truncation) = word_at(line, 1) else {
+    let Some(truncation) = word_at(line, 1) else {
         return Line::Bad;
     };
-    let Word::Bits(weight) = word_at(line, 10) else {
+    let Some(weight) = word_at(line, 10) else {
         return Line::Bad;
     };
-    let Word::Bits(size) = word_at(line, 19) else {
+    let Some(size) = word_at(line, 19) else {
         return Line::Bad;
     };
     if line.len() == 28 {
@@ -175,19 +159,19 @@ fn settings_line(line: &[u8]) -> Line
 fn reading_line(line: &[u8]) -> Line
     ensures { result ≡ reading_line line.now }
 {
-    let Number::Read(x, after_x) = number_at(line, 1) else {
+    let Some((x, after_x)) = number_at(line, 1) else {
         return Line::Bad;
     };
-    let Number::Read(y, after_y) = number_at(line, after_x) else {
+    let Some((y, after_y)) = number_at(line, after_x) else {
         return Line::Bad;
     };
-    let Number::Read(z, after_z) = number_at(line, after_y) else {
+    let Some((z, after_z)) = number_at(line, after_y) else {
         return Line::Bad;
     };
-    let Word::Bits(distance) = word_at(line, after_z) else {
+    let Some(distance) = word_at(line, after_z) else {
         return Line::Bad;
     };
-    let Word::Bits(confidence) = word_at(line, after_z + 9) else {
+    let Some(confidence) = word_at(line, after_z + 9) else {
         return Line::Bad;
     };
     if line.len() == after_z + 18 {

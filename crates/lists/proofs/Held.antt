@@ -1,5 +1,6 @@
 -- What a list holds once its answer is known: what was written from the front stands there where it has room, and all is cleared where it has not.
 -- Assumes nothing.
+use Rattle.std.specs.Prelude.{Ok, Err, Result}
 use Prim.Native.Nat.{ℕ}
 use native.Mathlib.Nat.{sub-zero}
 use native.Mathlib.Omega.{arith}
@@ -15,17 +16,15 @@ use Rattle.refusals.specs.declared.Refusal.TheVariants.{NoPlace}
 use Rattle.lists.specs.Padding.{padded}
 use Rattle.lists.specs.Places.{cleared_from}
 use Rattle.lists.specs.Listing.{room_for, count_of, held_for}
-use Rattle.lists.specs.declared.Listed.{Listed}
-use Rattle.lists.specs.declared.Listed.TheVariants as listed
 use Rattle.lists.proofs.Bools.{cases}
 use Rattle.lists.proofs.Writing.{sets_front, cleared_whole}
 
-abbrev room_if : Bool → ℕ → Listed
-room_if b n = cond b (listed.Count n) (listed.Refused NoPlace)
+abbrev room_if : Bool → ℕ → Result ℕ Refusal
+room_if b n = cond b (Ok n) (Err NoPlace)
 
 module _ {A : Type 0} (v : A) where
   -- nothing is kept where a call is refused
-  pub refused_held : (why : Refusal) (l xs : List A) → cleared_from v 0 l ≡ held_for v (listed.Refused why) (length l) xs
+  pub refused_held : (why : Refusal) (l xs : List A) → cleared_from v 0 l ≡ held_for v (Err why) (length l) xs
   unfolding held_for
   refused_held why l xs = cleared_whole v l
 

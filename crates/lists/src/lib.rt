@@ -11,31 +11,24 @@ use refusals::Refusal;
 // The most places of a list that is filled or read, but for a table's own.
 pub const LONGEST_LIST: usize = 1_048_576;
 
-// What is answered to a list: how many it holds, or why it is refused.
-#[derive(Clone, Copy)]
-pub enum Listed {
-    Count(usize),
-    Refused(Refusal),
-}
-
 // `n` entries in a list of `room` places.
-pub fn room_for(n: usize, room: usize) -> Listed
+pub fn room_for(n: usize, room: usize) -> Result<usize, Refusal>
     ensures { result ≡ room_for n room }
 {
     if n <= room {
-        Listed::Count(n)
+        Ok(n)
     } else {
-        Listed::Refused(Refusal::NoPlace)
+        Err(Refusal::NoPlace)
     }
 }
 
 // How many an answer says; none where it refuses.
-pub fn count_of(listed: Listed) -> usize
+pub fn count_of(listed: Result<usize, Refusal>) -> usize
     ensures { result ≡ count_of listed }
 {
     match listed {
-        Listed::Count(n) => n,
-        Listed::Refused(_) => 0,
+        Ok(n) => n,
+        Err(_) => 0,
     }
 }
 
@@ -43,30 +36,24 @@ pub fn count_of(listed: Listed) -> usize
 pub fn clear_from_u64(list: &mut [u64], n: usize)
     ensures { list.new ≡ cleared_from 0 n list.old }
 {
-    let mut i = n;
-    while i < list.len() {
+    for i in n..list.len() {
         list[i] = 0;
-        i += 1;
     }
 }
 
 pub fn clear_from_u32(list: &mut [u32], n: usize)
     ensures { list.new ≡ cleared_from 0 n list.old }
 {
-    let mut i = n;
-    while i < list.len() {
+    for i in n..list.len() {
         list[i] = 0;
-        i += 1;
     }
 }
 
 pub fn clear_from_f32(list: &mut [f32], n: usize)
     ensures { list.new ≡ cleared_from zero_f n list.old }
 {
-    let mut i = n;
-    while i < list.len() {
+    for i in n..list.len() {
         list[i] = 0.0;
-        i += 1;
     }
 }
 

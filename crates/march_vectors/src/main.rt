@@ -2,10 +2,8 @@
 // rows; B a gradient; X the statistics of a marched table.
 #![tactic(auto)]
 
-use esdf::Marched;
-use esdf_questions::Gradient;
-use esdf_surveys::Statistics;
 use vectors::{Field, Line, Score, float, same};
+use refusals::Refusal;
 
 // The rows that a march gave, the next of them to compare, and whether the last line's answer came out again.
 #[derive(Clone, Copy)]
@@ -24,10 +22,10 @@ struct Replay {
     score: Score,
 }
 
-fn is_march(marched: Marched, rows: u64, takings: u64) -> bool {
+fn is_march(marched: Result<(usize, usize), Refusal>, rows: u64, takings: u64) -> bool {
     match marched {
-        Marched::Done(n, taken) => (n as u64 == rows) & (taken as u64 == takings),
-        Marched::Refused(_) => false,
+        Ok((n, taken)) => (n as u64 == rows) & (taken as u64 == takings),
+        Err(_) => false,
     }
 }
 
@@ -96,12 +94,12 @@ fn gradient_again(field: Field, words: [u64; 16]) -> bool {
     let keys = field.keys;
     let distances = field.distances;
     match esdf_questions::get_gradient(&keys, &distances, field.rows, words[0]) {
-        Gradient::Of(x, y, z) => {
+        Ok(Some((x, y, z))) => {
             let first = (words[1] == 0) & same(x, float(words[2]));
             first & same(y, float(words[3])) & same(z, float(words[4]))
         }
-        Gradient::Absent => words[1] == 101,
-        Gradient::Refused(_) => false,
+        Ok(None) => words[1] == 101,
+        Err(_) => false,
     }
 }
 
@@ -109,14 +107,14 @@ fn statistics_again(field: Field, words: [u64; 16]) -> bool {
     let keys = field.keys;
     let distances = field.distances;
     match esdf_surveys::stats(&keys, &distances, field.rows) {
-        Statistics::Of(s) => {
+        Ok(s) => {
             let rows = (s.voxel_count as u64 == words[0])
                 & (s.obstacle_voxel_count as u64 == words[1]);
             let free = s.free_voxel_count as u64 == words[2];
             let least = same(s.min_distance, float(words[3]));
             rows & free & least & same(s.max_distance, float(words[4]))
         }
-        Statistics::Refused(_) => false,
+        Err(_) => false,
     }
 }
 

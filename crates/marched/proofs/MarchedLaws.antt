@@ -1,4 +1,5 @@
 -- Rows side by side in two lists: each place's row, the columns, and the tests of them. Assumes nothing.
+use Rattle.std.specs.Prelude.{Ok, Err, Some, None, Option, Result}
 use mathlib.Core.Path.{◌≡◌, refl, sym, ap, ◌∙◌}
 use mathlib.Core.Bool.{Bool, true, false}
 use mathlib.Core.List.{List, [], ◌∷◌}
@@ -16,15 +17,10 @@ use Rattle.refusals.specs.declared.Refusal.{Refusal}
 use Rattle.refusals.specs.declared.Refusal.TheVariants.{Lengths, BadRow, OffLattice}
 use Rattle.search.specs.Keys.{find, find_by, ascending}
 use Rattle.table.specs.Table.{need, then_test}
-use Rattle.table.specs.declared.Checked.{Checked}
-use Rattle.table.specs.declared.Checked.TheVariants as checked
-use Rattle.search.specs.declared.Found.{Found}
-use Rattle.search.specs.declared.Found.TheVariants.{At, Absent}
 use Rattle.search.proofs.KeyLaws.{find_by-find, found}
 use Rattle.marching.specs.March.{MarchedRow, marched_row, keys_of, distances_of, distance_of}
 use Rattle.marching.proofs.Looking.{at, distance_find}
 use Rattle.table.proofs.Checking.{need_passed}
-use Rattle.marched.specs.declared.Stored.TheVariants as stored
 use Rattle.marched.specs.Marched.{MarchedTable, marched_table, pairs, marched_rows_of, pair_ok, marched_lengths_ok, marched_row_ok, marched_rows_ok, marched_ok, marched_then, marched_check, key_check, list_check}
 use Rattle.marched.specs.Steps.{Accepted, stored_as}
 
@@ -99,54 +95,54 @@ module _ (t : MarchedTable) where
   lengths = marched_lengths_ok (length t.keys) (length t.distances) t.count
 
   -- what is tested after 2 and 3
-  pub marched_follow : (rest : Checked) → marched_then t rest ≡ then_test (marched_check t) rest
+  pub marched_follow : (rest : Result (Unit {0}) Refusal) → marched_then t rest ≡ then_test (marched_check t) rest
   unfolding marched_then need then_test
   marched_follow rest = two lengths (marched_ok t)
     where
-      two : (a b : Bool) → need a Lengths (need b BadRow rest) ≡ then_test (need a Lengths (need b BadRow checked.Passed)) rest
+      two : (a b : Bool) → need a Lengths (need b BadRow rest) ≡ then_test (need a Lengths (need b BadRow (Ok tt))) rest
       two true true = refl
       two true false = refl
       two false true = refl
       two false false = refl
 
   -- a refusal stands; what passed is tested on
-  pub refuses_on : (v : Checked) (rest : Checked) {why : Refusal} → v ≡ marched_check t → v ≡ checked.Refused why → checked.Refused why ≡ marched_then t rest
+  pub refuses_on : (v : Result (Unit {0}) Refusal) (rest : Result (Unit {0}) Refusal) {why : Refusal} → v ≡ marched_check t → v ≡ Err why → Err why ≡ marched_then t rest
   unfolding then_test
-  refuses_on v rest e f = sym (marched_follow rest ∙ ap (λ (x : Checked). then_test x rest) (sym e ∙ f))
+  refuses_on v rest e f = sym (marched_follow rest ∙ ap (λ (x : Result (Unit {0}) Refusal). then_test x rest) (sym e ∙ f))
 
-  pub passes_on : (v : Checked) (rest : Checked) → v ≡ marched_check t → v ≡ checked.Passed → rest ≡ marched_then t rest
+  pub passes_on : (v : Result (Unit {0}) Refusal) (rest : Result (Unit {0}) Refusal) → v ≡ marched_check t → v ≡ (Ok tt) → rest ≡ marched_then t rest
   unfolding then_test
-  passes_on v rest e f = sym (marched_follow rest ∙ ap (λ (x : Checked). then_test x rest) (sym e ∙ f))
+  passes_on v rest e f = sym (marched_follow rest ∙ ap (λ (x : Result (Unit {0}) Refusal). then_test x rest) (sym e ∙ f))
 
   -- the same after 4
   pub refuses_after :
-      (v : Checked) (k : ℕ) (rest : Checked) {why : Refusal}
+      (v : Result (Unit {0}) Refusal) (k : ℕ) (rest : Result (Unit {0}) Refusal) {why : Refusal}
       → v ≡ key_check t k
-      → v ≡ checked.Refused why
-      → checked.Refused why ≡ marched_then t (need (on_lattice k) OffLattice rest)
+      → v ≡ Err why
+      → Err why ≡ marched_then t (need (on_lattice k) OffLattice rest)
   unfolding marched_then need
   refuses_after v k rest e f = sym (three lengths (marched_ok t) (on_lattice k) (sym e ∙ f))
     where
       three :
           (a b c : Bool) {why : Refusal}
-          → need a Lengths (need b BadRow (need c OffLattice checked.Passed)) ≡ checked.Refused why
-          → need a Lengths (need b BadRow (need c OffLattice rest)) ≡ checked.Refused why
+          → need a Lengths (need b BadRow (need c OffLattice (Ok tt))) ≡ Err why
+          → need a Lengths (need b BadRow (need c OffLattice rest)) ≡ Err why
       three true true true h = absurd (let z : ◌≡◌ {A = ℕ} 0 1 = cc in omega arith)
       three true true false h = h
       three true false c h = h
       three false b c h = h
 
   pub passes_after :
-      (v : Checked) (k : ℕ) (rest : Checked)
+      (v : Result (Unit {0}) Refusal) (k : ℕ) (rest : Result (Unit {0}) Refusal)
       → v ≡ key_check t k
-      → v ≡ checked.Passed
+      → v ≡ (Ok tt)
       → rest ≡ marched_then t (need (on_lattice k) OffLattice rest)
   unfolding marched_then need
   passes_after v k rest e f = sym (three lengths (marched_ok t) (on_lattice k) (sym e ∙ f))
     where
       three :
           (a b c : Bool)
-          → need a Lengths (need b BadRow (need c OffLattice checked.Passed)) ≡ checked.Passed
+          → need a Lengths (need b BadRow (need c OffLattice (Ok tt))) ≡ (Ok tt)
           → need a Lengths (need b BadRow (need c OffLattice rest)) ≡ rest
       three true true true h = refl
       three true true false h = absurd (let z : ◌≡◌ {A = ℕ} 0 1 = cc in omega arith)
@@ -160,22 +156,22 @@ module _ (ks : List ℕ) (ds : List Float) (n : ℕ) where
       let l = lengths_known (length ks) (length ds) n a in
       record { fits = l.0; distances = l.1; ascends = and_second (marched_rows_ok (marched_rows_of ks ds n)) (ascending (take n ks)) b }
 
-  pub accepted : (v rest : Checked) → v ≡ marched_then (marched_table ks ds n) rest → v ≡ checked.Passed → Accepted ks ds n
+  pub accepted : (v rest : Result (Unit {0}) Refusal) → v ≡ marched_then (marched_table ks ds n) rest → v ≡ (Ok tt) → Accepted ks ds n
   unfolding marched_then
   accepted v rest e f =
       let a = need_passed (marched_lengths_ok (length ks) (length ds) n) Lengths _ (sym e ∙ f) in
       accepted_by a.0 (need_passed (marched_ok (marched_table ks ds n)) BadRow _ a.1).0
 
-  pub short : (v rest : Checked) → v ≡ marched_then (marched_table ks ds n) rest → v ≡ checked.Passed → length ks ≤ 1048576
+  pub short : (v rest : Result (Unit {0}) Refusal) → v ≡ marched_then (marched_table ks ds n) rest → v ≡ (Ok tt) → length ks ≤ 1048576
   unfolding marched_then
   short v rest e f =
       (lengths_known (length ks) (length ds) n (need_passed (marched_lengths_ok (length ks) (length ds) n) Lengths _ (sym e ∙ f)).0).2
 
   pub may_list :
-      (oks : List ℕ) (ods : List Float) (fit : Bool) (threshold : Float) (v : Checked)
+      (oks : List ℕ) (ods : List Float) (fit : Bool) (threshold : Float) (v : Result (Unit {0}) Refusal)
       → fit ≡ pair_ok (length oks) (length ods)
       → v ≡ list_check (marched_table ks ds n) fit threshold
-      → v ≡ checked.Passed
+      → v ≡ (Ok tt)
       → Accepted ks ds n × (length ks ≤ 1048576) × (length ods ≡ length oks)
   unfolding list_check
   may_list oks ods fit threshold v p e f =
@@ -188,7 +184,7 @@ module _ (ks : List ℕ) (ds : List Float) (n : ℕ) where
 
 -- ---- looking a cell up
 
-module _ (ks : List ℕ) (ds : List Float) (n : ℕ) (h : Accepted ks ds n) (k : ℕ) (f : Found) (e : f ≡ find_by k (take n ks)) where
+module _ (ks : List ℕ) (ds : List Float) (n : ℕ) (h : Accepted ks ds n) (k : ℕ) (f : Option ℕ) (e : f ≡ find_by k (take n ks)) where
   is : f ≡ find k (take n ks)
   is = e ∙ find_by-find k (take n ks) h.ascends
 
@@ -197,21 +193,21 @@ module _ (ks : List ℕ) (ds : List Float) (n : ℕ) (h : Accepted ks ds n) (k :
       let c = pair_columns ks ds n h.distances in
       distance_find k (marched_rows_of ks ds n)
       ∙ ap (λ (x : List ℕ). at (find k x) (distances_of (marched_rows_of ks ds n))) c.0
-      ∙ ap (λ (x : Found). at x (distances_of (marched_rows_of ks ds n))) (sym is)
+      ∙ ap (λ (x : Option ℕ). at x (distances_of (marched_rows_of ks ds n))) (sym is)
       ∙ ap (at f) c.1
 
-  pub not_stored : f ≡ Absent → stored.Absent ≡ stored_as (distance_of k (marched_rows_of ks ds n))
+  pub not_stored : f ≡ None → None ≡ stored_as (distance_of k (marched_rows_of ks ds n))
   unfolding stored_as at
-  not_stored a = sym (ap stored_as (says ∙ ap (λ (x : Found). at x (take n ds)) a))
+  not_stored a = sym (ap stored_as (says ∙ ap (λ (x : Option ℕ). at x (take n ds)) a))
 
-  module _ (i : ℕ) (a : f ≡ At i) where
+  module _ (i : ℕ) (a : f ≡ Some i) where
     below : i < n
     below = let q = found k (take n ks) i (sym is ∙ a) in let l = q.0 in rw (length-take-le n ks h.fits) at l
 
     pub in_distances : i < length ds
     in_distances = let b = below in let g = h.fits in let d = h.distances in omega arith
 
-    pub is_stored : stored.At (get_or ds i nan) ≡ stored_as (distance_of k (marched_rows_of ks ds n))
+    pub is_stored : Some (get_or ds i nan) ≡ stored_as (distance_of k (marched_rows_of ks ds n))
     unfolding stored_as at
     is_stored =
-        ap stored.At (sym (get_or-take n ds i nan below)) ∙ sym (ap stored_as (says ∙ ap (λ (x : Found). at x (take n ds)) a))
+        ap Some (sym (get_or-take n ds i nan below)) ∙ sym (ap stored_as (says ∙ ap (λ (x : Option ℕ). at x (take n ds)) a))

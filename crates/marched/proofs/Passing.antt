@@ -1,6 +1,7 @@
 -- What a march over an accepted table stores passes the tests of a marched table: its keys ascend on the lattice, a seed's distance is a
 -- row's, and any other is at most the maximum distance in size.
 -- Assumes nothing.
+use Rattle.std.specs.Prelude.{Ok}
 use mathlib.Core.Path.{◌≡◌, refl, sym, ap, subst, ◌∙◌}
 use mathlib.Core.Logic.{◌⊎◌, inl, inr, ⊎_elim}
 use mathlib.Core.Bool.{Bool, true, ◌&&◌, ◌||◌}
@@ -22,7 +23,6 @@ use Rattle.lists.proofs.Bools.{cases, and_first, and_second}
 use Rattle.lists.proofs.PaddingLaws.{padded_length, padded_front}
 use Rattle.table.specs.Table.{Row, Table, rows, row_ok, rows_ok, need, table_check}
 use Rattle.table.specs.declared.Settings.{Settings}
-use Rattle.table.specs.declared.Checked.TheVariants.{Passed}
 use Rattle.table.proofs.Checking.{sound}
 use Rattle.table.proofs.SettingsLaws.{settings_known, farthest_known}
 use Rattle.marching.specs.March.{MarchedRow, State, Rooms, on, keys_of, distances_of, seeds}
@@ -88,10 +88,10 @@ pairs_front (r ∷ rs) ks ds = ap (λ (l : List MarchedRow). r ∷ l) (pairs_fro
 -- What a march stores, in two lists of one length and then zeros, passes the tests of a marched table.
 pub march_passes :
     (st : Settings) (t : Table) (m : Rooms) (threshold : Float) (s : State)
-    → table_check st t ≡ Passed
+    → table_check st t ≡ (Ok tt)
     → march_from st.voxel_size.0 st.max_distance.0 m threshold (rows t) ≡ on s
     → m.rows ≤ 1048576
-    → marched_check (marched_table (padded 0 m.rows (keys_of s.stored)) (padded zero32 m.rows (distances_of s.stored)) (length s.stored)) ≡ Passed
+    → marched_check (marched_table (padded 0 m.rows (keys_of s.stored)) (padded zero32 m.rows (distances_of s.stored)) (length s.stored)) ≡ (Ok tt)
 unfolding marched_then need padded
 march_passes st t m threshold s c e few =
     let h = marches st t m threshold s c e in

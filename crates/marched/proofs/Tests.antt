@@ -1,4 +1,5 @@
 -- The tests of a key and a threshold, after those of the table, and what is stored. Assumes nothing.
+use Rattle.std.specs.Prelude.{Ok, Err, Some, None, Result}
 use mathlib.Core.Path.{◌≡◌, refl, sym, ◌∙◌}
 use mathlib.Core.Bool.{true, false}
 use mathlib.Core.Option.{Option, none, some}
@@ -9,42 +10,39 @@ use Rattle.floats.specs.Floats.{is_finite}
 use Rattle.ids.specs.Key.{on_lattice}
 use Rattle.refusals.specs.declared.Refusal.TheVariants.{OffLattice, BadReading}
 use Rattle.table.specs.Table.{need}
-use Rattle.table.specs.declared.Checked.{Checked}
-use Rattle.table.specs.declared.Checked.TheVariants as checked
-use Rattle.marched.specs.declared.Stored.{Stored}
-use Rattle.marched.specs.declared.Stored.TheVariants as stored
 use Rattle.marched.specs.Marched.{MarchedTable, marched_check, key_check, free_check}
 use Rattle.marched.specs.Steps.{stored_as}
 use Rattle.marched.proofs.MarchedLaws.{passes_on, passes_after}
+use Rattle.refusals.specs.declared.Refusal.{Refusal}
 
 -- ---- tests of a key and a threshold
 
-module _ (t : MarchedTable) (k : ℕ) (v : Checked) where
-  pub key_passes : v ≡ marched_check t → v ≡ checked.Passed → on_lattice k ≡ true → checked.Passed ≡ key_check t k
+module _ (t : MarchedTable) (k : ℕ) (v : Result (Unit {0}) Refusal) where
+  pub key_passes : v ≡ marched_check t → v ≡ (Ok tt) → on_lattice k ≡ true → (Ok tt) ≡ key_check t k
   unfolding need
-  key_passes e f h = sym (rw h) ∙ passes_on t v (need (on_lattice k) OffLattice checked.Passed) e f
+  key_passes e f h = sym (rw h) ∙ passes_on t v (need (on_lattice k) OffLattice (Ok tt)) e f
 
-  pub key_fails : v ≡ marched_check t → v ≡ checked.Passed → on_lattice k ≡ false → checked.Refused OffLattice ≡ key_check t k
+  pub key_fails : v ≡ marched_check t → v ≡ (Ok tt) → on_lattice k ≡ false → Err OffLattice ≡ key_check t k
   unfolding need
-  key_fails e f h = sym (rw h) ∙ passes_on t v (need (on_lattice k) OffLattice checked.Passed) e f
+  key_fails e f h = sym (rw h) ∙ passes_on t v (need (on_lattice k) OffLattice (Ok tt)) e f
 
-  module _ (threshold : Float) (e : v ≡ key_check t k) (f : v ≡ checked.Passed) where
-    pub free_passes : is_finite threshold ≡ true → checked.Passed ≡ free_check t k threshold
+  module _ (threshold : Float) (e : v ≡ key_check t k) (f : v ≡ (Ok tt)) where
+    pub free_passes : is_finite threshold ≡ true → (Ok tt) ≡ free_check t k threshold
     unfolding need
-    free_passes h = sym (rw h) ∙ passes_after t v k (need (is_finite threshold) BadReading checked.Passed) e f
+    free_passes h = sym (rw h) ∙ passes_after t v k (need (is_finite threshold) BadReading (Ok tt)) e f
 
-    pub free_fails : is_finite threshold ≡ false → checked.Refused BadReading ≡ free_check t k threshold
+    pub free_fails : is_finite threshold ≡ false → Err BadReading ≡ free_check t k threshold
     unfolding need
-    free_fails h = sym (rw h) ∙ passes_after t v k (need (is_finite threshold) BadReading checked.Passed) e f
+    free_fails h = sym (rw h) ∙ passes_after t v k (need (is_finite threshold) BadReading (Ok tt)) e f
 
 -- ---- what is stored
 
-pub stored_some : (o : Option Float) (s : Stored) {d : Float} → s ≡ stored_as o → s ≡ stored.At d → o ≡ some d
+pub stored_some : (o : Option Float) (s : Option Float) {d : Float} → s ≡ stored_as o → s ≡ Some d → o ≡ some d
 unfolding stored_as
 stored_some none s e f = absurd (let z : ◌≡◌ {A = ℕ} 0 1 = cc in omega arith)
 stored_some (some x) s e f = cc
 
-pub stored_none : (o : Option Float) (s : Stored) → s ≡ stored_as o → s ≡ stored.Absent → o ≡ none
+pub stored_none : (o : Option Float) (s : Option Float) → s ≡ stored_as o → s ≡ None → o ≡ none
 unfolding stored_as
 stored_none none s e f = refl
 stored_none (some x) s e f = absurd (let z : ◌≡◌ {A = ℕ} 0 1 = cc in omega arith)

@@ -1,13 +1,12 @@
 -- A marched table: rows side by side in two lists, ascending by key, and the tests before a question about it.
-use Rattle.std.specs.Prelude.{ℕ, Bool, true, ◌&&◌, List, [], ◌∷◌, eqb, leb, length, take, Float}
+use Rattle.std.specs.Prelude.{ℕ, Bool, true, ◌&&◌, List, [], ◌∷◌, eqb, leb, length, take, Float, Ok, Result}
 use Rattle.floats.specs.Floats.{million, within, is_finite}
 use Rattle.ids.specs.Key.{on_lattice}
 use Rattle.refusals.specs.declared.Refusal.TheVariants.{Lengths, BadRow, OffLattice, BadReading}
 use Rattle.search.specs.Keys.{ascending}
 use Rattle.table.specs.Table.{need}
-use Rattle.table.specs.declared.Checked.{Checked}
-use Rattle.table.specs.declared.Checked.TheVariants.{Passed}
 use Rattle.marching.specs.March.{MarchedRow, marched_row}
+use Rattle.refusals.specs.declared.Refusal.{Refusal}
 
 -- what a caller lends: two lists and how many of their places are rows
 pub record MarchedTable : Type 0 where
@@ -52,26 +51,26 @@ abbrev pub marched_ok : MarchedTable → Bool
 marched_ok t = marched_rows_ok (marched_rows t) && ascending (take t.count t.keys)
 
 -- refusals 2 and 3, in this order, then the rest
-unfoldable pub marched_then : MarchedTable → Checked → Checked
+unfoldable pub marched_then : MarchedTable → Result (Unit {0}) Refusal → Result (Unit {0}) Refusal
 unfolding need
 marched_then t rest =
     need (marched_lengths_ok (length t.keys) (length t.distances) t.count) Lengths (need (marched_ok t) BadRow rest)
 
 -- 2 and 3
-abbrev pub marched_check : MarchedTable → Checked
-marched_check t = marched_then t Passed
+abbrev pub marched_check : MarchedTable → Result (Unit {0}) Refusal
+marched_check t = marched_then t (Ok tt)
 
 -- 2, 3 and 4
-abbrev pub key_check : MarchedTable → ℕ → Checked
-key_check t k = marched_then t (need (on_lattice k) OffLattice Passed)
+abbrev pub key_check : MarchedTable → ℕ → Result (Unit {0}) Refusal
+key_check t k = marched_then t (need (on_lattice k) OffLattice (Ok tt))
 
 -- 2, 3, 4 and 5
-abbrev pub free_check : MarchedTable → ℕ → Float → Checked
-free_check t k threshold = marched_then t (need (on_lattice k) OffLattice (need (is_finite threshold) BadReading Passed))
+abbrev pub free_check : MarchedTable → ℕ → Float → Result (Unit {0}) Refusal
+free_check t k threshold = marched_then t (need (on_lattice k) OffLattice (need (is_finite threshold) BadReading (Ok tt)))
 
 -- 2, of the lists to be filled too, 3 and 5
-unfoldable pub list_check : MarchedTable → Bool → Float → Checked
+unfoldable pub list_check : MarchedTable → Bool → Float → Result (Unit {0}) Refusal
 unfolding need
 list_check t fit threshold =
     need (marched_lengths_ok (length t.keys) (length t.distances) t.count) Lengths
-    (need fit Lengths (need (marched_ok t) BadRow (need (is_finite threshold) BadReading Passed)))
+    (need fit Lengths (need (marched_ok t) BadRow (need (is_finite threshold) BadReading (Ok tt))))

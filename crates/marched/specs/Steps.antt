@@ -1,9 +1,7 @@
 -- What the private functions promise each other.
-use Rattle.std.specs.Prelude.{ℕ, ◌≤◌, ◌≡◌, true, List, length, take, Float}
+use Rattle.std.specs.Prelude.{ℕ, ◌≤◌, ◌≡◌, true, List, length, take, Float, Some, None}
 use Rattle.std.proofs.Math.Option.{Option, none, some}
 use Rattle.search.specs.Keys.{ascending}
-use Rattle.marched.specs.declared.Stored.{Stored}
-use Rattle.marched.specs.declared.Stored.TheVariants as stored
 
 -- two lists of one length, with n rows whose keys ascend
 pub record Accepted (ks : List ℕ) (ds : List Float) (n : ℕ) : Type 0 where
@@ -12,6 +10,6 @@ pub record Accepted (ks : List ℕ) (ds : List Float) (n : ℕ) : Type 0 where
   pub ascends : ascending (take n ks) ≡ true
 
 -- what is stored of a cell
-unfoldable pub stored_as : Option Float → Stored
-stored_as none = stored.Absent
-stored_as (some d) = stored.At d
+unfoldable pub stored_as : Option Float → Option Float
+stored_as none = None
+stored_as (some d) = Some d

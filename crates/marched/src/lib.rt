@@ -10,15 +10,7 @@ use floats::is_finite;
 use ids::is_on_lattice;
 use lists::LONGEST_LIST;
 use refusals::Refusal;
-use search::{Found, find_row, keys_ascend};
-use table::Checked;
-
-// What is stored of a cell.
-#[derive(Clone, Copy)]
-pub enum Stored {
-    At(f32),
-    Absent,
-}
+use search::{find_row, keys_ascend};
 
 // Two lists are equally long, and no longer than the limit.
 pub fn pair_ok(a: usize, b: usize) -> bool
@@ -46,12 +38,10 @@ fn rows_ok(keys: &[u64], distances: &[f32], count: usize) -> bool
     requires { (count ≤ length keys.now) × (length distances.now ≡ length keys.now) }
     ensures { result ≡ marched_rows_ok (marched_rows_of keys.now distances.now count) }
 {
-    let mut i = 0;
-    while i < count {
+    for i in 0..count {
         if !row_ok(keys[i], distances[i]) {
             return false;
         }
-        i += 1;
     }
     true
 }
@@ -71,48 +61,48 @@ pub fn check_list(
     count: usize,
     fit: bool,
     threshold: f32,
-) -> Checked
+) -> Result<(), Refusal>
     ensures { result ≡ list_check (marched_table keys.now distances.now count) fit threshold }
 {
     if !lengths_ok(keys.len(), distances.len(), count) {
-        return Checked::Refused(Refusal::Lengths);
+        return Err(Refusal::Lengths);
     }
     if !fit {
-        return Checked::Refused(Refusal::Lengths);
+        return Err(Refusal::Lengths);
     }
     if !table_ok(keys, distances, count) {
-        return Checked::Refused(Refusal::BadRow);
+        return Err(Refusal::BadRow);
     }
     if !is_finite(threshold) {
-        return Checked::Refused(Refusal::BadReading);
+        return Err(Refusal::BadReading);
     }
-    Checked::Passed
+    Ok(())
 }
 
 // Refusals 2 and 3.
-pub fn check(keys: &[u64], distances: &[f32], count: usize) -> Checked
+pub fn check(keys: &[u64], distances: &[f32], count: usize) -> Result<(), Refusal>
     ensures { result ≡ marched_check (marched_table keys.now distances.now count) }
 {
     if !lengths_ok(keys.len(), distances.len(), count) {
-        return Checked::Refused(Refusal::Lengths);
+        return Err(Refusal::Lengths);
     }
     if !table_ok(keys, distances, count) {
-        return Checked::Refused(Refusal::BadRow);
+        return Err(Refusal::BadRow);
     }
-    Checked::Passed
+    Ok(())
 }
 
 // Refusals 2, 3 and 4.
-pub fn check_key(keys: &[u64], distances: &[f32], count: usize, key: u64) -> Checked
+pub fn check_key(keys: &[u64], distances: &[f32], count: usize, key: u64) -> Result<(), Refusal>
     ensures { result ≡ key_check (marched_table keys.now distances.now count) key }
 {
     match check(keys, distances, count) {
-        Checked::Refused(why) => Checked::Refused(why),
-        Checked::Passed => {
+        Err(why) => Err(why),
+        Ok(()) => {
             if is_on_lattice(key) {
-                Checked::Passed
+                Ok(())
             } else {
-                Checked::Refused(Refusal::OffLattice)
+                Err(Refusal::OffLattice)
             }
         }
     }
@@ -125,28 +115,28 @@ pub fn check_free(
     count: usize,
     key: u64,
     threshold: f32,
-) -> Checked
+) -> Result<(), Refusal>
     ensures { result ≡ free_check (marched_table keys.now distances.now count) key threshold }
 {
     match check_key(keys, distances, count, key) {
-        Checked::Refused(why) => Checked::Refused(why),
-        Checked::Passed => {
+        Err(why) => Err(why),
+        Ok(()) => {
             if is_finite(threshold) {
-                Checked::Passed
+                Ok(())
             } else {
-                Checked::Refused(Refusal::BadReading)
+                Err(Refusal::BadReading)
             }
         }
     }
 }
 
 // What is stored of a cell.
-pub fn stored_at(keys: &[u64], distances: &[f32], count: usize, key: u64) -> Stored
+pub fn stored_at(keys: &[u64], distances: &[f32], count: usize, key: u64) -> Option<f32>
     requires { Accepted keys.now distances.now count }
     ensures { result ≡ stored_as (distance_of key (marched_rows_of keys.now distances.now count)) }
 {
-    let Found::At(at) = find_row(keys, count, key) else {
-        return Stored::Absent;
+    let Some(at) = find_row(keys, count, key) else {
+        return None;
     };
-    Stored::At(distances[at])
+    Some(distances[at])
 }

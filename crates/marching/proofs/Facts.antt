@@ -1,4 +1,5 @@
 -- What a march over an accepted table gives, in one place: each promise by its own theorem, from what the tests say of the rows. Assumes nothing.
+use Rattle.std.specs.Prelude.{Ok}
 use mathlib.Core.Path.{◌≡◌, sym, ◌∙◌}
 use mathlib.Core.Logic.{◌⊎◌}
 use mathlib.Core.Bool.{Bool, true, cond}
@@ -17,7 +18,6 @@ use Rattle.neighbors.proofs.Adjacency.{adjacent_sym, neighbour_adjacent, adjacen
 use Rattle.search.specs.Keys.{ascending}
 use Rattle.table.specs.Table.{Row, Table, rows, row_ok, rows_ok, table_check}
 use Rattle.table.specs.declared.Settings.{Settings}
-use Rattle.table.specs.declared.Checked.TheVariants as checked
 use Rattle.table.specs.Rows.{keys_of as table_keys}
 use Rattle.table.proofs.Laying.{columns}
 use Rattle.table.proofs.RowLaws.{lengths_known}
@@ -54,7 +54,7 @@ record Accepted (s : Settings) (t : Table) : Type 0 where
   fit : All Fit (rows t)
   ascends : ascending (table_keys (rows t)) ≡ true
 
-accepted : (s : Settings) (t : Table) → table_check s t ≡ checked.Passed → Accepted s t
+accepted : (s : Settings) (t : Table) → table_check s t ≡ (Ok tt) → Accepted s t
 accepted s t e =
     let k = sound s t e in
     let l = lengths_known _ _ _ _ k.lengths in
@@ -104,7 +104,7 @@ module _ (st : Settings) (t : Table) (m : Rooms) (threshold : Float) (s : State)
   most = st.max_distance.0
 
   pub marches :
-      table_check st t ≡ checked.Passed
+      table_check st t ≡ (Ok tt)
       → march_from size most m threshold (rows t) ≡ on s
       → Marches (lattice size most) m (seeds threshold (rows t)) s
   marches c e =

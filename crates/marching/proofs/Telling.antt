@@ -1,5 +1,6 @@
 -- Who waits is told by the stored neighbours that have spread: after a row is stored, of its neighbours; and seeds are looked up in the fused table.
 -- Assumes nothing.
+use Rattle.std.specs.Prelude.{Some, None, Option}
 use mathlib.Core.Path.{◌≡◌, refl, sym, ap, ◌∙◌}
 use mathlib.Core.Bool.{Bool, true, false, cond, ◌||◌, or-true, true≢false}
 use mathlib.Core.List.{List, [], ◌∷◌}
@@ -13,8 +14,6 @@ use Rattle.neighbors.specs.Neighbors.{neighbours}
 use Rattle.neighbors.proofs.Adjacency.{neighbours_distinct}
 use Rattle.search.specs.Keys.{member, find, next}
 use Rattle.table.specs.Table.{Row}
-use Rattle.search.specs.declared.Found.{Found}
-use Rattle.search.specs.declared.Found.TheVariants.{At, Absent}
 use Rattle.table.specs.Rows.{keys_of as table_keys}
 use Rattle.table.proofs.Laying.{distances_of as table_distances, weights_of as table_weights}
 use Rattle.marching.specs.March.{MarchedRow, marched_row, Cell, State, Field, row_before, keys_of, is_stored, waits, is_seed, seeds}
@@ -110,12 +109,12 @@ module _ (t : Float) where
   seed_found (r ∷ rs) k =
       cases (λ (b : Bool).
       cond b (is_seed t r) (seed_in t rs k)
-      ≡ seed_at t (cond b (At 0) (next (find k (table_keys rs)))) (table_distances (r ∷ rs)) (table_weights (r ∷ rs))) (eqb r.key k)
+      ≡ seed_at t (cond b (Some 0) (next (find k (table_keys rs)))) (table_distances (r ∷ rs)) (table_weights (r ∷ rs))) (eqb r.key k)
       (λ _. refl) (λ _. seed_found rs k ∙ go (find k (table_keys rs)))
     where
-      go : (w : Found) → seed_at t w (table_distances rs) (table_weights rs) ≡ seed_at t (next w) (table_distances (r ∷ rs)) (table_weights (r ∷ rs))
-      go (At i) = refl
-      go Absent = refl
+      go : (w : Option ℕ) → seed_at t w (table_distances rs) (table_weights rs) ≡ seed_at t (next w) (table_distances (r ∷ rs)) (table_weights (r ∷ rs))
+      go (Some i) = refl
+      go None = refl
 
 -- ---- the lattice
 

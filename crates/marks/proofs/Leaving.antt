@@ -1,4 +1,5 @@
 -- A label is taken out, and later ones move back: what holds but for the empty place, and what each turn leaves. Assumes nothing.
+use Rattle.std.specs.Prelude.{Ok}
 use mathlib.Core.Path.{◌≡◌, refl, sym, ap, ◌∙◌}
 use mathlib.Core.Bool.{true, false}
 use mathlib.Core.List.{List}
@@ -7,7 +8,6 @@ use native.Mathlib.Omega.{arith}
 use lib.ListN.{length, get_or, set, length-set}
 use lib.Seq.{get_or-set_same, get_or-set_other, set-set, set-get_or}
 use lib.Ieee.{Float, nan}
-use Rattle.marks.specs.declared.Spot.TheVariants.{At}
 use Rattle.marks.specs.Marks.{label, home, along, Kept, spot_of, occupied, following, comes_first, MayLeave, Gone}
 use Rattle.marks.proofs.Pathing.{one_or_two, along_which, along_first, along_onward, along_between, comes_first_true, comes_first_false}
 use Rattle.marks.proofs.Keeping.{label_real, within, standing_at, kept_once, StandsWith, value_none, value_moved}
@@ -55,7 +55,7 @@ pub record Leaving (l p : ℕ) (ks₀ : List ℕ) (ds₀ : List Float) (h i : �
   pub filled : NoneEmpty p ks₀ i ks
 
 -- the place of the label is the first to be filled
-pub opened : (k p : ℕ) (ks : List ℕ) (ds : List Float) → p < length ks → spot_of k ks ≡ At p → MayLeave ks ds → Leaving (label k) p ks ds p p ks ds
+pub opened : (k p : ℕ) (ks : List ℕ) (ds : List Float) → p < length ks → spot_of k ks ≡ Ok p → MayLeave ks ds → Leaving (label k) p ks ds p p ks ds
 opened k p ks ds l e m =
     record {
       real = real;

@@ -1,11 +1,9 @@
 -- A list of keys as a table with open addressing. A key's label stands for it: 1 for key 0, else the key itself; key 1 is on no lattice.
 -- 0 is an empty place. A label's path goes from its home to the end of the list, and then from the first place to its home; before a label
 -- stand only larger ones on its path.
-use Rattle.std.specs.Prelude.{ℕ, zero, suc, ◌+◌, ◌*◌, ◌/◌, ◌%◌, ◌^◌, ◌-◌, ◌<◌, ◌≡◌, Bool, cond, ◌&&◌, ◌||◌, List, [], ◌∷◌, eqb, leb, ltb, length, get_or, Float}
+use Rattle.std.specs.Prelude.{ℕ, zero, suc, ◌+◌, ◌*◌, ◌/◌, ◌%◌, ◌^◌, ◌-◌, ◌<◌, ◌≡◌, Bool, cond, ◌&&◌, ◌||◌, List, [], ◌∷◌, eqb, leb, ltb, length, get_or, Float, Ok, Err, Result}
 use Rattle.std.proofs.Math.Option.{Option, none, some}
 use Rattle.std.specs.Float.{nan}
-use Rattle.marks.specs.declared.Spot.{Spot}
-use Rattle.marks.specs.declared.Spot.TheVariants.{At, Absent}
 
 -- what stands in the list for the key k
 unfoldable pub label : ℕ → ℕ
@@ -58,23 +56,23 @@ unfoldable pub halt : ℕ → List ℕ → ℕ
 halt k ks = or_again (length ks) (seek k ks (home k (length ks)) (length ks - home k (length ks))) (seek k ks 0 (home k (length ks)))
 
 -- the label k stands at the place p, or it is absent and its search ended there
-unfoldable pub spot_at : ℕ → List ℕ → ℕ → Spot
-spot_at k ks p = cond (eqb (get_or ks p 0) k) (At p) (Absent p)
+unfoldable pub spot_at : ℕ → List ℕ → ℕ → Result ℕ ℕ
+spot_at k ks p = cond (eqb (get_or ks p 0) k) (Ok p) (Err p)
 
 -- where the label k stands, or where its search ended
-abbrev pub standing : ℕ → List ℕ → Spot
+abbrev pub standing : ℕ → List ℕ → Result ℕ ℕ
 standing k ks = spot_at k ks (halt k ks)
 
 -- where the key k stands, or where its search ended
-abbrev pub spot_of : ℕ → List ℕ → Spot
+abbrev pub spot_of : ℕ → List ℕ → Result ℕ ℕ
 spot_of k ks = standing (label k) ks
 
 -- ---- values
 
 -- the value at a key's place
-unfoldable pub value_at : Spot → List Float → Option Float
-value_at (At i) ds = some (get_or ds i nan)
-value_at (Absent i) ds = none
+unfoldable pub value_at : Result ℕ ℕ → List Float → Option Float
+value_at (Ok i) ds = some (get_or ds i nan)
+value_at (Err i) ds = none
 
 -- the value of the key k, where it stands
 abbrev pub look : ℕ → List ℕ → List Float → Option Float
@@ -95,7 +93,7 @@ following i n = cond (ltb (i + 1) n) (i + 1) 0
 pub record MayEnter (k p : ℕ) (ks : List ℕ) (ds : List Float) : Type 0 where
   pub kept : Kept ks
   pub long : length ds ≡ length ks
-  pub absent : spot_of k ks ≡ Absent p
+  pub absent : spot_of k ks ≡ Err p
   pub room : occupied ks < length ks
 
 -- k has the value v now; every other key has the value that it had
@@ -130,4 +128,4 @@ pub record Gone (k : ℕ) (ks : List ℕ) (ds : List Float) (ks' : List ℕ) (ds
 
 -- what taking out the label at p does to lists in which it is k's
 abbrev pub Leaves : ℕ → List ℕ → List Float → List ℕ → List Float → Type 0
-Leaves p ks ds ks' ds' = (k : ℕ) → spot_of k ks ≡ At p → MayLeave ks ds → Gone k ks ds ks' ds'
+Leaves p ks ds ks' ds' = (k : ℕ) → spot_of k ks ≡ Ok p → MayLeave ks ds → Gone k ks ds ks' ds'

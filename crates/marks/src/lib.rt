@@ -8,13 +8,6 @@ ghost use Rattle.marks.specs.Marks.{label, home, seek, halt, spot_of, following,
 // The first 32 bits of a number.
 const NARROW: u64 = 0x1_0000_0000;
 
-// Where a key stands; or that it is absent, and where its search ended.
-#[derive(Clone, Copy)]
-pub enum Spot {
-    At(usize),
-    Absent(usize),
-}
-
 // What stands in the list for a key.
 fn label(key: u64) -> u64
     ensures { result ≡ label key }
@@ -64,17 +57,17 @@ fn halt(keys: &[u64], key: u64) -> usize
 }
 
 // Where a key stands, or where its search ended.
-pub fn find(keys: &[u64], key: u64) -> Spot
+pub fn find(keys: &[u64], key: u64) -> Result<usize, usize>
     ensures { result ≡ spot_of key keys.now }
 {
     let k = label(key);
     let place = halt(keys, k);
     if place < keys.len() {
         if keys[place] == k {
-            return Spot::At(place);
+            return Ok(place);
         }
     }
-    Spot::Absent(place)
+    Err(place)
 }
 
 // The place after one of some places, the first after the last.

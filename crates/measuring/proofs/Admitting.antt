@@ -1,5 +1,6 @@
 -- What a reading that passed every test is: each test that passed says its own part.
 -- Assumes nothing.
+use Rattle.std.specs.Prelude.{Ok, Some, None, Option, Result}
 use mathlib.Core.Path.{◌≡◌, refl}
 use mathlib.Core.Bool.{Bool, true, false, cond}
 use Prim.Native.Nat.{ℕ}
@@ -14,18 +15,16 @@ use Rattle.table.specs.declared.Settings.{Settings}
 use Rattle.measuring.specs.declared.Reading.{Reading}
 use Rattle.measuring.specs.declared.Reading.TheVariants.{Direct, Ray}
 use Rattle.measuring.specs.declared.Measured.{Measured}
-use Rattle.measuring.specs.declared.Admitted.{Admitted}
-use Rattle.measuring.specs.declared.Admitted.TheVariants.{Near, Far}
 use Rattle.measuring.specs.Readings.{reading_ok, measured, near_or_far, admit_if, admitted}
 
-admits : (b : Bool) (why : Refusal) (rest : Admitted) (m : Measured) → admit_if b why rest ≡ Near m → (b ≡ true) × (rest ≡ Near m)
+admits : (b : Bool) (why : Refusal) (rest : Result (Option Measured) Refusal) (m : Measured) → admit_if b why rest ≡ Ok (Some m) → (b ≡ true) × (rest ≡ Ok (Some m))
 unfolding admit_if
 admits true why rest m e = (refl, e)
 admits false why rest m e = let z : ◌≡◌ {A = ℕ} 0 1 = cc in absurd (omega arith)
 
-near : (s : Settings) (x m : Measured) → near_or_far s x ≡ Near m → x ≡ m
+near : (s : Settings) (x m : Measured) → near_or_far s x ≡ Ok (Some m) → x ≡ m
 near s x m e =
-    cases (λ (b : Bool). cond b Far (Near x) ≡ Near m → x ≡ m) (beyond s.truncation.0 x.distance)
+    cases (λ (b : Bool). cond b (Ok None) (Ok (Some x)) ≡ Ok (Some m) → x ≡ m) (beyond s.truncation.0 x.distance)
     (λ t h. let z : ◌≡◌ {A = ℕ} 0 1 = cc in absurd (omega arith))
     (λ t h. cc)
     e
@@ -38,7 +37,7 @@ confident size k (Ray x y z depth c) h =
 -- its key is on the lattice and its confidence from 0 to 1
 pub near_known :
     (s : Settings) (k : ℕ) (r : Reading) (m : Measured)
-    → admitted s k r ≡ Near m
+    → admitted s k r ≡ Ok (Some m)
     → (on_lattice k ≡ true) × (between zero32 one32 m.confidence ≡ true)
 unfolding admitted
 near_known s k r m e =

@@ -2,6 +2,7 @@
 -- are not below zero; so the root is a number, and a finite depth less it is one.
 -- Where the sum of squares overflows, the distance is minus infinity, which is Far.
 -- Assumes nothing.
+use Rattle.std.specs.Prelude.{Ok, Err, None, Result}
 use mathlib.Core.Path.{◌≡◌, refl, sym, subst, ◌∙◌, ap}
 use mathlib.Core.Bool.{Bool, true, false, cond, not, ◌&&◌, ◌||◌, beq, true≢false, false≢true, or-true}
 use Prim.Native.Nat.{ℕ, zero, suc, ◌+◌, ◌-◌, ◌*◌, ◌^◌, ◌<◌, zero-le}
@@ -23,15 +24,12 @@ use Rattle.ids.specs.declared.Coords.{Coords}
 use Rattle.ids.specs.Key.{x_of, y_of, z_of, on_lattice}
 use Rattle.lists.proofs.Bools.{and_first, and_second}
 use Rattle.refusals.specs.declared.Refusal.{Refusal}
-use Rattle.root.specs.declared.Rooted.{Rooted}
-use Rattle.root.specs.declared.Rooted.TheVariants.{Root, Refused}
 use Rattle.root.specs.Root.{root_of, root_answer}
 use Rattle.root.proofs.Answers.{taken}
 use Rattle.root.proofs.Taken.{root_number}
 use Rattle.table.specs.declared.Settings.{Settings}
 use Rattle.table.specs.Table.{settings_ok}
 use Rattle.measuring.specs.declared.Reading.TheVariants.{Ray}
-use Rattle.measuring.specs.declared.Admitted.TheVariants.{Far}
 use Rattle.measuring.specs.Readings.{reading_ok, apart, square, squares, ray_distance, admit_if, admitted}
 use Rattle.table.proofs.SettingsLaws.{settings_known}
 
@@ -183,9 +181,9 @@ module _ (size : Float) (key : ℕ) (x y z depth : Metres) (c : Float) (p : posi
 
   -- the root's answer to it
   pub root_taken :
-      (a : Rooted) (l : Float)
+      (a : Result Float Refusal) (l : Float)
       → a ≡ root_answer (squares size key x.0 y.0 z.0)
-      → a ≡ Root l
+      → a ≡ Ok l
       → sub binary32 depth.0 l ≡ ray_distance size key x.0 y.0 z.0 depth.0
   unfolding ray_distance
   root_taken a l e q =
@@ -193,7 +191,7 @@ module _ (size : Float) (key : ℕ) (x y z depth : Metres) (c : Float) (p : posi
       let same : l ≡ root_of (squares size key x.0 y.0 z.0) = cc in
       rw same
 
-  pub root_not_refused : (a : Rooted) (why : Refusal) → a ≡ root_answer (squares size key x.0 y.0 z.0) → a ≡ Refused why → ⊥
+  pub root_not_refused : (a : Result Float Refusal) (why : Refusal) → a ≡ root_answer (squares size key x.0 y.0 z.0) → a ≡ Err why → ⊥
   root_not_refused a why e q =
       let t = taken (squares size key x.0 y.0 z.0) squares_at_least_0 in
       let n : ◌≡◌ {A = ℕ} 0 1 = cc in
@@ -220,7 +218,7 @@ pub overflow_far :
     → on_lattice key ≡ true
     → reading_ok (Ray x y z depth c) ≡ true
     → is_finite (squares s.voxel_size.0 key x.0 y.0 z.0) ≡ false
-    → admitted s key (Ray x y z depth c) ≡ Far
+    → admitted s key (Ray x y z depth c) ≡ (Ok None)
 unfolding admitted admit_if
 overflow_far s key x y z depth c good on ok f =
     let most = s.truncation.0 in

@@ -1,5 +1,5 @@
 -- A reading: which are taken, and the signed distance that one gives a cell.
-use Rattle.std.specs.Prelude.{ℕ, Bool, true, false, cond, ◌&&◌, Float}
+use Rattle.std.specs.Prelude.{ℕ, Bool, true, false, cond, ◌&&◌, Float, Ok, Err, Some, None, Option, Result}
 use Rattle.std.specs.Float.{binary32}
 use Rattle.std.specs.Float.Ieee.{add, sub, mul}
 use Rattle.bcc_utils.specs.Metres.{metres_of}
@@ -12,8 +12,6 @@ use Rattle.table.specs.declared.Settings.{Settings}
 use Rattle.measuring.specs.declared.Reading.{Reading}
 use Rattle.measuring.specs.declared.Reading.TheVariants.{Direct, Ray}
 use Rattle.measuring.specs.declared.Measured.{Measured}
-use Rattle.measuring.specs.declared.Admitted.{Admitted}
-use Rattle.measuring.specs.declared.Admitted.TheVariants.{Near, Far, No}
 
 -- its numbers are finite and its confidence is from 0 to 1
 abbrev pub reading_ok : Reading → Bool
@@ -43,16 +41,16 @@ measured size key (Direct d c) = record { distance = d.0; confidence = c }
 measured size key (Ray x y z depth c) = record { distance = ray_distance size key x.0 y.0 z.0 depth.0; confidence = c }
 
 -- a test that must pass before the rest counts
-unfoldable pub admit_if : Bool → Refusal → Admitted → Admitted
+unfoldable pub admit_if : Bool → Refusal → Result (Option Measured) Refusal → Result (Option Measured) Refusal
 admit_if true why rest = rest
-admit_if false why rest = No why
+admit_if false why rest = Err why
 
 -- Far where the distance is larger in size than the truncation
-abbrev pub near_or_far : Settings → Measured → Admitted
-near_or_far s m = cond (beyond s.truncation.0 m.distance) Far (Near m)
+abbrev pub near_or_far : Settings → Measured → Result (Option Measured) Refusal
+near_or_far s m = cond (beyond s.truncation.0 m.distance) (Ok None) (Ok (Some m))
 
 -- refusals 4 and 5, then Far
-unfoldable pub admitted : Settings → ℕ → Reading → Admitted
+unfoldable pub admitted : Settings → ℕ → Reading → Result (Option Measured) Refusal
 unfolding admit_if
 admitted s k r =
     admit_if (on_lattice k) OffLattice (admit_if (reading_ok r) BadReading (near_or_far s (measured s.voxel_size.0 k r)))

@@ -10,7 +10,6 @@ use bcc_utils::metres_of;
 use floats::{Metres, between, beyond, is_finite};
 use ids::Cells;
 use refusals::Refusal;
-use root::Rooted;
 use table::Settings;
 
 // A reading of one cell: its signed distance, or how deep a sensor saw along a ray.
@@ -34,14 +33,6 @@ pub enum Reading {
 pub struct Measured {
     pub distance: f32,
     pub confidence: f32,
-}
-
-// What the tests of a reading find.
-#[derive(Clone, Copy)]
-pub enum Admitted {
-    Near(Measured),
-    Far,
-    No(Refusal),
 }
 
 // Its numbers are finite and its confidence is from 0 to 1.
@@ -93,8 +84,8 @@ fn ray_distance(
     let dy = apart(Cells(c.y), size, y);
     let dz = apart(Cells(c.z), size, z);
     match root::root(dx * dx + dy * dy + dz * dz) {
-        Rooted::Root(length) => depth.0 - length,
-        Rooted::Refused(_) => depth.0,
+        Ok(length) => depth.0 - length,
+        Err(_) => depth.0,
     }
 }
 
@@ -126,20 +117,20 @@ fn measure(size: Metres, key: u64, reading: Reading) -> Measured
 }
 
 // Refusals 4 and 5, and Far.
-pub fn admit(settings: Settings, key: u64, reading: Reading) -> Admitted
+pub fn admit(settings: Settings, key: u64, reading: Reading) -> Result<Option<Measured>, Refusal>
     requires { settings_ok settings ≡ true }
     ensures { result ≡ admitted settings key reading }
 {
     if !ids::is_on_lattice(key) {
-        return Admitted::No(Refusal::OffLattice);
+        return Err(Refusal::OffLattice);
     }
     if !reading_ok(reading) {
-        return Admitted::No(Refusal::BadReading);
+        return Err(Refusal::BadReading);
     }
     let m = measure(settings.voxel_size, key, reading);
     if beyond(settings.truncation.0, m.distance) {
-        Admitted::Far
+        Ok(None)
     } else {
-        Admitted::Near(m)
+        Ok(Some(m))
     }
 }

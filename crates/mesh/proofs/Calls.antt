@@ -1,6 +1,7 @@
 -- What a caller of `extract_mesh_from_tsdf` has, by its answer: the lists of a mesh meet demand 3, a cell's group is handed back from them, and 6 is
 -- answered exactly when a part would outgrow its own list.
 -- Assumes nothing.
+use Rattle.std.specs.Prelude.{Ok, Err, Result}
 use Prim.Native.Nat.{ℕ, ◌+◌, ◌-◌, ◌<◌}
 use native.Mathlib.Omega.{arith}
 use mathlib.Core.Path.{◌≡◌, refl, sym, ap, ◌∙◌}
@@ -20,8 +21,6 @@ use Rattle.refusals.specs.declared.Refusal.{Refusal}
 use Rattle.refusals.specs.declared.Refusal.TheVariants.{NoPlace}
 use Rattle.table.specs.Table.{Table, table, rows}
 use Rattle.table.specs.declared.Settings.{Settings}
-use Rattle.table.specs.declared.Checked.{Checked}
-use Rattle.table.specs.declared.Checked.TheVariants.{Passed, Refused as Rejected}
 use Rattle.table.proofs.Checking.{not_passed, with_spares}
 use Rattle.edges.specs.Edges.{Edge}
 use Rattle.edges.specs.EdgeList.{IsEdgeList}
@@ -36,13 +35,11 @@ use Rattle.groups.proofs.Handed.{groups_room, call_hands_group}
 use Rattle.triangles.specs.TriangleList.{IsTriangleList}
 use Rattle.triangles.proofs.Demand3.{zero_crossing_triangles}
 use Rattle.mesh.specs.declared.Rooms.{Rooms}
-use Rattle.mesh.specs.declared.Meshed.{Meshed}
-use Rattle.mesh.specs.declared.Meshed.TheVariants.{Done, Refused}
 use Rattle.mesh.specs.Mesh.{surface_edges, groups_on, triangles_on, edges_of, groups_of, triangles_of, rooms_ok, mesh_check, have_room_on, have_room, meshed_on, mesh_answer_on, mesh_answer, held_in}
 use Rattle.mesh.proofs.OpenLaws.{pairs}
 use Rattle.mesh.proofs.MeshLaws.{passing, rise, rest_ok, fit}
 
-never : (why : Refusal) (i j : ℕ) → Refused why ≡ Done i j → ⊥
+never : (why : Refusal) (i j : ℕ) → Err why ≡ Ok (i, j) → ⊥
 never why i j e = let z : ◌≡◌ {A = ℕ} 0 1 = cc in omega arith
 
 -- ---- four rooms
@@ -81,24 +78,24 @@ module _ (n first px m groups k t0 : ℕ) where
 
 module _ (o : Surface) (s : Settings) (t : Table) (r : Rooms) where
   -- what an answer that is a mesh tells
-  done : (c : Checked) (i j : ℕ)
-      → meshed_on o c t r ≡ Done i j
-      → (c ≡ Passed) × (have_room_on o t r ≡ true) × (i ≡ length (surface_edges o t)) × (j ≡ length (triangles_on o t))
+  done : (c : Result (Unit {0}) Refusal) (i j : ℕ)
+      → meshed_on o c t r ≡ Ok (i, j)
+      → (c ≡ (Ok tt)) × (have_room_on o t r ≡ true) × (i ≡ length (surface_edges o t)) × (j ≡ length (triangles_on o t))
   unfolding meshed_on
-  done Passed i j e = go (have_room_on o t r) refl e
+  done (Ok tt) i j e = go (have_room_on o t r) refl e
     where
       go :
           (b : Bool)
           → have_room_on o t r ≡ b
-          → cond b (Done (length (surface_edges o t)) (length (triangles_on o t))) (Refused NoPlace) ≡ Done i j
-          → (Passed ≡ Passed) × (have_room_on o t r ≡ true) × (i ≡ length (surface_edges o t)) × (j ≡ length (triangles_on o t))
+          → cond b (Ok (length (surface_edges o t), length (triangles_on o t))) (Err NoPlace) ≡ Ok (i, j)
+          → ((Ok tt) ≡ (Ok tt)) × (have_room_on o t r ≡ true) × (i ≡ length (surface_edges o t)) × (j ≡ length (triangles_on o t))
       go true q f = let x : i ≡ length (surface_edges o t) = cc in let y : j ≡ length (triangles_on o t) = cc in (refl, q, x, y)
       go false q f = absurd (never NoPlace i j f)
-  done (Rejected why) i j e = absurd (never why i j e)
+  done (Err why) i j e = absurd (never why i j e)
 
   pub done_on : (i j : ℕ)
-      → mesh_answer_on o s t r ≡ Done i j
-      → (mesh_check s t r ≡ Passed) × (have_room_on o t r ≡ true) × (i ≡ length (surface_edges o t)) × (j ≡ length (triangles_on o t))
+      → mesh_answer_on o s t r ≡ Ok (i, j)
+      → (mesh_check s t r ≡ (Ok tt)) × (have_room_on o t r ≡ true) × (i ≡ length (surface_edges o t)) × (j ≡ length (triangles_on o t))
   unfolding mesh_answer_on
   done_on i j e = done (mesh_check s t r) i j e
 
@@ -106,14 +103,14 @@ module _ (o : Surface) (s : Settings) (t : Table) (r : Rooms) where
   outgrown_on =
       Outgrown (length (surface_edges o t)) r.first r.px (length (groups_on o t)) r.groups (length (triangles_on o t)) r.t0
 
-  refused : (c : Checked) → (c ≡ Rejected NoPlace → ⊥) → (meshed_on o c t r ≡ Refused NoPlace) ↔ ((c ≡ Passed) × outgrown_on)
+  refused : (c : Result (Unit {0}) Refusal) → (c ≡ Err NoPlace → ⊥) → (meshed_on o c t r ≡ Err NoPlace) ↔ ((c ≡ (Ok tt)) × outgrown_on)
   unfolding meshed_on
-  refused Passed spare = (λ e. (refl, go (have_room_on o t r) refl e), λ p. back (have_room_on o t r) refl p.1)
+  refused (Ok tt) spare = (λ e. (refl, go (have_room_on o t r) refl e), λ p. back (have_room_on o t r) refl p.1)
     where
       go :
           (b : Bool)
           → have_room_on o t r ≡ b
-          → cond b (Done (length (surface_edges o t)) (length (triangles_on o t))) (Refused NoPlace) ≡ Refused NoPlace
+          → cond b (Ok (length (surface_edges o t), length (triangles_on o t))) (Err NoPlace) ≡ Err NoPlace
           → outgrown_on
       go true q e = absurd (never NoPlace (length (surface_edges o t)) (length (triangles_on o t)) (sym e))
       go false q e = small (length (surface_edges o t)) r.first r.px (length (groups_on o t)) r.groups (length (triangles_on o t)) r.t0 q
@@ -122,20 +119,20 @@ module _ (o : Surface) (s : Settings) (t : Table) (r : Rooms) where
           (b : Bool)
           → have_room_on o t r ≡ b
           → outgrown_on
-          → cond b (Done (length (surface_edges o t)) (length (triangles_on o t))) (Refused NoPlace) ≡ Refused NoPlace
+          → cond b (Ok (length (surface_edges o t), length (triangles_on o t))) (Err NoPlace) ≡ Err NoPlace
       back true q w =
           absurd
           (outgrown (length (surface_edges o t)) r.first r.px (length (groups_on o t)) r.groups (length (triangles_on o t)) r.t0 w q)
       back false q w = refl
-  refused (Rejected why) spare = (λ e. absurd (spare (cc)), λ p. absurd (not_passed why p.0))
+  refused (Err why) spare = (λ e. absurd (spare (cc)), λ p. absurd (not_passed why p.0))
 
-  tests_spare_room : mesh_check s t r ≡ Rejected NoPlace → ⊥
+  tests_spare_room : mesh_check s t r ≡ Err NoPlace → ⊥
   unfolding mesh_check
   tests_spare_room = with_spares (rooms_ok r) s t
 
   -- Refused with 6 exactly when no earlier test refuses and edges, vertices, groups or triangles would outgrow their own list.
-  pub refused_for_room_on : (mesh_answer_on o s t r ≡ Refused NoPlace) ↔
-      ((mesh_check s t r ≡ Passed)
+  pub refused_for_room_on : (mesh_answer_on o s t r ≡ Err NoPlace) ↔
+      ((mesh_check s t r ≡ (Ok tt))
       × ((r.first < length (surface_edges o t))
       ⊎ ((r.px < length (surface_edges o t)) ⊎ ((r.groups < length (groups_on o t)) ⊎ (r.t0 < length (triangles_on o t))))))
   unfolding mesh_answer_on
@@ -150,16 +147,16 @@ module _ (s : Settings) (ks : List ℕ) (ds ws : List Float) (cnt : ℕ) (r : Ro
   abbrev es : List Edge
   es = edges_of t
 
-  pub refused_for_room : (mesh_answer s t r ≡ Refused NoPlace) ↔
-      ((mesh_check s t r ≡ Passed)
+  pub refused_for_room : (mesh_answer s t r ≡ Err NoPlace) ↔
+      ((mesh_check s t r ≡ (Ok tt))
       × ((r.first < length es)
       ⊎ ((r.px < length es) ⊎ ((r.groups < length (groups_of t)) ⊎ (r.t0 < length (triangles_of t))))))
   refused_for_room = refused_for_room_on Open s t r
 
   -- ---- a mesh
 
-  module _ (i j : ℕ) (e : mesh_answer s t r ≡ Done i j) where
-    known : (mesh_check s t r ≡ Passed) × (have_room t r ≡ true) × (i ≡ length es) × (j ≡ length (triangles_of t))
+  module _ (i j : ℕ) (e : mesh_answer s t r ≡ Ok (i, j)) where
+    known : (mesh_check s t r ≡ (Ok tt)) × (have_room t r ≡ true) × (i ≡ length es) × (j ≡ length (triangles_of t))
     known = done_on Open s t r i j e
 
     -- The edges and the triangles are those of demand 3, and the counts are theirs; each edge has two places in the groups.
@@ -194,8 +191,8 @@ module _ (s : Settings) (ks : List ℕ) (ds ws : List Float) (cnt : ℕ) (r : Ro
         let taken =
         and_eq (ap (λ (n : ℕ). leb n 1048576) long
         ∙ and_first (leb r.groups 1048576) _ (rest_ok Open s ks ds ws cnt r pass))
-        (pairs Passed ks ds ws cnt r.first r.second (λ p. passing Open s ks ds ws cnt r pass) _ (fit Open s ks ds ws cnt r pass Passed refl) fits) in
-        ap (λ (a : Meshed). cell_edges (held_in 0 a r.groups (groups_of t)) (held_in 0 a r.first (firsts es)) (held_in 0 a r.second (seconds es)) i cell) e
+        (pairs (Ok tt) ks ds ws cnt r.first r.second (λ p. passing Open s ks ds ws cnt r pass) _ (fit Open s ks ds ws cnt r pass (Ok tt) refl) fits) in
+        ap (λ (a : Result (ℕ × ℕ) Refusal). cell_edges (held_in 0 a r.groups (groups_of t)) (held_in 0 a r.first (firsts es)) (held_in 0 a r.second (seconds es)) i cell) e
         ∙ ap (λ (n : ℕ).
         cell_edges (groups_of t ++ replicate (r.groups - length (groups_of t)) 0)
         (firsts es ++ replicate (r.first - length (firsts es)) 0)

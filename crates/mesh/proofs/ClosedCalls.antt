@@ -1,6 +1,7 @@
 -- What a caller of `extract_closed_mesh` has, by its answer: the lists hold the vertex list and the triangle list of document 02's No. 14, and close; 6 is
 -- answered exactly when a part would outgrow its own list, and never where lists of 458,752 and 786,432 places are lent.
 -- Assumes nothing.
+use Rattle.std.specs.Prelude.{Ok, Err, Result}
 use Prim.Native.Nat.{ℕ, ◌-◌, ◌<◌, ◌≤◌, zero-le}
 use native.Mathlib.Omega.{arith}
 use mathlib.Core.Path.{◌≡◌, sym, ap, ◌∙◌}
@@ -20,7 +21,6 @@ use Rattle.refusals.specs.declared.Refusal.TheVariants.{NoPlace}
 use Rattle.table.specs.Table.{Table, table, rows}
 use Rattle.table.specs.Rows.{keys_of}
 use Rattle.table.specs.declared.Settings.{Settings}
-use Rattle.table.specs.declared.Checked.TheVariants.{Passed}
 use Rattle.edges.specs.Edges.{Edge}
 use Rattle.edges.specs.Listing.{firsts, seconds}
 use Rattle.edges.specs.declared.Surface.TheVariants.{Closed}
@@ -35,8 +35,6 @@ use Rattle.tetrahedra.proofs.ClosedTriangleLaws.{triangles_are}
 use Rattle.tetrahedra.proofs.ClosingLaws.{closes}
 use Rattle.tetrahedra.proofs.RoomLaws.{vertices_room, triangles_room}
 use Rattle.mesh.specs.declared.Rooms.{Rooms}
-use Rattle.mesh.specs.declared.Meshed.{Meshed}
-use Rattle.mesh.specs.declared.Meshed.TheVariants.{Done, Refused}
 use Rattle.mesh.specs.Mesh.{mesh_check, meshed_on, mesh_answer_on, held_in, IsClosedMesh}
 use Rattle.mesh.proofs.MeshLaws.{rise, few_rows}
 use Rattle.mesh.proofs.Calls.{done_on, refused_for_room_on}
@@ -54,15 +52,15 @@ module _ (s : Settings) (ks : List ℕ) (ds ws : List Float) (cnt : ℕ) (r : Ro
   -- ---- refused for room
 
   -- Refused with 6 exactly when no earlier test refuses and edges, vertices or triangles would outgrow their own list.
-  pub closed_refused_for_room : (mesh_answer_on Closed s t r ≡ Refused NoPlace) ↔
-      ((mesh_check s t r ≡ Passed) × ((r.first < length es) ⊎ ((r.px < length es) ⊎ (r.t0 < length ts))))
+  pub closed_refused_for_room : (mesh_answer_on Closed s t r ≡ Err NoPlace) ↔
+      ((mesh_check s t r ≡ (Ok tt)) × ((r.first < length es) ⊎ ((r.px < length es) ⊎ (r.t0 < length ts))))
   closed_refused_for_room =
       let on = refused_for_room_on Closed s t r in (
         λ e. ((on.0 e).0, ⊎_elim (λ h. inl h) (λ w. ⊎_elim (λ h. inr (inl h)) (λ v. ⊎_elim (λ h. absurd (omega arith)) (λ h. inr (inr h)) v) w) (on.0 e).1),
         λ p. on.1 (p.0, ⊎_elim (λ h. inl h) (λ w. ⊎_elim (λ h. inr (inl h)) (λ h. inr (inr (inr h))) w) p.1),
       )
 
-  module _ (pass : mesh_check s t r ≡ Passed) where
+  module _ (pass : mesh_check s t r ≡ (Ok tt)) where
     up : ascending (keys_of (rows t)) ≡ true
     up = rise Closed s ks ds ws cnt r pass
 
@@ -70,7 +68,7 @@ module _ (s : Settings) (ks : List ℕ) (ds ws : List Float) (cnt : ℕ) (r : Ro
     most = few_rows Closed s ks ds ws cnt r pass
 
     -- Lists of 458,752 places for edges and vertices and of 786,432 for triangles always suffice.
-    pub closed_room_enough : 458752 ≤ r.first → 458752 ≤ r.px → 786432 ≤ r.t0 → mesh_answer_on Closed s t r ≡ Done (length es) (length ts)
+    pub closed_room_enough : 458752 ≤ r.first → 458752 ≤ r.px → 786432 ≤ r.t0 → mesh_answer_on Closed s t r ≡ Ok (length es, length ts)
     unfolding mesh_answer_on meshed_on
     closed_room_enough a b c =
         let n = vertices_room (rows t) up most in
@@ -85,8 +83,8 @@ module _ (s : Settings) (ks : List ℕ) (ds ws : List Float) (cnt : ℕ) (r : Ro
 
   -- ---- a mesh
 
-  module _ (i j : ℕ) (e : mesh_answer_on Closed s t r ≡ Done i j) where
-    known : (mesh_check s t r ≡ Passed) × (i ≡ length es) × (j ≡ length ts)
+  module _ (i j : ℕ) (e : mesh_answer_on Closed s t r ≡ Ok (i, j)) where
+    known : (mesh_check s t r ≡ (Ok tt)) × (i ≡ length es) × (j ≡ length ts)
     known = let d = done_on Closed s t r i j e in (d.0, d.2, d.3)
 
     -- The edges are those of the statement like demand 3's over tetrahedra, and so are the triangles; the counts are theirs.
@@ -98,16 +96,16 @@ module _ (s : Settings) (ks : List ℕ) (ds ws : List Float) (cnt : ℕ) (r : Ro
 
   -- ---- what the lists hold
 
-  module _ (a : Meshed) (as' bs : List ℕ) (xs ys zs us vs ws' : List Float) (is js ls : List ℕ)
+  module _ (a : Result (ℕ × ℕ) Refusal) (as' bs : List ℕ) (xs ys zs us vs ws' : List Float) (is js ls : List ℕ)
       (m : IsClosedMesh s t r a as' bs xs ys zs us vs ws' is js ls) where
-    module _ (i j : ℕ) (e : a ≡ Done i j) where
-      answered : mesh_answer_on Closed s t r ≡ Done i j
+    module _ (i j : ℕ) (e : a ≡ Ok (i, j)) where
+      answered : mesh_answer_on Closed s t r ≡ Ok (i, j)
       answered = sym m.answer ∙ e
 
       -- what was found, and zeros after it
       held : {A : Type 0} (v : A) (room : ℕ) (found l : List A) → l ≡ held_in v (mesh_answer_on Closed s t r) room found → l ≡ padded v room found
       unfolding held_in
-      held v room found l q = q ∙ ap (λ (w : Meshed). held_in v w room found) answered
+      held v room found l q = q ∙ ap (λ (w : Result (ℕ × ℕ) Refusal). held_in v w room found) answered
 
       -- the edge list and the triangle list, and zeros after them
       pub lists_padded : ((as' ≡ padded 0 r.first (firsts es)) × (bs ≡ padded 0 r.second (seconds es)))
@@ -138,10 +136,10 @@ module _ (s : Settings) (ks : List ℕ) (ds ws : List Float) (cnt : ℕ) (r : Ro
       lists_close = rw (edges_held, triangles_held) (closes (rows t) (up (known i j answered).0))
 
     -- Refused, every place of every list is zero.
-    module _ (why : Refusal) (e : a ≡ Refused why) where
+    module _ (why : Refusal) (e : a ≡ Err why) where
       wiped : {A : Type 0} (v : A) (room : ℕ) (found l : List A) → l ≡ held_in v (mesh_answer_on Closed s t r) room found → l ≡ replicate room v
       unfolding held_in
-      wiped v room found l q = q ∙ ap (λ (w : Meshed). held_in v w room found) (sym m.answer ∙ e)
+      wiped v room found l q = q ∙ ap (λ (w : Result (ℕ × ℕ) Refusal). held_in v w room found) (sym m.answer ∙ e)
 
       pub lists_wiped : ((as' ≡ replicate r.first 0) × (bs ≡ replicate r.second 0))
           × (((xs ≡ replicate r.px zero32) × ((ys ≡ replicate r.py zero32) × (zs ≡ replicate r.pz zero32)))

@@ -1,6 +1,7 @@
 -- The mesh of a surface that is drawn: where the tests pass and the edges have room, the two lists hold the edge list, so that vertices and normals are
 -- document 01's; and what each list holds once it is settled by the answer.
 -- Assumes nothing.
+use Rattle.std.specs.Prelude.{Ok, Err, Result}
 use Prim.Native.Nat.{ℕ, ◌≤◌}
 use native.Mathlib.Nat.{le_refl, sub_self}
 use native.Mathlib.Omega.{arith}
@@ -16,8 +17,6 @@ use Rattle.floats.specs.Floats.{zero32}
 use Rattle.lists.specs.Padding.{padded}
 use Rattle.lists.specs.Places.{cleared_from}
 use Rattle.lists.specs.Listing.{count_of}
-use Rattle.lists.specs.declared.Listed.{Listed}
-use Rattle.lists.specs.declared.Listed.TheVariants as listed
 use Rattle.lists.proofs.Bools.{cases, and_first, and_second}
 use Rattle.lists.proofs.PaddingLaws.{padded_front}
 use Rattle.lists.proofs.Writing.{sets_front, cleared_whole}
@@ -27,8 +26,6 @@ use Rattle.search.specs.Keys.{ascending}
 use Rattle.table.specs.Table.{Table, table, beside, rows, settings_ok, table_check}
 use Rattle.table.specs.Rows.{keys_of}
 use Rattle.table.specs.declared.Settings.{Settings}
-use Rattle.table.specs.declared.Checked.{Checked}
-use Rattle.table.specs.declared.Checked.TheVariants.{Passed, Refused as Rejected}
 use Rattle.table.proofs.Checking.{sound, with_passed, with_fit}
 use Rattle.edges.specs.Edges.{Edge}
 use Rattle.edges.specs.Listing.{firsts, seconds, outputs_ok, answer_if}
@@ -48,8 +45,6 @@ use Rattle.lists.specs.Threes.{column0, column1, column2}
 use Rattle.triangles.specs.Building.{Rooms as Lent, rooms as rooms_for}
 use Rattle.mesh.specs.declared.Rooms.{Rooms}
 use Rattle.mesh.specs.declared.Drawn.{Drawn}
-use Rattle.mesh.specs.declared.Meshed.{Meshed}
-use Rattle.mesh.specs.declared.Meshed.TheVariants.{Done, Refused}
 use Rattle.mesh.specs.Mesh.{surface_edges, vertices_on, normals_on, groups_on, triangles_on, rooms_ok, mesh_check, have_room_on, meshed_on, mesh_answer_on, held_in}
 use Rattle.mesh.specs.Steps.{with_built, with_vertices, with_edges, answer_for, kept_of, Fit, Drawing}
 
@@ -66,43 +61,43 @@ module _ {A : Type 0} (v : A) where
   written_held l xs n e h = let long : length (sets l 0 xs) ≡ length l = length-sets l 0 xs in rw (e, sets_front l xs h, long)
 
   -- a list once it is settled by the answer
-  finish : (a : Meshed) (k : ℕ) (l l' xs : List A) (room : ℕ) → l' ≡ cleared_from v (kept_of a k) l → length l ≡ room →
-      ((i j : ℕ) → a ≡ Done i j → cleared_from v k l ≡ padded v room xs) → l' ≡ held_in v a room xs
+  finish : (a : Result (ℕ × ℕ) Refusal) (k : ℕ) (l l' xs : List A) (room : ℕ) → l' ≡ cleared_from v (kept_of a k) l → length l ≡ room →
+      ((i j : ℕ) → a ≡ Ok (i, j) → cleared_from v k l ≡ padded v room xs) → l' ≡ held_in v a room xs
   unfolding held_in
-  finish (Done i j) k l l' xs room e same how = e ∙ how i j refl
-  finish (Refused why) k l l' xs room e same how = e ∙ cleared_whole v l ∙ ap (λ (n : ℕ). replicate n v) same
+  finish (Ok (i, j)) k l l' xs room e same how = e ∙ how i j refl
+  finish (Err why) k l l' xs room e same how = e ∙ cleared_whole v l ∙ ap (λ (n : ℕ). replicate n v) same
 
 -- ---- the answer is a mesh only where every part is
 
-never : (why : Refusal) (i j : ℕ) → Refused why ≡ Done i j → ⊥
+never : (why : Refusal) (i j : ℕ) → Err why ≡ Ok (i, j) → ⊥
 never why i j e = let z : ◌≡◌ {A = ℕ} 0 1 = cc in omega arith
 
-built_known : (n : ℕ) (b : Listed) (i j : ℕ) → with_built n b ≡ Done i j → (n ≡ i) × (b ≡ listed.Count j)
-built_known n (listed.Count m) i j q = let x : n ≡ i = cc in let y : m ≡ j = cc in (x, ap listed.Count y)
-built_known n (listed.Refused why) i j q = absurd (never why i j q)
+built_known : (n : ℕ) (b : Result ℕ Refusal) (i j : ℕ) → with_built n b ≡ Ok (i, j) → (n ≡ i) × (b ≡ Ok j)
+built_known n (Ok m) i j q = let x : n ≡ i = cc in let y : m ≡ j = cc in (x, ap Ok y)
+built_known n (Err why) i j q = absurd (never why i j q)
 
-vertices_known : (n room : ℕ) (b : Listed) (i j : ℕ) → with_vertices n room b ≡ Done i j → (n ≡ i) × (n ≤ room) × (b ≡ listed.Count j)
+vertices_known : (n room : ℕ) (b : Result ℕ Refusal) (i j : ℕ) → with_vertices n room b ≡ Ok (i, j) → (n ≡ i) × (n ≤ room) × (b ≡ Ok j)
 vertices_known n room b i j =
-    cases (λ (t : Bool). cond t (with_built n b) (Refused NoPlace) ≡ Done i j → (n ≡ i) × (n ≤ room) × (b ≡ listed.Count j)) (leb n room)
+    cases (λ (t : Bool). cond t (with_built n b) (Err NoPlace) ≡ Ok (i, j) → (n ≡ i) × (n ≤ room) × (b ≡ Ok j)) (leb n room)
     (λ h q. let k = built_known n b i j q in (k.0, leb-true n room h, k.1))
     (λ h q. absurd (never NoPlace i j q))
 
-edges_known : (e : Listed) (room : ℕ) (b : Listed) (i j : ℕ) → with_edges e room b ≡ Done i j → (e ≡ listed.Count i) × (i ≤ room) × (b ≡ listed.Count j)
-edges_known (listed.Count n) room b i j q = let k = vertices_known n room b i j q in (ap listed.Count k.0, omega (arith, k.0, k.1), k.2)
-edges_known (listed.Refused why) room b i j q = absurd (never why i j q)
+edges_known : (e : Result ℕ Refusal) (room : ℕ) (b : Result ℕ Refusal) (i j : ℕ) → with_edges e room b ≡ Ok (i, j) → (e ≡ Ok i) × (i ≤ room) × (b ≡ Ok j)
+edges_known (Ok n) room b i j q = let k = vertices_known n room b i j q in (ap Ok k.0, omega (arith, k.0, k.1), k.2)
+edges_known (Err why) room b i j q = absurd (never why i j q)
 
 done_known :
-    (c : Checked) (e : Listed) (room : ℕ) (b : Listed) (i j : ℕ)
-    → answer_for c e room b ≡ Done i j
-    → (c ≡ Passed) × (e ≡ listed.Count i) × (i ≤ room) × (b ≡ listed.Count j)
+    (c : Result (Unit {0}) Refusal) (e : Result ℕ Refusal) (room : ℕ) (b : Result ℕ Refusal) (i j : ℕ)
+    → answer_for c e room b ≡ Ok (i, j)
+    → (c ≡ (Ok tt)) × (e ≡ Ok i) × (i ≤ room) × (b ≡ Ok j)
 unfolding answer_for
-done_known Passed e room b i j q = let k = edges_known e room b i j q in (refl, k.0, k.1, k.2)
-done_known (Rejected why) e room b i j q = absurd (never why i j q)
+done_known (Ok tt) e room b i j q = let k = edges_known e room b i j q in (refl, k.0, k.1, k.2)
+done_known (Err why) e room b i j q = absurd (never why i j q)
 
 -- the answers of the parts, where the tests passed and the edges have room
 both :
     (n m : ℕ) (p q : Bool)
-    → cond p (with_built n (cond q (listed.Count m) (listed.Refused NoPlace))) (Refused NoPlace) ≡ cond (p && q) (Done n m) (Refused NoPlace)
+    → cond p (with_built n (cond q (Ok m) (Err NoPlace))) (Err NoPlace) ≡ cond (p && q) (Ok (n, m)) (Err NoPlace)
 both n m true true = refl
 both n m true false = refl
 both n m false true = refl
@@ -121,8 +116,8 @@ module _ (o : Surface) (s : Settings) (ks : List ℕ) (ds ws : List Float) (cnt 
   abbrev own_edges : List Edge
   own_edges = surface_edges o own
 
-  module _ (pass : mesh_check s own r ≡ Passed) where
-    pub tests : (settings_ok s ≡ true) × (rooms_ok r ≡ true) × (table_check s own ≡ Passed)
+  module _ (pass : mesh_check s own r ≡ (Ok tt)) where
+    pub tests : (settings_ok s ≡ true) × (rooms_ok r ≡ true) × (table_check s own ≡ (Ok tt))
     unfolding mesh_check
     tests = let p = with_passed (rooms_ok r) s own pass in ((sound s own p.1).settings, p.0, p.1)
 
@@ -168,7 +163,7 @@ module _ (o : Surface) (s : Settings) (ks : List ℕ) (ds ws : List Float) (cnt 
         (eqb r.px r.nx && (eqb r.px r.ny && eqb r.px r.nz))) && leb r.px 1048576) _
         (and_second (outputs_ok r.first r.second) _ tests.1)
 
-    pub fit : (v : Checked) → v ≡ Passed → Fit v (lent r)
+    pub fit : (v : Result (Unit {0}) Refusal) → v ≡ (Ok tt) → Fit v (lent r)
     fit v told = record { passed = told; rest = rest_ok }
 
     -- ---- where the edges have room
@@ -200,13 +195,13 @@ module _ (o : Surface) (s : Settings) (ks : List ℕ) (ds ws : List Float) (cnt 
 
 -- ---- the call: the verdict v, what is drawn, how many edges it says, the answer a, and what the lists of edges, groups and triangles hold then
 
-pub record Run (o : Surface) (s : Settings) (t : Table) (r : Rooms) (v : Checked) (d : Drawn) (n : ℕ) (a : Meshed) (f' s' g' x' y' z' : List ℕ) : Type 0 where
+pub record Run (o : Surface) (s : Settings) (t : Table) (r : Rooms) (v : Result (Unit {0}) Refusal) (d : Drawn) (n : ℕ) (a : Result (ℕ × ℕ) Refusal) (f' s' g' x' y' z' : List ℕ) : Type 0 where
   pub tested : v ≡ mesh_check s t r
   pub drawn : Fit v (lent r) → Drawing o t r.first r.second (lent r) d f' s' g' x' y' z'
   pub count : n ≡ count_of d.edges
   pub answered : a ≡ answer_for v d.edges r.px d.built
 
-module _ {o : Surface} {s : Settings} {ks : List ℕ} {ds ws : List Float} {cnt : ℕ} {r : Rooms} {v : Checked} {d : Drawn} {n : ℕ} {a : Meshed}
+module _ {o : Surface} {s : Settings} {ks : List ℕ} {ds ws : List Float} {cnt : ℕ} {r : Rooms} {v : Result (Unit {0}) Refusal} {d : Drawn} {n : ℕ} {a : Result (ℕ × ℕ) Refusal}
     {f' s' g' x' y' z' : List ℕ} (run : Run o s (table ks ds ws cnt) r v d n a f' s' g' x' y' z') where
   abbrev t : Table
   t = table ks ds ws cnt
@@ -215,12 +210,12 @@ module _ {o : Surface} {s : Settings} {ks : List ℕ} {ds ws : List Float} {cnt 
   es = surface_edges o t
 
   -- where the tests pass and the edges have room
-  module _ (pass : mesh_check s t r ≡ Passed) where
+  module _ (pass : mesh_check s t r ≡ (Ok tt)) where
     drawing : Drawing o t r.first r.second (lent r) d f' s' g' x' y' z'
     drawing = run.drawn (fit o s ks ds ws cnt r pass v (run.tested ∙ pass))
 
     module _ (fits : length es ≤ r.first) where
-      e_count : d.edges ≡ listed.Count (length es)
+      e_count : d.edges ≡ Ok (length es)
       e_count = drawing.edges ∙ rw (le-leb (length es) r.first fits)
 
       n_count : n ≡ length es
@@ -228,46 +223,46 @@ module _ {o : Surface} {s : Settings} {ks : List ℕ} {ds ws : List Float} {cnt 
 
   pub answer_is : a ≡ mesh_answer_on o s t r
   unfolding mesh_answer_on answer_for meshed_on
-  answer_is = run.answered ∙ ap (λ (c : Checked). answer_for c d.edges r.px d.built) run.tested ∙ go (mesh_check s t r) refl
+  answer_is = run.answered ∙ ap (λ (c : Result (Unit {0}) Refusal). answer_for c d.edges r.px d.built) run.tested ∙ go (mesh_check s t r) refl
     where
       passed :
-          mesh_check s t r ≡ Passed
-          → with_edges d.edges r.px d.built ≡ cond (have_room_on o t r) (Done (length es) (length (triangles_on o t))) (Refused NoPlace)
+          mesh_check s t r ≡ (Ok tt)
+          → with_edges d.edges r.px d.built ≡ cond (have_room_on o t r) (Ok (length es, length (triangles_on o t))) (Err NoPlace)
       passed pass =
           cases
           (λ (p : Bool).
           leb (length es) r.first ≡ p
           → with_edges d.edges r.px d.built ≡ cond (p && (leb (length es) r.px &&
           (leb (length (groups_on o t)) r.groups && leb (length (triangles_on o t)) r.t0)))
-          (Done (length es) (length (triangles_on o t))) (Refused NoPlace))
+          (Ok (length es, length (triangles_on o t))) (Err NoPlace))
           (leb (length es) r.first)
           (λ h q.
           let fits = leb-true (length es) r.first h in
-          ap (λ (l : Listed). with_edges l r.px d.built) (e_count pass fits)
-          ∙ ap (λ (l : Listed). with_vertices (length es) r.px l) ((drawing pass).built fits)
+          ap (λ (l : Result ℕ Refusal). with_edges l r.px d.built) (e_count pass fits)
+          ∙ ap (λ (l : Result ℕ Refusal). with_vertices (length es) r.px l) ((drawing pass).built fits)
           ∙ both (length es) (length (triangles_on o t)) (leb (length es) r.px)
           (leb (length (groups_on o t)) r.groups && leb (length (triangles_on o t)) r.t0))
           (λ h q.
-          ap (λ (l : Listed). with_edges l r.px d.built)
+          ap (λ (l : Result ℕ Refusal). with_edges l r.px d.built)
           ((drawing pass).edges
-          ∙ ap (λ (p : Bool). cond p (listed.Count (length es)) (listed.Refused NoPlace)) h))
+          ∙ ap (λ (p : Bool). cond p (Ok (length es)) (Err NoPlace)) h))
           refl
 
-      go : (c : Checked) → mesh_check s t r ≡ c → answer_for c d.edges r.px d.built ≡ meshed_on o c t r
-      go Passed q = passed q
-      go (Rejected why) q = refl
+      go : (c : Result (Unit {0}) Refusal) → mesh_check s t r ≡ c → answer_for c d.edges r.px d.built ≡ meshed_on o c t r
+      go (Ok tt) q = passed q
+      go (Err why) q = refl
 
   -- what an answer that is a mesh tells
-  module _ (i j : ℕ) (q : a ≡ Done i j) where
-    known : (v ≡ Passed) × (d.edges ≡ listed.Count i) × (i ≤ r.px) × (d.built ≡ listed.Count j)
+  module _ (i j : ℕ) (q : a ≡ Ok (i, j)) where
+    known : (v ≡ (Ok tt)) × (d.edges ≡ Ok i) × (i ≤ r.px) × (d.built ≡ Ok j)
     known = done_known v d.edges r.px d.built i j (sym run.answered ∙ q)
 
-    passes : mesh_check s t r ≡ Passed
+    passes : mesh_check s t r ≡ (Ok tt)
     passes = sym run.tested ∙ known.0
 
-    counted : (Passed ≡ Passed) × (i ≡ length es) × (length es ≤ r.first)
+    counted : ((Ok tt) ≡ (Ok tt)) × (i ≡ length es) × (length es ≤ r.first)
     unfolding answer_if
-    counted = counted_only Passed es r.first i (sym (drawing passes).edges ∙ known.1)
+    counted = counted_only (Ok tt) es r.first i (sym (drawing passes).edges ∙ known.1)
 
     fitting : length es ≤ r.first
     fitting = counted.2
@@ -284,7 +279,7 @@ module _ {o : Surface} {s : Settings} {ks : List ℕ} {ds ws : List Float} {cnt 
       → l ≡ held_in 0 (mesh_answer_on o s t r) r.first (firsts es)
   first_settled l long e' =
       finish 0 a (length f') f' l (firsts es) r.first e' long (λ i j q. cleared_past 0 f' ∙ (drawing (passes i j q)).first (fitting i j q))
-      ∙ ap (λ (w : Meshed). held_in 0 w r.first (firsts es)) answer_is
+      ∙ ap (λ (w : Result (ℕ × ℕ) Refusal). held_in 0 w r.first (firsts es)) answer_is
 
   pub second_settled :
       (l : List ℕ)
@@ -293,11 +288,11 @@ module _ {o : Surface} {s : Settings} {ks : List ℕ} {ds ws : List Float} {cnt 
       → l ≡ held_in 0 (mesh_answer_on o s t r) r.second (seconds es)
   second_settled l long e' =
       finish 0 a (length s') s' l (seconds es) r.second e' long (λ i j q. cleared_past 0 s' ∙ (drawing (passes i j q)).second (fitting i j q))
-      ∙ ap (λ (w : Meshed). held_in 0 w r.second (seconds es)) answer_is
+      ∙ ap (λ (w : Result (ℕ × ℕ) Refusal). held_in 0 w r.second (seconds es)) answer_is
 
   -- a column of the vertices or of the normals
   column : {B : Type 0} (f : B → Float) (found right : List B) (l l' l'' : List Float) (room : ℕ) → length l ≡ room →
-      ((i j : ℕ) → a ≡ Done i j → (found ≡ right) × (length right ≡ length es) × (room ≡ r.px)) →
+      ((i j : ℕ) → a ≡ Ok (i, j) → (found ≡ right) × (length right ≡ length es) × (room ≡ r.px)) →
       l' ≡ sets l 0 (map f found) → l'' ≡ cleared_from zero32 (kept_of a n) l' → l'' ≡ held_in zero32 (mesh_answer_on o s t r) room (map f right)
   column f found right l l' l'' room same how wrote e' =
       finish zero32 a n l' l'' (map f right) room e' (ap length wrote ∙ length-sets l 0 (map f found) ∙ same)
@@ -308,7 +303,7 @@ module _ {o : Surface} {s : Settings} {ks : List ℕ} {ds ws : List Float} {cnt 
       ap (cleared_from zero32 n) (wrote ∙ ap (λ (vs : List _). sets l 0 (map f vs)) h.0)
       ∙ written_held zero32 l (map f right) n (omega (arith, c, m, h.1)) (omega (arith, m, h.1, h.2, same, few i j q))
       ∙ ap (λ (k : ℕ). padded zero32 k (map f right)) same)
-      ∙ ap (λ (w : Meshed). held_in zero32 w room (map f right)) answer_is
+      ∙ ap (λ (w : Result (ℕ × ℕ) Refusal). held_in zero32 w room (map f right)) answer_is
 
   -- the vertices, and the normals, as they are worked out
   abbrev found_vertices : List Vertex
@@ -317,7 +312,7 @@ module _ {o : Surface} {s : Settings} {ks : List ℕ} {ds ws : List Float} {cnt 
   abbrev found_normals : List Normal
   found_normals = normals_of (distance_by ks ds cnt) s.voxel_size.0 (take n f')
 
-  vertices_known_as : (i j : ℕ) → a ≡ Done i j → (found_vertices ≡ vertices_on o s t) × (length (vertices_on o s t) ≡ length es)
+  vertices_known_as : (i j : ℕ) → a ≡ Ok (i, j) → (found_vertices ≡ vertices_on o s t) × (length (vertices_on o s t) ≡ length es)
   vertices_known_as i j q =
       let p = passes i j q in
       let f = fitting i j q in (
@@ -327,7 +322,7 @@ module _ {o : Surface} {s : Settings} {ks : List ℕ} {ds ws : List Float} {cnt 
         length-map es _,
       )
 
-  normals_known_as : (i j : ℕ) → a ≡ Done i j → (found_normals ≡ normals_on o s t) × (length (normals_on o s t) ≡ length es)
+  normals_known_as : (i j : ℕ) → a ≡ Ok (i, j) → (found_normals ≡ normals_on o s t) × (length (normals_on o s t) ≡ length es)
   normals_known_as i j q =
       let p = passes i j q in
       let f = fitting i j q in (
@@ -399,13 +394,13 @@ module _ {o : Surface} {s : Settings} {ks : List ℕ} {ds ws : List Float} {cnt 
   -- the groups and the triangles as they were drawn
   built_settled :
       (room : ℕ) (right l l' : List ℕ)
-      → ((pass : mesh_check s t r ≡ Passed) → length es ≤ r.first → (j : ℕ) → d.built ≡ listed.Count j → l ≡ padded 0 room right)
+      → ((pass : mesh_check s t r ≡ (Ok tt)) → length es ≤ r.first → (j : ℕ) → d.built ≡ Ok j → l ≡ padded 0 room right)
       → length l ≡ room
       → l' ≡ cleared_from 0 (kept_of a (length l)) l
       → l' ≡ held_in 0 (mesh_answer_on o s t r) room right
   built_settled room right l l' is long e' =
       finish 0 a (length l) l l' right room e' long (λ i j q. cleared_past 0 l ∙ is (passes i j q) (fitting i j q) j (known i j q).3)
-      ∙ ap (λ (w : Meshed). held_in 0 w room right) answer_is
+      ∙ ap (λ (w : Result (ℕ × ℕ) Refusal). held_in 0 w room right) answer_is
 
   pub groups_settled :
       (l' : List ℕ)

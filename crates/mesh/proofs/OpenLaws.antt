@@ -1,6 +1,7 @@
 -- Document 01's surface, drawn: where the tests pass and the edges have room, the two lists hold the edge list, so that groups and triangles are
 -- document 01's.
 -- Assumes nothing.
+use Rattle.std.specs.Prelude.{Ok, Err, Result}
 use Prim.Native.Nat.{ℕ, ◌-◌, ◌≤◌}
 use native.Mathlib.Omega.{arith}
 use mathlib.Core.Path.{◌≡◌, sym, ap, ◌∙◌}
@@ -13,14 +14,11 @@ use borrow.Author.Tests.{le-leb}
 use Rattle.lists.specs.Padding.{padded}
 use Rattle.lists.specs.Listing.{room_for, count_of, held_for}
 use Rattle.lists.specs.Threes.{Three, column0, column1, column2}
-use Rattle.lists.specs.declared.Listed.{Listed}
-use Rattle.lists.specs.declared.Listed.TheVariants as listed
 use Rattle.lists.proofs.Bools.{and_first, and_second, and_eq}
 use Rattle.lists.proofs.PaddingLaws.{padded_length}
 use Rattle.refusals.specs.declared.Refusal.TheVariants.{Lengths}
 use Rattle.search.specs.Keys.{ascending}
 use Rattle.table.specs.Table.{Table, table, rows}
-use Rattle.table.specs.declared.Checked.{Checked}
 use Rattle.table.proofs.Laying.{columns}
 use Rattle.table.specs.Rows.{keys_of}
 use Rattle.edges.specs.Edges.{Edge}
@@ -36,8 +34,9 @@ use Rattle.triangles.specs.Building.{Source, source, Rooms as Lent, groups_at, t
 use Rattle.triangles.proofs.Built.{groups_built, triangles_built}
 use Rattle.mesh.specs.Mesh.{edges_of, groups_of, triangles_of}
 use Rattle.mesh.specs.Steps.{Fit, Drawing}
+use Rattle.refusals.specs.declared.Refusal.{Refusal}
 
-module _ (v : Checked) (ks : List ℕ) (ds ws : List Float) (cnt a b : ℕ) (tested : Tested v ks ds ws cnt a b) (l : Lent) (fit : Fit v l) where
+module _ (v : Result (Unit {0}) Refusal) (ks : List ℕ) (ds ws : List Float) (cnt a b : ℕ) (tested : Tested v ks ds ws cnt a b) (l : Lent) (fit : Fit v l) where
   abbrev t : Table
   t = table ks ds ws cnt
 
@@ -58,12 +57,12 @@ module _ (v : Checked) (ks : List ℕ) (ds ws : List Float) (cnt a b : ℕ) (tes
 
   edges_answer : answer_if v es a ≡ room_for (length es) a
   unfolding answer_if
-  edges_answer = ap (λ (c : Checked). answer_if c es a) fit.passed
+  edges_answer = ap (λ (c : Result (Unit {0}) Refusal). answer_if c es a) fit.passed
 
   -- ---- where the edges have room
 
   module _ (fits : length es ≤ a) where
-    edges_count : answer_if v es a ≡ listed.Count (length es)
+    edges_count : answer_if v es a ≡ Ok (length es)
     edges_count = edges_answer ∙ rw (le-leb (length es) a fits)
 
     abbrev as' : List ℕ
@@ -110,29 +109,29 @@ module _ (v : Checked) (ks : List ℕ) (ds ws : List Float) (cnt a b : ℕ) (tes
     built_is =
         ap (λ (b : Bool).
         cond b (room_for_both (length (groups_at src (cells_of src))) l.groups
-        (length (triangles_at src (cells_of src))) l.t0) (listed.Refused Lengths)) sizes
+        (length (triangles_at src (cells_of src))) l.t0) (Err Lengths)) sizes
         ∙ ap (λ (g : List ℕ). room_for_both (length g) l.groups (length (triangles_at src (cells_of src))) l.t0) groups_are
         ∙ ap (λ (k : List (Three ℕ)). room_for_both (length (groups_of t)) l.groups (length k) l.t0) triangles_are
 
   -- ---- the calls for the edges, and for groups and triangles
 
-  module _ (e : Listed) (n : ℕ) (c : Listed) (f' s' : List ℕ)
+  module _ (e : Result ℕ Refusal) (n : ℕ) (c : Result ℕ Refusal) (f' s' : List ℕ)
       (edges : e ≡ answer_if v es a)
       (f-is : f' ≡ held_for 0 e a (firsts es))
       (s-is : s' ≡ held_for 0 e b (seconds es))
       (count : n ≡ count_of e)
       (built : c ≡ built_answer (source ks cnt f' s' n) l) where
     module _ (fits : length es ≤ a) where
-      e_count : e ≡ listed.Count (length es)
+      e_count : e ≡ Ok (length es)
       e_count = edges ∙ edges_count fits
 
       f_held : f' ≡ padded 0 a (firsts es)
       unfolding held_for
-      f_held = f-is ∙ ap (λ (x : Listed). held_for 0 x a (firsts es)) e_count
+      f_held = f-is ∙ ap (λ (x : Result ℕ Refusal). held_for 0 x a (firsts es)) e_count
 
       s_held : s' ≡ padded 0 b (seconds es)
       unfolding held_for
-      s_held = s-is ∙ ap (λ (x : Listed). held_for 0 x b (seconds es)) e_count
+      s_held = s-is ∙ ap (λ (x : Result ℕ Refusal). held_for 0 x b (seconds es)) e_count
 
       n_count : n ≡ length es
       n_count = count ∙ ap count_of e_count
@@ -145,12 +144,12 @@ module _ (v : Checked) (ks : List ℕ) (ds ws : List Float) (cnt a b : ℕ) (tes
           (g' : List ℕ)
           → g' ≡ held_for 0 (built_answer (source ks cnt f' s' n) l) room (found (source ks cnt f' s' n))
           → (j : ℕ)
-          → c ≡ listed.Count j
+          → c ≡ Ok j
           → g' ≡ padded 0 room right
       unfolding held_for
       filled_as room found right is g' was j q =
           was
-          ∙ ap (λ (w : Listed). held_for 0 w room (found (source ks cnt f' s' n))) (sym built ∙ q)
+          ∙ ap (λ (w : Result ℕ Refusal). held_for 0 w room (found (source ks cnt f' s' n))) (sym built ∙ q)
           ∙ ap (padded 0 room) (ap found src_is ∙ is)
 
     pub drawn_open : (g' x' y' z' : List ℕ)

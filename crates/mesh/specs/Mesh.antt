@@ -1,13 +1,11 @@
 -- The mesh of a table: edges, vertices with normals, groups and triangles, in twelve lent lists.
-use Rattle.std.specs.Prelude.{ℕ, ◌≡◌, Bool, cond, ◌&&◌, List, [], map, eqb, leb, Float, length, replicate}
+use Rattle.std.specs.Prelude.{ℕ, ◌≡◌, Bool, cond, ◌&&◌, List, [], map, eqb, leb, Float, length, replicate, Ok, Err, Result}
 use Rattle.floats.specs.Floats.{zero32}
 use Rattle.lists.specs.Padding.{padded}
 use Rattle.refusals.specs.declared.Refusal.TheVariants.{NoPlace}
 use Rattle.refusals.specs.Refusals.{number_of}
 use Rattle.table.specs.Table.{Table, rows, check_with}
 use Rattle.table.specs.declared.Settings.{Settings}
-use Rattle.table.specs.declared.Checked.{Checked}
-use Rattle.table.specs.declared.Checked.TheVariants as checked
 use Rattle.table.specs.Rows.{keys_of}
 use Rattle.edges.specs.Edges.{Edge}
 use Rattle.edges.specs.ZeroCrossing.{zero_crossing_edges}
@@ -25,8 +23,7 @@ use Rattle.triangles.specs.Triangles.{triangles}
 use Rattle.tetrahedra.specs.ClosedEdges.{closed_edges}
 use Rattle.tetrahedra.specs.ClosedTriangles.{closed_triangles}
 use Rattle.mesh.specs.declared.Rooms.{Rooms}
-use Rattle.mesh.specs.declared.Meshed.{Meshed}
-use Rattle.mesh.specs.declared.Meshed.TheVariants.{Done, Refused}
+use Rattle.refusals.specs.declared.Refusal.{Refusal}
 
 -- ---- of any surface
 
@@ -65,7 +62,7 @@ rooms_ok r =
     && (leb r.groups 1048576 && ((eqb r.t0 r.t1 && eqb r.t0 r.t2) && leb r.t0 1048576)))
 
 -- refusals 1, 2 and 3
-unfoldable pub mesh_check : Settings → Table → Rooms → Checked
+unfoldable pub mesh_check : Settings → Table → Rooms → Result (Unit {0}) Refusal
 mesh_check s t r = check_with (rooms_ok r) s t
 
 -- edges, vertices, groups and triangles each have room in their own list
@@ -76,22 +73,22 @@ have_room_on o t r =
     && (leb (length (groups_on o t)) r.groups && leb (length (triangles_on o t)) r.t0))
 
 -- what the tests refuse stays refused; otherwise 6 exactly when one of them would outgrow its own list
-unfoldable pub meshed_on : Surface → Checked → Table → Rooms → Meshed
-meshed_on o checked.Passed t r = cond (have_room_on o t r) (Done (length (surface_edges o t)) (length (triangles_on o t))) (Refused NoPlace)
-meshed_on o (checked.Refused why) t r = Refused why
+unfoldable pub meshed_on : Surface → Result (Unit {0}) Refusal → Table → Rooms → Result (ℕ × ℕ) Refusal
+meshed_on o (Ok tt) t r = cond (have_room_on o t r) (Ok (length (surface_edges o t), length (triangles_on o t))) (Err NoPlace)
+meshed_on o (Err why) t r = Err why
 
 -- the answer to a call
-unfoldable pub mesh_answer_on : Surface → Settings → Table → Rooms → Meshed
+unfoldable pub mesh_answer_on : Surface → Settings → Table → Rooms → Result (ℕ × ℕ) Refusal
 unfolding mesh_check meshed_on
 mesh_answer_on o s t r = meshed_on o (mesh_check s t r) t r
 
 -- what a list of a given room then holds: what was found and then v, or v throughout where it is refused
-unfoldable pub held_in : {A : Type 0} → A → Meshed → ℕ → List A → List A
-held_in v (Done n m) room found = padded v room found
-held_in v (Refused why) room found = replicate room v
+unfoldable pub held_in : {A : Type 0} → A → Result (ℕ × ℕ) Refusal → ℕ → List A → List A
+held_in v (Ok (n, m)) room found = padded v room found
+held_in v (Err why) room found = replicate room v
 
 -- the answer, and what each of the twelve lists holds
-pub record IsMeshOn (o : Surface) (s : Settings) (t : Table) (r : Rooms) (a : Meshed) (as' bs : List ℕ)
+pub record IsMeshOn (o : Surface) (s : Settings) (t : Table) (r : Rooms) (a : Result (ℕ × ℕ) Refusal) (as' bs : List ℕ)
     (xs ys zs us vs ws : List Float) (gs is js ks : List ℕ) : Type 0 where
   pub answer : a ≡ mesh_answer_on o s t r
   pub first : as' ≡ held_in 0 (mesh_answer_on o s t r) r.first (firsts (surface_edges o t))
@@ -127,13 +124,13 @@ triangles_of t = triangles_on Open t
 abbrev pub have_room : Table → Rooms → Bool
 have_room t r = have_room_on Open t r
 
-abbrev pub meshed_if : Checked → Table → Rooms → Meshed
+abbrev pub meshed_if : Result (Unit {0}) Refusal → Table → Rooms → Result (ℕ × ℕ) Refusal
 meshed_if c t r = meshed_on Open c t r
 
-abbrev pub mesh_answer : Settings → Table → Rooms → Meshed
+abbrev pub mesh_answer : Settings → Table → Rooms → Result (ℕ × ℕ) Refusal
 mesh_answer s t r = mesh_answer_on Open s t r
 
-abbrev pub IsMesh : Settings → Table → Rooms → Meshed → List ℕ → List ℕ
+abbrev pub IsMesh : Settings → Table → Rooms → Result (ℕ × ℕ) Refusal → List ℕ → List ℕ
     → List Float → List Float → List Float → List Float → List Float → List Float
     → List ℕ → List ℕ → List ℕ → List ℕ
     → Type 0
@@ -142,7 +139,7 @@ IsMesh = IsMeshOn Open
 -- ---- of the surface that closes (document 02, No. 14)
 
 -- the answer, and what each of the eleven lists holds: there are no groups
-abbrev pub IsClosedMesh : Settings → Table → Rooms → Meshed → List ℕ → List ℕ
+abbrev pub IsClosedMesh : Settings → Table → Rooms → Result (ℕ × ℕ) Refusal → List ℕ → List ℕ
     → List Float → List Float → List Float → List Float → List Float → List Float
     → List ℕ → List ℕ → List ℕ
     → Type 0
@@ -151,6 +148,6 @@ IsClosedMesh s t r a as' bs xs ys zs us vs ws is js ks = IsMeshOn Closed s t r a
 -- ---- what is answered
 
 -- document 01's number of an answer, 0 where it is no refusal
-abbrev pub meshed_number : Meshed → ℕ
-meshed_number (Done n m) = 0
-meshed_number (Refused why) = number_of why
+abbrev pub meshed_number : Result (ℕ × ℕ) Refusal → ℕ
+meshed_number (Ok (n, m)) = 0
+meshed_number (Err why) = number_of why

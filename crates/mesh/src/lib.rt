@@ -11,16 +11,9 @@ ghost use Rattle.mesh.specs.Mesh.{rooms as rooms_of, rooms_ok, mesh_check, IsMes
 ghost use Rattle.mesh.specs.Steps.{with_built, with_vertices, with_edges, answer_for, kept_of, Fit, Drawing};
 
 use edges::Surface;
-use lists::{LONGEST_LIST, Listed};
+use lists::LONGEST_LIST;
 use refusals::Refusal;
-use table::{Checked, Settings};
-
-// What is answered to a mesh: how many edges, which are as many vertices, and how many triangles; or why it is refused.
-#[derive(Clone, Copy)]
-pub enum Meshed {
-    Done(usize, usize),
-    Refused(Refusal),
-}
+use table::Settings;
 
 // The lengths of the twelve lists.
 #[derive(Clone, Copy)]
@@ -42,8 +35,8 @@ pub struct Rooms {
 // What is answered to a surface's edges, and to its groups and triangles.
 #[derive(Clone, Copy)]
 struct Drawn {
-    edges: Listed,
-    built: Listed,
+    edges: Result<usize, Refusal>,
+    built: Result<usize, Refusal>,
 }
 
 // Each set of lists is equally long, within the limit.
@@ -66,7 +59,7 @@ fn check(
     weights: &[f32],
     count: usize,
     rooms: Rooms,
-) -> Checked
+) -> Result<(), Refusal>
     ensures { result ≡ mesh_check settings (table keys.now distances.now weights.now count) rooms }
 {
     table::check_with(rooms_ok(rooms), settings, keys, distances, weights, count)
@@ -74,7 +67,7 @@ fn check(
 
 // The edges of document 01's surface by the verdict of the tests, and from them the groups and the triangles.
 fn draw_open(
-    verdict: Checked,
+    verdict: Result<(), Refusal>,
     keys: &[u64],
     distances: &[f32],
     weights: &[f32],
@@ -114,7 +107,7 @@ fn draw_open(
 
 // The edges and the triangles of the surface that closes, which has no groups.
 fn draw_closed(
-    verdict: Checked,
+    verdict: Result<(), Refusal>,
     keys: &[u64],
     distances: &[f32],
     weights: &[f32],
@@ -149,7 +142,7 @@ fn draw_closed(
 // The edges of a surface, its groups and its triangles.
 fn draw(
     surface: Surface,
-    verdict: Checked,
+    verdict: Result<(), Refusal>,
     keys: &[u64],
     distances: &[f32],
     weights: &[f32],
@@ -183,58 +176,58 @@ fn draw(
 }
 
 // The answer, where the vertices have room, by that to the triangles.
-fn with_built(n: usize, built: Listed) -> Meshed
+fn with_built(n: usize, built: Result<usize, Refusal>) -> Result<(usize, usize), Refusal>
     ensures { result ≡ with_built n built }
 {
     match built {
-        Listed::Count(m) => Meshed::Done(n, m),
-        Listed::Refused(why) => Meshed::Refused(why),
+        Ok(m) => Ok((n, m)),
+        Err(why) => Err(why),
     }
 }
 
 // The answer, where the edges have room.
-fn with_vertices(n: usize, room: usize, built: Listed) -> Meshed
+fn with_vertices(n: usize, room: usize, built: Result<usize, Refusal>) -> Result<(usize, usize), Refusal>
     ensures { result ≡ with_vertices n room built }
 {
     if n <= room {
         with_built(n, built)
     } else {
-        Meshed::Refused(Refusal::NoPlace)
+        Err(Refusal::NoPlace)
     }
 }
 
 // The answer, where the tests passed.
-fn with_edges(edges: Listed, room: usize, built: Listed) -> Meshed
+fn with_edges(edges: Result<usize, Refusal>, room: usize, built: Result<usize, Refusal>) -> Result<(usize, usize), Refusal>
     ensures { result ≡ with_edges edges room built }
 {
     match edges {
-        Listed::Count(n) => with_vertices(n, room, built),
-        Listed::Refused(why) => Meshed::Refused(why),
+        Ok(n) => with_vertices(n, room, built),
+        Err(why) => Err(why),
     }
 }
 
 // The answer.
-fn answer(verdict: Checked, edges: Listed, room: usize, built: Listed) -> Meshed
+fn answer(verdict: Result<(), Refusal>, edges: Result<usize, Refusal>, room: usize, built: Result<usize, Refusal>) -> Result<(usize, usize), Refusal>
     ensures { result ≡ answer_for verdict edges room built }
 {
     match verdict {
-        Checked::Passed => with_edges(edges, room, built),
-        Checked::Refused(why) => Meshed::Refused(why),
+        Ok(()) => with_edges(edges, room, built),
+        Err(why) => Err(why),
     }
 }
 
 // How many of `n` places are kept: none where the answer refuses.
-fn kept(meshed: Meshed, n: usize) -> usize
+fn kept(meshed: Result<(usize, usize), Refusal>, n: usize) -> usize
     ensures { result ≡ kept_of meshed n }
 {
     match meshed {
-        Meshed::Done(_, _) => n,
-        Meshed::Refused(_) => 0,
+        Ok((_, _)) => n,
+        Err(_) => 0,
     }
 }
 
 // The edges stay, or are wiped where the answer refuses.
-fn settle_edges(meshed: Meshed, first: &mut [u64], second: &mut [u64])
+fn settle_edges(meshed: Result<(usize, usize), Refusal>, first: &mut [u64], second: &mut [u64])
     ensures first_after { first.new ≡ cleared_from 0 (kept_of meshed (length first.old)) first.old }
     ensures second_after { second.new ≡ cleared_from 0 (kept_of meshed (length second.old)) second.old }
 {
@@ -245,7 +238,7 @@ fn settle_edges(meshed: Meshed, first: &mut [u64], second: &mut [u64])
 }
 
 // The first `n` of three lists stay, none where the answer refuses.
-fn settle_places(meshed: Meshed, n: usize, x: &mut [f32], y: &mut [f32], z: &mut [f32])
+fn settle_places(meshed: Result<(usize, usize), Refusal>, n: usize, x: &mut [f32], y: &mut [f32], z: &mut [f32])
     ensures x_after { x.new ≡ cleared_from zero_f (kept_of meshed n) x.old }
     ensures y_after { y.new ≡ cleared_from zero_f (kept_of meshed n) y.old }
     ensures z_after { z.new ≡ cleared_from zero_f (kept_of meshed n) z.old }
@@ -258,7 +251,7 @@ fn settle_places(meshed: Meshed, n: usize, x: &mut [f32], y: &mut [f32], z: &mut
 
 // The groups and the triangles stay, or are wiped where the answer refuses.
 fn settle_triangles(
-    meshed: Meshed,
+    meshed: Result<(usize, usize), Refusal>,
     groups: &mut [u32],
     t0: &mut [u32],
     t1: &mut [u32],
@@ -299,7 +292,7 @@ fn extract(
     t0: &mut [u32],
     t1: &mut [u32],
     t2: &mut [u32],
-) -> Meshed
+) -> Result<(usize, usize), Refusal>
     ensures { IsMeshOn surface settings (table keys.now distances.now weights.now count)
         (rooms_of (length first.old) (length second.old) (length px.old)
         (length py.old) (length pz.old) (length nx.old) (length ny.old)
@@ -360,7 +353,7 @@ pub fn extract_mesh_from_tsdf(
     t0: &mut [u32],
     t1: &mut [u32],
     t2: &mut [u32],
-) -> Meshed
+) -> Result<(usize, usize), Refusal>
     ensures { IsMesh settings (table keys.now distances.now weights.now count)
         (rooms_of (length first.old) (length second.old) (length px.old)
         (length py.old) (length pz.old) (length nx.old) (length ny.old)
@@ -409,7 +402,7 @@ pub fn extract_closed_mesh(
     t0: &mut [u32],
     t1: &mut [u32],
     t2: &mut [u32],
-) -> Meshed
+) -> Result<(usize, usize), Refusal>
     ensures { IsClosedMesh settings (table keys.now distances.now weights.now count)
         (rooms_of (length first.old) (length second.old) (length px.old)
         (length py.old) (length pz.old) (length nx.old) (length ny.old)

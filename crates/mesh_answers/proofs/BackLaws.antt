@@ -1,4 +1,5 @@
 -- What a call hands back, from what the layer below answers and what is read off its answer. Assumes nothing.
+use Rattle.std.specs.Prelude.{Result}
 use Prim.Native.Nat.{ℕ}
 use mathlib.Core.Path.{◌≡◌, refl, ap, ◌∙◌}
 use mathlib.Core.List.{List}
@@ -7,12 +8,12 @@ use Rattle.table.specs.declared.Settings.{Settings}
 use Rattle.table.specs.Table.{Table}
 use Rattle.esdf.specs.Compute as march
 use Rattle.edges.specs.declared.Surface.{Surface}
-use Rattle.mesh.specs.declared.Meshed.{Meshed}
 use Rattle.mesh.specs.declared.Rooms.{Rooms}
 use Rattle.mesh.specs.Mesh.{meshed_number, IsMeshOn}
 use Rattle.mesh_answers.specs.Marching.{march_back, march_handed}
 use Rattle.turned_mesh.specs.Turned.{IsTurnedMesh}
 use Rattle.mesh_answers.specs.Meshing.{edges_meshed, triangles_meshed, MeshBackOn, TurnedBack}
+use Rattle.refusals.specs.declared.Refusal.{Refusal}
 
 pub march_back_lem :
     {o o' : march.Outcome}
@@ -27,7 +28,7 @@ pub mesh_back :
     {s : Settings}
     {t : Table}
     {r : Rooms}
-    {a : Meshed}
+    {a : Result (ℕ × ℕ) Refusal}
     {as' bs : List ℕ}
     {xs ys zs us vs ws : List Float}
     {gs is js ks : List ℕ}
@@ -62,7 +63,7 @@ pub turned_back :
     {s : Settings}
     {t : Table}
     {r : Rooms}
-    {a : Meshed}
+    {a : Result (ℕ × ℕ) Refusal}
     {as' bs : List ℕ}
     {xs ys zs us vs ws : List Float}
     {is js ks : List ℕ}

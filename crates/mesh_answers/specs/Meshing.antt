@@ -1,5 +1,5 @@
 -- What the calls on meshes hand back: nothing, which is 0, unless the answer is 0.
-use Rattle.std.specs.Prelude.{ℕ, ◌-◌, ◌≡◌, cond, List, ltb, Float}
+use Rattle.std.specs.Prelude.{ℕ, ◌-◌, ◌≡◌, cond, List, ltb, Float, Ok, Err, Some, None, Option, Result}
 use Rattle.floats.specs.Floats.{zero32}
 use Rattle.table.specs.declared.Settings.{Settings}
 use Rattle.table.specs.Table.{Table}
@@ -7,23 +7,20 @@ use Rattle.edges.specs.declared.Surface.{Surface}
 use Rattle.edges.specs.declared.Surface.TheVariants.{Open, Closed}
 use Rattle.mesh.specs.declared.Rooms.{Rooms}
 use Rattle.mesh.specs.Mesh.{mesh_answer_on, meshed_number, IsMeshOn}
-use Rattle.mesh.specs.declared.Meshed.{Meshed}
-use Rattle.mesh.specs.declared.Meshed.TheVariants as meshed
 use Rattle.turned_mesh.specs.Turned.{IsTurnedMesh}
 use Rattle.groups.specs.declared.Span.{Span}
 use Rattle.slopes.specs.declared.Vertex.{Vertex}
-use Rattle.surfaces.specs.declared.Bounds.{Bounds}
-use Rattle.surfaces.specs.declared.Bounds.TheVariants as bounds
 use Rattle.answers.specs.Keys.{nothing}
+use Rattle.refusals.specs.declared.Refusal.{Refusal}
 
 -- how many edges, which are as many vertices, and how many triangles a mesh has
-abbrev pub edges_meshed : Meshed → ℕ
-edges_meshed (meshed.Done edges triangles) = edges
-edges_meshed (meshed.Refused why) = nothing
+abbrev pub edges_meshed : Result (ℕ × ℕ) Refusal → ℕ
+edges_meshed (Ok (edges, triangles)) = edges
+edges_meshed (Err why) = nothing
 
-abbrev pub triangles_meshed : Meshed → ℕ
-triangles_meshed (meshed.Done edges triangles) = triangles
-triangles_meshed (meshed.Refused why) = nothing
+abbrev pub triangles_meshed : Result (ℕ × ℕ) Refusal → ℕ
+triangles_meshed (Ok (edges, triangles)) = triangles
+triangles_meshed (Err why) = nothing
 
 -- what the mesh of a surface hands back: its number, its counts, and what the twelve lists hold
 pub record MeshBackOn (o : Surface) (s : Settings) (t : Table) (r : Rooms) (number edges triangles : ℕ) (as' bs : List ℕ)
@@ -60,12 +57,12 @@ abbrev pub no_corner : Vertex
 no_corner = record { x = record { 0 = zero32 }; y = record { 0 = zero32 }; z = record { 0 = zero32 } }
 
 -- the corners of a box
-abbrev pub low_corner : Bounds → Vertex
-low_corner (bounds.Corners low high) = low
-low_corner bounds.Absent = no_corner
-low_corner (bounds.Refused why) = no_corner
+abbrev pub low_corner : Result (Option (Vertex × Vertex)) Refusal → Vertex
+low_corner (Ok (Some (low, high))) = low
+low_corner (Ok None) = no_corner
+low_corner (Err why) = no_corner
 
-abbrev pub high_corner : Bounds → Vertex
-high_corner (bounds.Corners low high) = high
-high_corner bounds.Absent = no_corner
-high_corner (bounds.Refused why) = no_corner
+abbrev pub high_corner : Result (Option (Vertex × Vertex)) Refusal → Vertex
+high_corner (Ok (Some (low, high))) = high
+high_corner (Ok None) = no_corner
+high_corner (Err why) = no_corner

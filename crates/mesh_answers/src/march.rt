@@ -8,23 +8,22 @@ ghost use Rattle.mesh_answers.specs.Marching.{marched_distance, free_found, slop
 
 use answers::keys::one_if;
 use answers::{ABSENT, CountsBack, DONE, LengthBack, NOTHING, YesBack};
-use esdf::Marched;
-use esdf_questions::{Distance, Free, Gradient};
-use esdf_surveys::{EsdfStats, Statistics};
+use esdf_surveys::EsdfStats;
+use refusals::Refusal;
 
 // The number of a march's answer, its rows and its takings.
-pub fn march_back(marched: Marched) -> CountsBack
+pub fn march_back(marched: Result<(usize, usize), Refusal>) -> CountsBack
     ensures number_value { result.number ≡ marched_number marched }
     ensures first_value { result.first ≡ rows_marched marched }
     ensures second_value { result.second ≡ takings_marched marched }
 {
     match marched {
-        Marched::Done(rows, takings) => CountsBack {
+        Ok((rows, takings)) => CountsBack {
             number: DONE,
             first: rows,
             second: takings,
         },
-        Marched::Refused(why) => CountsBack {
+        Err(why) => CountsBack {
             number: refusals::number(why),
             first: 0,
             second: 0,
@@ -32,36 +31,36 @@ pub fn march_back(marched: Marched) -> CountsBack
     }
 }
 
-pub fn distance_back(distance: Distance) -> LengthBack
+pub fn distance_back(distance: Result<Option<f32>, Refusal>) -> LengthBack
     ensures number_value { result.number ≡ distance_number distance }
     ensures value_value { result.value ≡ marched_distance distance }
 {
     match distance {
-        Distance::Of(d) => LengthBack {
+        Ok(Some(d)) => LengthBack {
             number: DONE,
             value: d,
         },
-        Distance::Absent => LengthBack {
+        Ok(None) => LengthBack {
             number: ABSENT,
             value: NOTHING,
         },
-        Distance::Refused(why) => LengthBack {
+        Err(why) => LengthBack {
             number: refusals::number(why),
             value: NOTHING,
         },
     }
 }
 
-pub fn free_back(free: Free) -> YesBack
+pub fn free_back(free: Result<bool, Refusal>) -> YesBack
     ensures number_value { result.number ≡ free_number free }
     ensures yes_value { result.yes ≡ free_found free }
 {
     match free {
-        Free::Answer(yes) => YesBack {
+        Ok(yes) => YesBack {
             number: DONE,
             yes: one_if(yes),
         },
-        Free::Refused(why) => YesBack {
+        Err(why) => YesBack {
             number: refusals::number(why),
             yes: 0,
         },
@@ -77,26 +76,26 @@ pub struct SlopeBack {
     pub z: f32,
 }
 
-pub fn slope_back(gradient: Gradient) -> SlopeBack
+pub fn slope_back(gradient: Result<Option<(f32, f32, f32)>, Refusal>) -> SlopeBack
     ensures number_value { result.number ≡ gradient_number gradient }
     ensures x_value { result.x ≡ (slope_found gradient).0 }
     ensures y_value { result.y ≡ (slope_found gradient).1 }
     ensures z_value { result.z ≡ (slope_found gradient).2 }
 {
     match gradient {
-        Gradient::Of(x, y, z) => SlopeBack {
+        Ok(Some((x, y, z))) => SlopeBack {
             number: DONE,
             x,
             y,
             z,
         },
-        Gradient::Absent => SlopeBack {
+        Ok(None) => SlopeBack {
             number: ABSENT,
             x: NOTHING,
             y: NOTHING,
             z: NOTHING,
         },
-        Gradient::Refused(why) => SlopeBack {
+        Err(why) => SlopeBack {
             number: refusals::number(why),
             x: NOTHING,
             y: NOTHING,
@@ -105,21 +104,21 @@ pub fn slope_back(gradient: Gradient) -> SlopeBack
     }
 }
 
-pub fn stats_number(statistics: Statistics) -> u32
+pub fn stats_number(statistics: Result<EsdfStats, Refusal>) -> u32
     ensures { result ≡ statistics_number statistics }
 {
     match statistics {
-        Statistics::Of(_) => DONE,
-        Statistics::Refused(why) => refusals::number(why),
+        Ok(_) => DONE,
+        Err(why) => refusals::number(why),
     }
 }
 
-pub fn stats_found(statistics: Statistics) -> EsdfStats
+pub fn stats_found(statistics: Result<EsdfStats, Refusal>) -> EsdfStats
     ensures { result ≡ marched_stats statistics }
 {
     match statistics {
-        Statistics::Of(stats) => stats,
-        Statistics::Refused(_) => EsdfStats {
+        Ok(stats) => stats,
+        Err(_) => EsdfStats {
             voxel_count: 0,
             obstacle_voxel_count: 0,
             free_voxel_count: 0,

@@ -11,23 +11,22 @@ use answers::keys::one_if;
 use answers::{ABSENT, CountsBack, DONE, LengthBack, NOTHING, YesBack};
 use floats::Metres;
 use groups::Span;
-use mesh::Meshed;
 use slopes::Vertex;
-use surfaces::{Area, Bounds, MeshStats};
+use refusals::Refusal;
 
 // The number of a mesh's answer, its edges and its triangles.
-pub fn mesh_back(meshed: Meshed) -> CountsBack
+pub fn mesh_back(meshed: Result<(usize, usize), Refusal>) -> CountsBack
     ensures number_value { result.number ≡ meshed_number meshed }
     ensures first_value { result.first ≡ edges_meshed meshed }
     ensures second_value { result.second ≡ triangles_meshed meshed }
 {
     match meshed {
-        Meshed::Done(edges, triangles) => CountsBack {
+        Ok((edges, triangles)) => CountsBack {
             number: DONE,
             first: edges,
             second: triangles,
         },
-        Meshed::Refused(why) => CountsBack {
+        Err(why) => CountsBack {
             number: refusals::number(why),
             first: 0,
             second: 0,
@@ -51,29 +50,29 @@ pub fn span_length(span: Span) -> usize
     }
 }
 
-pub fn area_back(area: Area) -> LengthBack
+pub fn area_back(area: Result<f32, Refusal>) -> LengthBack
     ensures number_value { result.number ≡ area_number area }
     ensures value_value { result.value ≡ area_value area }
 {
     match area {
-        Area::Square(square) => LengthBack {
+        Ok(square) => LengthBack {
             number: DONE,
             value: square,
         },
-        Area::Refused(why) => LengthBack {
+        Err(why) => LengthBack {
             number: refusals::number(why),
             value: NOTHING,
         },
     }
 }
 
-pub fn box_number(bounds: Bounds) -> u32
+pub fn box_number(bounds: Result<Option<(Vertex, Vertex)>, Refusal>) -> u32
     ensures { result ≡ box_number bounds }
 {
     match bounds {
-        Bounds::Corners(_, _) => DONE,
-        Bounds::Absent => ABSENT,
-        Bounds::Refused(why) => refusals::number(why),
+        Ok(Some((_, _))) => DONE,
+        Ok(None) => ABSENT,
+        Err(why) => refusals::number(why),
     }
 }
 
@@ -87,36 +86,36 @@ pub fn no_corner() -> Vertex
     }
 }
 
-pub fn low_corner(bounds: Bounds) -> Vertex
+pub fn low_corner(bounds: Result<Option<(Vertex, Vertex)>, Refusal>) -> Vertex
     ensures { result ≡ low_corner bounds }
 {
     match bounds {
-        Bounds::Corners(low, _) => low,
-        Bounds::Absent => no_corner(),
-        Bounds::Refused(_) => no_corner(),
+        Ok(Some((low, _))) => low,
+        Ok(None) => no_corner(),
+        Err(_) => no_corner(),
     }
 }
 
-pub fn high_corner(bounds: Bounds) -> Vertex
+pub fn high_corner(bounds: Result<Option<(Vertex, Vertex)>, Refusal>) -> Vertex
     ensures { result ≡ high_corner bounds }
 {
     match bounds {
-        Bounds::Corners(_, high) => high,
-        Bounds::Absent => no_corner(),
-        Bounds::Refused(_) => no_corner(),
+        Ok(Some((_, high))) => high,
+        Ok(None) => no_corner(),
+        Err(_) => no_corner(),
     }
 }
 
-pub fn normals_back(stats: MeshStats) -> YesBack
+pub fn normals_back(stats: Result<bool, Refusal>) -> YesBack
     ensures number_value { result.number ≡ stats_number stats }
     ensures yes_value { result.yes ≡ one_if (stats_value stats) }
 {
     match stats {
-        MeshStats::HasNormals(yes) => YesBack {
+        Ok(yes) => YesBack {
             number: DONE,
             yes: one_if(yes),
         },
-        MeshStats::Refused(why) => YesBack {
+        Err(why) => YesBack {
             number: refusals::number(why),
             yes: 0,
         },

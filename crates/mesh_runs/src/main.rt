@@ -2,8 +2,8 @@
 // too small for the triangles and for the groups, and the empty table.
 #![tactic(auto)]
 
-use mesh::Meshed;
 use table::{Settings, settings_of};
+use refusals::Refusal;
 
 // The sample's settings: truncation 1, maximum weight 100, size 1.
 fn settings() -> Settings {
@@ -17,7 +17,7 @@ fn mesh_of(
     t0: &mut [u32],
     t1: &mut [u32],
     t2: &mut [u32],
-) -> Meshed {
+) -> Result<(usize, usize), Refusal> {
     let keys = [
         3591, 3599, 3607, 3608, 3615, 3623, 3624, 3631, 3632, 3639, 3640, 3647, 3696, 3752, 3864,
     ];
@@ -54,16 +54,16 @@ fn mesh_of(
 }
 
 // A line for an answer.
-fn say(meshed: Meshed) {
+fn say(meshed: Result<(usize, usize), Refusal>) {
     match meshed {
-        Meshed::Done(edges, triangles) => {
+        Ok((edges, triangles)) => {
             io::write_all(1, b"edges ");
             io::print_decimal(1, edges as u64);
             io::write_all(1, b" triangles ");
             io::print_decimal(1, triangles as u64);
             io::write_all(1, b"\n");
         }
-        Meshed::Refused(why) => {
+        Err(why) => {
             io::write_all(1, b"refused ");
             io::print_decimal(1, refusals::number(why) as u64);
             io::write_all(1, b"\n");

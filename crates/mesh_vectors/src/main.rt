@@ -2,9 +2,8 @@
 // its normal, K each triangle; O the area; W the box.
 #![tactic(auto)]
 
-use mesh::Meshed;
-use surfaces::{Area, Bounds};
 use vectors::{Field, Line, Score, float, same};
+use refusals::Refusal;
 
 // Three lists of numbers, and how many of their places are filled.
 #[derive(Clone, Copy)]
@@ -43,24 +42,24 @@ struct Replay {
     score: Score,
 }
 
-fn edges_of(meshed: Meshed) -> usize {
+fn edges_of(meshed: Result<(usize, usize), Refusal>) -> usize {
     match meshed {
-        Meshed::Done(edges, _) => edges,
-        Meshed::Refused(_) => 0,
+        Ok((edges, _)) => edges,
+        Err(_) => 0,
     }
 }
 
-fn triangles_of(meshed: Meshed) -> usize {
+fn triangles_of(meshed: Result<(usize, usize), Refusal>) -> usize {
     match meshed {
-        Meshed::Done(_, triangles) => triangles,
-        Meshed::Refused(_) => 0,
+        Ok((_, triangles)) => triangles,
+        Err(_) => 0,
     }
 }
 
-fn is_mesh(meshed: Meshed, edges: u64, triangles: u64) -> bool {
+fn is_mesh(meshed: Result<(usize, usize), Refusal>, edges: u64, triangles: u64) -> bool {
     match meshed {
-        Meshed::Done(n, m) => (n as u64 == edges) & (m as u64 == triangles),
-        Meshed::Refused(_) => false,
+        Ok((n, m)) => (n as u64 == edges) & (m as u64 == triangles),
+        Err(_) => false,
     }
 }
 
@@ -212,8 +211,8 @@ fn area_again(given: Given, words: [u64; 16]) -> bool {
     let t1 = corners.second;
     let t2 = corners.third;
     match surfaces::surface_area(&px, &py, &pz, places.count, &t0, &t1, &t2, corners.count) {
-        Area::Square(area) => same(area, float(words[0])),
-        Area::Refused(_) => false,
+        Ok(area) => same(area, float(words[0])),
+        Err(_) => false,
     }
 }
 
@@ -223,7 +222,7 @@ fn box_again(given: Given, words: [u64; 16]) -> bool {
     let py = places.y;
     let pz = places.z;
     match surfaces::bounding_box(&px, &py, &pz, places.count) {
-        Bounds::Corners(low, high) => {
+        Ok(Some((low, high))) => {
             let least = same(low.x.0, float(words[0]))
                 & same(low.y.0, float(words[1]))
                 & same(low.z.0, float(words[2]));
@@ -232,8 +231,8 @@ fn box_again(given: Given, words: [u64; 16]) -> bool {
                 & same(high.z.0, float(words[5]));
             least & most
         }
-        Bounds::Absent => false,
-        Bounds::Refused(_) => false,
+        Ok(None) => false,
+        Err(_) => false,
     }
 }
 

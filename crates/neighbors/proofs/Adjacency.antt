@@ -1,5 +1,6 @@
 -- The neighbours of a key are exactly the keys adjacent to it, each once; adjacency is symmetric and stays on the lattice.
 -- Assumes nothing.
+use Rattle.std.specs.Prelude.{Some, None, Option}
 use mathlib.Core.Path.{◌≡◌, refl, sym, ap, ◌∙◌}
 use mathlib.Core.Bool.{Bool, true, false, not, cond, ◌&&◌, ◌||◌, false≢true, or-true}
 use mathlib.Core.Logic.{⊎_elim}
@@ -15,8 +16,6 @@ use Rattle.ids.proofs.KeyLaws.{coord_small, head_of_key, x_of_key, y_of_key, z_o
 use Rattle.lists.specs.Lists.{Ordered, Distinct}
 use Rattle.lists.proofs.Bools.{and_first, and_second, or_cases, eqb_comm}
 use Rattle.lists.proofs.Table.{every, below}
-use Rattle.neighbors.specs.declared.Cell.{Cell}
-use Rattle.neighbors.specs.declared.Cell.TheVariants as cell
 use Rattle.neighbors.specs.Neighbors.{Offset, offsets, in_box, move_to, reached_from, reached, shown, neighbours_by, neighbours, apart, one_step, adjacent}
 use Rattle.neighbors.proofs.NeighborLaws.{within}
 
@@ -52,12 +51,12 @@ unfoldable pub led : ℕ → Offset → ℕ
 led k o = key_of (head_of k) (move_to (x_of k) o.0) (move_to (y_of k) o.1) (move_to (z_of k) o.2)
 
 -- how it is seen to be reached
-reached_inside : (k : ℕ) (o : Offset) → Inside k o → reached k o ≡ cell.At (led k o)
+reached_inside : (k : ℕ) (o : Offset) → Inside k o → reached k o ≡ Some (led k o)
 unfolding Inside led reached_from
 reached_inside k o i = rw (i.0, i.1, i.2)
 
 shown_cond : (p q r : Bool) (key l : ℕ)
-    → Memᴰ l (shown (cond (p && (q && r)) (cell.At key) cell.Outside))
+    → Memᴰ l (shown (cond (p && (q && r)) (Some key) None))
     → (p ≡ true) × (q ≡ true) × (r ≡ true) × (l ≡ key)
 unfolding shown
 shown_cond true true true key l m = (refl, refl, refl, mathlib.Core.List.Memᴰ.eq_of_singleton m)
@@ -94,7 +93,7 @@ each k l (o ∷ os) P f m =
     ⊎_elim (λ h. f o (mathlib.Core.List.Memᴰ.head refl) h) (λ t. each k l os P (λ p q. f p (mathlib.Core.List.Memᴰ.tail q)) t)
     (mathlib.Core.List.Memᴰ.append_cases (shown (reached k o)) m)
 
-by : (k l : ℕ) (o : Offset) (os : List Offset) → Memᴰ o os → reached k o ≡ cell.At l → Memᴰ l (neighbours_by k os)
+by : (k l : ℕ) (o : Offset) (os : List Offset) → Memᴰ o os → reached k o ≡ Some l → Memᴰ l (neighbours_by k os)
 unfolding neighbours_by shown
 by k l o [] m e = absurd (mathlib.Core.List.Memᴰ.not-nil m)
 by k l o (p ∷ os) m e =
@@ -264,7 +263,7 @@ adjacent_neighbour k l e =
       from_inside (z_of k) (z_of l) sz (coord_small (l / 4)),
     ) in
     let key : led k (from k l) ≡ l = rw (from_to (x_of k) (x_of l) sx, from_to (y_of k) (y_of l) sy, from_to (z_of k) (z_of l) sz, heads) (key_of_parts l) in
-    by k l (from k l) offsets m (reached_inside k (from k l) i ∙ ap cell.At key)
+    by k l (from k l) offsets m (reached_inside k (from k l) i ∙ ap Some key)
 
 -- the offset that led to a key is the offset from k to it
 back : (k l : ℕ) (o : Offset) → Memᴰ l (shown (reached k o)) → from k l ≡ o
@@ -285,16 +284,16 @@ offsets_differ : differ offsets ≡ true
 unfolding differ has alike offsets
 offsets_differ = refl
 
-with_cell : (k : ℕ) (o : Offset) (os : List Offset) (a : Cell)
+with_cell : (k : ℕ) (o : Offset) (os : List Offset) (a : Option ℕ)
     → a ≡ reached k o
     → (Memᴰ o os → ⊥)
     → Distinct (neighbours_by k os)
     → Distinct (shown a ++ neighbours_by k os)
 unfolding shown Ordered
-with_cell k o os (cell.At l) e un d =
+with_cell k o os (Some l) e un d =
     let m : Memᴰ l (shown (reached k o)) = rw (← e) (mathlib.Core.List.Memᴰ.head refl) in
     (λ y t q. un (mathlib.Core.List.Memᴰ.cast (sym (back k l o m)) (from_mem k l os (mathlib.Core.List.Memᴰ.cast q t))), d)
-with_cell k o os cell.Outside e un d = d
+with_cell k o os None e un d = d
 
 distinct_by : (k : ℕ) (os : List Offset) → differ os ≡ true → Distinct (neighbours_by k os)
 unfolding neighbours_by Ordered differ
@@ -351,7 +350,7 @@ far : (x d : ℕ) → 2 ≤ x → x ≤ 65533 → ltb d 5 ≡ true → in_box x 
 far x d l h s = let d5 = ltb-true d 5 s in within x d (omega arith) (omega arith)
 
 module _ (k : ℕ) (lx : 2 ≤ x_of k) (hx : x_of k ≤ 65533) (ly : 2 ≤ y_of k) (hy : y_of k ≤ 65533) (lz : 2 ≤ z_of k) (hz : z_of k ≤ 65533) where
-  inner : (o : Offset) → steps_small o ≡ true → reached k o ≡ cell.At (led k o)
+  inner : (o : Offset) → steps_small o ≡ true → reached k o ≡ Some (led k o)
   unfolding steps_small Inside
   inner o s =
       let a = ltb o.0 5 in

@@ -1,5 +1,6 @@
 -- Laws of steps and neighbours.
 -- Assumes nothing.
+use Rattle.std.specs.Prelude.{Ok, Err, Some, None, Option, Result}
 use mathlib.Core.Path.{◌≡◌, refl, sym}
 use mathlib.Core.Bool.{Bool, true, false, cond}
 use Prim.Native.Nat.{ℕ, suc, ◌+◌, ◌<◌, ◌≤◌, zero-le}
@@ -11,16 +12,13 @@ use lib.Seq.{take-suc}
 use native.Mathlib.Numerals.{add-one}
 use Rattle.lists.specs.Padding.{padded}
 use Rattle.lists.specs.Listing.{count_of, held_for}
-use Rattle.lists.specs.declared.Listed.{Listed}
-use Rattle.lists.specs.declared.Listed.TheVariants as listed
 use Rattle.refusals.specs.declared.Refusal.TheVariants.{Lengths, OffLattice, NoPlace}
 use Rattle.lists.proofs.PaddingLaws.{padded_more, padded_front}
-use Rattle.neighbors.specs.declared.Cell.{Cell}
-use Rattle.neighbors.specs.declared.Cell.TheVariants as cell
 use Rattle.neighbors.specs.Neighbors.{Offset, offsets, offset_at, in_box, reached, shown, neighbours_by, neighbours, listed_of, listing_of}
 use Rattle.ids.specs.Key.{on_lattice}
 use lib.Dec.{ltb, leb}
 use native.Mathlib.Nat.{sub-zero}
+use Rattle.refusals.specs.declared.Refusal.{Refusal}
 
 -- a step that stays inside
 pub within : (x d : ℕ) → 2 ≤ x + d → x + d ≤ 65537 → in_box x d ≡ true
@@ -54,10 +52,10 @@ unfolding offsets
 first_all k = refl
 
 -- at most one by each offset
-shown_few : (a : Cell) → length (shown a) ≤ 1
+shown_few : (a : Option ℕ) → length (shown a) ≤ 1
 unfolding shown
-shown_few (cell.At k) = omega arith
-shown_few cell.Outside = omega arith
+shown_few (Some k) = omega arith
+shown_few None = omega arith
 
 pub neighbours_few : (k : ℕ) (os : List Offset) → length (neighbours_by k os) ≤ length os
 unfolding neighbours_by
@@ -69,28 +67,28 @@ pub first_few : (k n : ℕ) → length (first k n) ≤ n
 first_few k n = omega (arith, neighbours_few k (take n offsets), length-take n offsets)
 
 -- one more, or none
-module _ (k n : ℕ) (l : n < 14) {a : Cell} (e : a ≡ reached k (offset_at n)) where
-  pub first_one : {key : ℕ} → a ≡ cell.At key → first k (suc n) ≡ first k n ++ key ∷ []
+module _ (k n : ℕ) (l : n < 14) {a : Option ℕ} (e : a ≡ reached k (offset_at n)) where
+  pub first_one : {key : ℕ} → a ≡ Some key → first k (suc n) ≡ first k n ++ key ∷ []
   unfolding shown
   first_one f = rw (first_more k n l, ← e, f)
 
-  pub first_none : a ≡ cell.Outside → first k (suc n) ≡ first k n
+  pub first_none : a ≡ None → first k (suc n) ≡ first k n
   unfolding shown
   first_none f = rw (first_more k n l, ← e, f) (append-nil _)
 
   -- and so of the list and the count that hold them
   module _ (keys : List ℕ) (count : ℕ) (ks : keys ≡ padded 0 14 (first k n)) (cs : count ≡ length (first k n)) where
-    pub keys_one : {key : ℕ} → a ≡ cell.At key → set keys count key ≡ padded 0 14 (first k (n + 1))
+    pub keys_one : {key : ℕ} → a ≡ Some key → set keys count key ≡ padded 0 14 (first k (n + 1))
     keys_one {key} f =
         rw (add-one, first_one f, ks, cs) (padded_more 0 14 (first k n) key (omega (arith, first_few k n)))
 
-    pub count_one : {key : ℕ} → a ≡ cell.At key → count + 1 ≡ length (first k (n + 1))
+    pub count_one : {key : ℕ} → a ≡ Some key → count + 1 ≡ length (first k (n + 1))
     count_one {key} f = rw (add-one n, first_one f, cs) (sym (length-append (first k n) (key ∷ [])))
 
-    pub keys_none : a ≡ cell.Outside → keys ≡ padded 0 14 (first k (n + 1))
+    pub keys_none : a ≡ None → keys ≡ padded 0 14 (first k (n + 1))
     keys_none f = rw (add-one, first_none f) ks
 
-    pub count_none : a ≡ cell.Outside → count ≡ length (first k (n + 1))
+    pub count_none : a ≡ None → count ≡ length (first k (n + 1))
     count_none f = rw (add-one, first_none f) cs
 
 -- there are at most 14
@@ -99,12 +97,12 @@ at_most_14 k = rw fourteen at (neighbours_few k offsets)
 
 -- what is put into the room is what the answer says
 module _ (k room : ℕ) where
-  said : Bool → Bool → Bool → Listed
+  said : Bool → Bool → Bool → Result ℕ Refusal
   said long on fits =
-      cond long (listed.Refused Lengths)
-      (cond on (cond fits (listed.Count (length (neighbours k))) (listed.Refused NoPlace)) (listed.Refused OffLattice))
+      cond long (Err Lengths)
+      (cond on (cond fits (Ok (length (neighbours k))) (Err NoPlace)) (Err OffLattice))
 
-  front : Listed → List ℕ
+  front : Result ℕ Refusal → List ℕ
   front a = padded 0 room (take (count_of a) (padded 0 14 (neighbours k)))
 
   none : padded {A = ℕ} 0 room [] ≡ replicate room 0
@@ -146,7 +144,7 @@ module _ (k room : ℕ) where
 
 -- a lattice key in a room that suffices
 module _ (k room : ℕ) (on : on_lattice k ≡ true) (h : length (neighbours k) ≤ room) (l : room ≤ 1048576) where
-  pub listed_on : listed_of k room ≡ listed.Count (length (neighbours k))
+  pub listed_on : listed_of k room ≡ Ok (length (neighbours k))
   unfolding listed_of
   listed_on = rw (le-ltb 1048576 room l, on, le-leb (length (neighbours k)) room h)
 

@@ -1,6 +1,7 @@
 -- A step along an axis is one sum under a mask: where ones stand between the bits of an axis, a carry passes them. So
 -- what is reached is known without decoding.
 -- Assumes nothing.
+use Rattle.std.specs.Prelude.{Some, None}
 use mathlib.Core.Path.{◌≡◌, refl, sym, ◌∙◌}
 use mathlib.Core.Bool.{Bool, true, false, cond, ◌&&◌}
 use mathlib.Core.List.{List, [], ◌∷◌, map}
@@ -17,7 +18,6 @@ use Rattle.ids.proofs.MaskLaws.{keep, mask, and_keep}
 use Rattle.ids.proofs.MortonLaws.{respaced_more, spread_low, morton_spread, morton_small}
 use Rattle.ids.proofs.KeyLaws.{coord_small}
 use Rattle.lists.proofs.Table.{every, below}
-use Rattle.neighbors.specs.declared.Cell.TheVariants as cell
 use Rattle.neighbors.specs.Neighbors.{Offset, offsets, offset_at, in_box, move_to, reached_from, reached}
 use Rattle.neighbors.proofs.NeighborLaws.{fourteen}
 use Rattle.neighbors.specs.Steps.{moved, join_of, low_of, cell_of}
@@ -118,11 +118,11 @@ module _ (x d : ℕ) (l : x < 65536) (s : d ≤ 4) where
   fate_inside = fate (leb 2 (x + d)) (ltb (x + d) 65538) refl refl
 
 -- the cell of a lower part, inside and outside
-low_inside : (k low : ℕ) → low < 2 ^ 48 → cell_of k low ≡ cell.At (head_of k * 2 ^ 48 + low)
+low_inside : (k low : ℕ) → low < 2 ^ 48 → cell_of k low ≡ Some (head_of k * 2 ^ 48 + low)
 unfolding cell_of
 low_inside k low l = rw (lt-ltb low (2 ^ 48) l)
 
-low_outside : (k low : ℕ) → 2 ^ 48 ≤ low → cell_of k low ≡ cell.Outside
+low_outside : (k low : ℕ) → 2 ^ 48 ≤ low → cell_of k low ≡ None
 unfolding cell_of
 low_outside k low l = rw (le-ltb low (2 ^ 48) l)
 
@@ -132,7 +132,7 @@ module _ (k x y z : ℕ) (o : Offset) where
   whole = join_of (moved x o.0) (moved y o.1) (moved z o.2)
 
   cell_by : (p q r : Bool) → Fate x o.0 p → Fate y o.1 q → Fate z o.2 r
-      → cell_of k whole ≡ cond (p && (q && r)) (cell.At (key_of (head_of k) (move_to x o.0) (move_to y o.1) (move_to z o.2))) cell.Outside
+      → cell_of k whole ≡ cond (p && (q && r)) (Some (key_of (head_of k) (move_to x o.0) (move_to y o.1) (move_to z o.2))) None
   cell_by false q r f g h = low_outside k whole (omega arith)
   cell_by true false r f g h = low_outside k whole (omega arith)
   cell_by true true false f g h = low_outside k whole (omega arith)

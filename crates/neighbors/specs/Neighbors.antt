@@ -1,14 +1,11 @@
 -- The neighbours of a key: the cells by the 14 offsets of `BCC_NEIGHBORS_14`, in its order.
-use Rattle.std.specs.Prelude.{ℕ, ◌+◌, ◌-◌, Bool, cond, ◌&&◌, ◌||◌, List, [], ◌∷◌, ◌++◌, eqb, leb, ltb, length, get_or}
+use Rattle.std.specs.Prelude.{ℕ, ◌+◌, ◌-◌, Bool, cond, ◌&&◌, ◌||◌, List, [], ◌∷◌, ◌++◌, eqb, leb, ltb, length, get_or, Err, Some, None, Option, Result}
 use Rattle.ids.specs.Key.{key_of, head_of, x_of, y_of, z_of, on_lattice}
 use Rattle.lists.specs.Padding.{padded}
 use Rattle.lists.specs.Listing.{room_for, held_for}
-use Rattle.lists.specs.declared.Listed.{Listed}
-use Rattle.lists.specs.declared.Listed.TheVariants as listed
 use Rattle.refusals.specs.declared.Refusal.TheVariants.{Lengths, OffLattice}
-use Rattle.neighbors.specs.declared.Cell.{Cell}
-use Rattle.neighbors.specs.declared.Cell.TheVariants as cell
 use Rattle.neighbors.specs.declared.Near.{Near}
+use Rattle.refusals.specs.declared.Refusal.{Refusal}
 
 -- a step of -2 to 2 along an axis, kept 2 larger so that it is a whole number
 abbrev pub down2 : ℕ
@@ -51,20 +48,20 @@ abbrev pub move_to : ℕ → ℕ → ℕ
 move_to x d = x + d - 2
 
 -- the cell that an offset leads to from head, x, y, z
-unfoldable pub reached_from : ℕ → ℕ → ℕ → ℕ → Offset → Cell
+unfoldable pub reached_from : ℕ → ℕ → ℕ → ℕ → Offset → Option ℕ
 reached_from head x y z o =
     cond (in_box x o.0 && (in_box y o.1 && in_box z o.2))
-    (cell.At (key_of head (move_to x o.0) (move_to y o.1) (move_to z o.2)))
-    cell.Outside
+    (Some (key_of head (move_to x o.0) (move_to y o.1) (move_to z o.2)))
+    None
 
 -- the cell that an offset leads to from a key
-abbrev pub reached : ℕ → Offset → Cell
+abbrev pub reached : ℕ → Offset → Option ℕ
 reached key o = reached_from (head_of key) (x_of key) (y_of key) (z_of key) o
 
 -- the cell, where there is one, as a list
-unfoldable pub shown : Cell → List ℕ
-shown (cell.At key) = key ∷ []
-shown cell.Outside = []
+unfoldable pub shown : Option ℕ → List ℕ
+shown (Some key) = key ∷ []
+shown None = []
 
 -- the cells that a list of offsets leads to
 unfoldable pub neighbours_by : ℕ → List Offset → List ℕ
@@ -91,10 +88,10 @@ adjacent k l =
     eqb (head_of k) (head_of l) && one_step (apart (x_of k) (x_of l)) (apart (y_of k) (y_of l)) (apart (z_of k) (z_of l))
 
 -- the answer to a list of `room` places: 2 past 1,048,576 places, 4 off the lattice, 6 where the neighbours have no place
-unfoldable pub listed_of : ℕ → ℕ → Listed
+unfoldable pub listed_of : ℕ → ℕ → Result ℕ Refusal
 listed_of key room =
-    cond (ltb 1048576 room) (listed.Refused Lengths)
-    (cond (on_lattice key) (room_for (length (neighbours key)) room) (listed.Refused OffLattice))
+    cond (ltb 1048576 room) (Err Lengths)
+    (cond (on_lattice key) (room_for (length (neighbours key)) room) (Err OffLattice))
 
 -- what the list then holds: the neighbours and zeros, or zeros where refused
 abbrev pub listing_of : ℕ → ℕ → List ℕ

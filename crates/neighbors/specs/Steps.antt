@@ -1,11 +1,9 @@
 -- What private functions promise each other: steps along an axis by its spread bits, without decoding.
-use Rattle.std.specs.Prelude.{ℕ, ◌+◌, ◌-◌, ◌*◌, ◌^◌, ◌<◌, Bool, cond, ◌&&◌, ◌||◌, eqb, ltb}
+use Rattle.std.specs.Prelude.{ℕ, ◌+◌, ◌-◌, ◌*◌, ◌^◌, ◌<◌, Bool, cond, ◌&&◌, ◌||◌, eqb, ltb, Some, None, Option}
 use Rattle.ids.specs.Morton.{spread}
 use Rattle.ids.specs.Key.{head_of, x_of, y_of, z_of}
 use Rattle.neighbors.specs.Neighbors.{Offset, down2, down1, stay, up1, up2}
 use Rattle.neighbors.specs.declared.Along.{Along}
-use Rattle.neighbors.specs.declared.Cell.{Cell}
-use Rattle.neighbors.specs.declared.Cell.TheVariants as cell
 
 -- a coordinate moved by a step, over 17 bits: it is 2 ^ 17 larger, so that past the border, and there alone, the 17th bit is set
 abbrev pub moved : ℕ → ℕ → ℕ
@@ -33,8 +31,8 @@ unfoldable pub low_of : ℕ → Offset → ℕ
 low_of key o = join_of (moved (x_of key) o.0) (moved (y_of key) o.1) (moved (z_of key) o.2)
 
 -- the cell of a lower part under the key's head
-unfoldable pub cell_of : ℕ → ℕ → Cell
-cell_of key low = cond (ltb low (2 ^ 48)) (cell.At (head_of key * 2 ^ 48 + low)) cell.Outside
+unfoldable pub cell_of : ℕ → ℕ → Option ℕ
+cell_of key low = cond (ltb low (2 ^ 48)) (Some (head_of key * 2 ^ 48 + low)) None
 
 -- the way from y to x, over 17 bits
 abbrev pub way_along : ℕ → ℕ → ℕ

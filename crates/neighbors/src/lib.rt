@@ -7,7 +7,7 @@ ghost use Rattle.lists.specs.Padding.{padded};
 ghost use Rattle.neighbors.specs.Neighbors.{offsets, neighbours, adjacent, listed_of, listing_of, near_of};
 ghost use Rattle.neighbors.specs.Steps.{steps_along, Narrow, join_of, low_of, cell_of, way_along, by_one, by_two, step_by};
 
-use lists::{LONGEST_LIST, Listed};
+use lists::LONGEST_LIST;
 use refusals::Refusal;
 
 // Where the head begins.
@@ -26,13 +26,6 @@ struct Along {
     stay: u64,
     up1: u64,
     up2: u64,
-}
-
-// The cell that an offset leads to.
-#[derive(Clone, Copy)]
-enum Cell {
-    At(u64),
-    Outside,
 }
 
 // The neighbours by value: a room of 14, and how many there are.
@@ -91,13 +84,13 @@ fn lower_parts(key: u64) -> [u64; 14]
 }
 
 // The cell of a lower part under the key's head.
-fn cell_of(key: u64, low: u64) -> Cell
+fn cell_of(key: u64, low: u64) -> Option<u64>
     ensures { result ≡ cell_of key low }
 {
     if low < HEAD {
-        Cell::At(key / HEAD * HEAD + low)
+        Some(key / HEAD * HEAD + low)
     } else {
-        Cell::Outside
+        None
     }
 }
 
@@ -108,14 +101,12 @@ pub fn around(key: u64) -> Near
     let parts = lower_parts(key);
     let mut keys = [0u64; 14];
     let mut count = 0;
-    let mut place = 0;
-    while place < 14 {
+    for place in 0..14 {
         let n = cell_of(key, parts[place]);
-        if let Cell::At(k) = n {
+        if let Some(k) = n {
             keys[count] = k;
             count += 1;
         }
-        place += 1;
     }
     Near { keys, count }
 }
@@ -168,33 +159,31 @@ fn put(keys: [u64; 14], n: usize, out: &mut [u64])
     requires { (n ≤ 14) × (n ≤ length out.old) }
     ensures { out.new ≡ padded 0 (length out.old) (take n keys) }
 {
-    let mut i = 0;
-    while i < out.len() {
+    for i in 0..out.len() {
         let mut v = 0;
         if i < n {
             v = keys[i];
         }
         out[i] = v;
-        i += 1;
     }
 }
 
 // What is answered for a key of `count` neighbours and a list of `room` places.
-fn answer(key: u64, count: usize, room: usize) -> Listed
+fn answer(key: u64, count: usize, room: usize) -> Result<usize, Refusal>
     requires { count ≡ length (neighbours key) }
     ensures { result ≡ listed_of key room }
 {
     if LONGEST_LIST < room {
-        return Listed::Refused(Refusal::Lengths);
+        return Err(Refusal::Lengths);
     }
     if !ids::is_on_lattice(key) {
-        return Listed::Refused(Refusal::OffLattice);
+        return Err(Refusal::OffLattice);
     }
     lists::room_for(count, room)
 }
 
 // The neighbours of a key and then zeros; zeros where it is refused.
-pub fn neighbors_index64(index: u64, out: &mut [u64]) -> Listed
+pub fn neighbors_index64(index: u64, out: &mut [u64]) -> Result<usize, Refusal>
     ensures value { result ≡ listed_of index (length out.old) }
     ensures out_after { out.new ≡ listing_of index (length out.old) }
 {

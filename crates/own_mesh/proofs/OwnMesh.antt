@@ -1,5 +1,6 @@
 -- A mesh call leaves lists that area, box and STL take: each set fits its room, vertices of an accepted table are in range, and triangles name its edges.
 -- Assumes nothing.
+use Rattle.std.specs.Prelude.{Ok, Result}
 use Prim.Native.Nat.{ℕ, ◌+◌, ◌-◌, ◌*◌, ◌<◌, ◌≤◌}
 use native.Mathlib.Omega.{arith}
 use mathlib.Core.Path.{◌≡◌, refl, sym, ap, ◌∙◌}
@@ -23,7 +24,6 @@ use Rattle.search.specs.Keys.{ascending}
 use Rattle.table.specs.Table.{Table, table, rows, settings_ok, table_check}
 use Rattle.table.specs.Rows.{keys_of}
 use Rattle.table.specs.declared.Settings.{Settings}
-use Rattle.table.specs.declared.Checked.TheVariants.{Passed}
 use Rattle.table.proofs.Checking.{sound}
 use Rattle.table.proofs.SettingsLaws.{settings_known}
 use Rattle.edges.specs.Edges.{Edge}
@@ -42,19 +42,17 @@ use Rattle.tetrahedra.specs.Closing.{names}
 use Rattle.tetrahedra.proofs.Corners.{or_first_true, or_second_true}
 use Rattle.tetrahedra.proofs.ClosingLaws.{side_small}
 use Rattle.corners.specs.Corners.{set_ok, every, vertex, vertices_in, vertex_ok, triangle, triangles_in, triangle_ok}
-use Rattle.surfaces.specs.declared.Area.TheVariants.{Square}
 use Rattle.surfaces.specs.Areas.{area_from, area_answer}
 use Rattle.surfaces.specs.Boxes.{box_of, box_answer}
 use Rattle.surfaces.proofs.Roots.{mesh_ok}
 use Rattle.stl.specs.Calls.{export_answer}
 use Rattle.mesh.specs.declared.Rooms.{Rooms}
-use Rattle.mesh.specs.declared.Meshed.{Meshed}
-use Rattle.mesh.specs.declared.Meshed.TheVariants.{Done}
 use Rattle.mesh.specs.Mesh.{surface_edges, vertices_on, groups_on, triangles_on, rooms_ok, mesh_check, have_room_on, mesh_answer_on, held_in, IsMeshOn}
 use Rattle.mesh.proofs.MeshLaws.{tests, rise, rest_ok}
 use Rattle.mesh.proofs.Calls.{done_on}
 use Rattle.winding.specs.Winding.{looks_in, turn_if, outwards, turned_triangles}
 use Rattle.turned_mesh.specs.Turned.{IsTurnedMesh}
+use Rattle.refusals.specs.declared.Refusal.{Refusal}
 
 -- ---- lists by their elements
 
@@ -79,7 +77,7 @@ module _ {A B C : Type 0} (make : A → A → A → B) (f g h : C → A) where
   columns_back (c ∷ cs) xs ys zs = ap {B = List B} (λ r. make (f c) (g c) (h c) ∷ r) (columns_back cs xs ys zs)
 
   -- three lists of an answer that is a mesh: each column in its own room, and v after it
-  module _ (w : Meshed) (i j : ℕ) (done : w ≡ Done i j) (v : A) (a b c : ℕ) (cs : List C) (n : ℕ) (count : n ≡ length cs) (xs ys zs : List A)
+  module _ (w : Result (ℕ × ℕ) Refusal) (i j : ℕ) (done : w ≡ Ok (i, j)) (v : A) (a b c : ℕ) (cs : List C) (n : ℕ) (count : n ≡ length cs) (xs ys zs : List A)
       (first : xs ≡ held_in v w a (map f cs)) (second : ys ≡ held_in v w b (map g cs)) (third : zs ≡ held_in v w c (map h cs)) where
     read_back : take n (beside_by make xs ys zs) ≡ map (λ (x : C). make (f x) (g x) (h x)) cs
     unfolding held_in padded
@@ -130,7 +128,7 @@ module _ (t : Table) (up : ascending (keys_of (rows t)) ≡ true) where
 
 -- an answered mesh's vertices, and triangles that name its edges and are as many as its own
 record Filled (o : Surface) (s : Settings) (t : Table) (r : Rooms) (i j : ℕ) (xs ys zs : List Float) (ts : List (Three ℕ)) (is js ls : List ℕ) : Type 0 where
-  answered : mesh_answer_on o s t r ≡ Done i j
+  answered : mesh_answer_on o s t r ≡ Ok (i, j)
   px : xs ≡ held_in zero32 (mesh_answer_on o s t r) r.px (xs_of (vertices_on o s t))
   py : ys ≡ held_in zero32 (mesh_answer_on o s t r) r.py (ys_of (vertices_on o s t))
   pz : zs ≡ held_in zero32 (mesh_answer_on o s t r) r.pz (zs_of (vertices_on o s t))
@@ -149,15 +147,15 @@ module _ (o : Surface) (s : Settings) (ks : List ℕ) (ds ws : List Float) (cnt 
   es = surface_edges o t
 
   module _ (i j : ℕ) (xs ys zs : List Float) (ts : List (Three ℕ)) (is js ls : List ℕ) (m : Filled o s t r i j xs ys zs ts is js ls) where
-    answered : mesh_answer_on o s t r ≡ Done i j
+    answered : mesh_answer_on o s t r ≡ Ok (i, j)
     answered = m.answered
 
-    known : (mesh_check s t r ≡ Passed) × (have_room_on o t r ≡ true) × (i ≡ length es) × (j ≡ length (triangles_on o t))
+    known : (mesh_check s t r ≡ (Ok tt)) × (have_room_on o t r ≡ true) × (i ≡ length es) × (j ≡ length (triangles_on o t))
     known = done_on o s t r i j answered
 
     -- ---- what the tests told
 
-    told : (settings_ok s ≡ true) × (rooms_ok r ≡ true) × (table_check s t ≡ Passed)
+    told : (settings_ok s ≡ true) × (rooms_ok r ≡ true) × (table_check s t ≡ (Ok tt))
     told = tests o s ks ds ws cnt r known.0
 
     up : ascending (keys_of (rows t)) ≡ true
@@ -227,7 +225,7 @@ module _ (o : Surface) (s : Settings) (ks : List ℕ) (ds ws : List Float) (cnt 
     passes : every vertex_ok (vertices_in xs ys zs i) && every (triangle_ok i) (triangles_in is js ls j) ≡ true
     passes = and_eq vertices_pass triangles_pass
 
-    area : area_answer xs ys zs i is js ls j ≡ Square (area_from (vertices_in xs ys zs i) zero32 (triangles_in is js ls j))
+    area : area_answer xs ys zs i is js ls j ≡ Ok (area_from (vertices_in xs ys zs i) zero32 (triangles_in is js ls j))
     unfolding area_answer
     area = rw (lengths_pass, passes)
 
@@ -241,9 +239,9 @@ module _ (o : Surface) (s : Settings) (ks : List ℕ) (ds ws : List Float) (cnt 
 
 -- ---- of a mesh call
 
-module _ (o : Surface) (s : Settings) (ks : List ℕ) (ds ws : List Float) (cnt : ℕ) (r : Rooms) (a : Meshed) (as' bs : List ℕ)
+module _ (o : Surface) (s : Settings) (ks : List ℕ) (ds ws : List Float) (cnt : ℕ) (r : Rooms) (a : Result (ℕ × ℕ) Refusal) (as' bs : List ℕ)
     (xs ys zs us vs ws' : List Float) (gs is js ls : List ℕ) (m : IsMeshOn o s (table ks ds ws cnt) r a as' bs xs ys zs us vs ws' gs is js ls)
-    (i j : ℕ) (e : a ≡ Done i j) where
+    (i j : ℕ) (e : a ≡ Ok (i, j)) where
   abbrev own : Table
   own = table ks ds ws cnt
 
@@ -278,7 +276,7 @@ module _ (o : Surface) (s : Settings) (ks : List ℕ) (ds ws : List Float) (cnt 
   mesh_passes = passes o s ks ds ws cnt r i j xs ys zs (triangles_on o own) is js ls filled
 
   -- So the area is answered, and the box.
-  pub mesh_area : area_answer xs ys zs i is js ls j ≡ Square (area_from (vertices_in xs ys zs i) zero32 (triangles_in is js ls j))
+  pub mesh_area : area_answer xs ys zs i is js ls j ≡ Ok (area_from (vertices_in xs ys zs i) zero32 (triangles_in is js ls j))
   mesh_area = area o s ks ds ws cnt r i j xs ys zs (triangles_on o own) is js ls filled
 
   pub mesh_box : box_answer xs ys zs i ≡ box_of (vertices_in xs ys zs i)
@@ -296,9 +294,9 @@ unfolding turn_if
 turn_below true f n h = (h.0, h.2, h.1)
 turn_below false f n h = h
 
-module _ (s : Settings) (ks : List ℕ) (ds ws : List Float) (cnt : ℕ) (r : Rooms) (a : Meshed) (as' bs : List ℕ)
+module _ (s : Settings) (ks : List ℕ) (ds ws : List Float) (cnt : ℕ) (r : Rooms) (a : Result (ℕ × ℕ) Refusal) (as' bs : List ℕ)
     (xs ys zs us vs ws' : List Float) (is js ls : List ℕ) (m : IsTurnedMesh s (table ks ds ws cnt) r a as' bs xs ys zs us vs ws' is js ls)
-    (i j : ℕ) (e : a ≡ Done i j) where
+    (i j : ℕ) (e : a ≡ Ok (i, j)) where
   abbrev lent : Table
   lent = table ks ds ws cnt
 
@@ -332,7 +330,7 @@ module _ (s : Settings) (ks : List ℕ) (ds ws : List Float) (cnt : ℕ) (r : Ro
   turned_passes = passes Closed s ks ds ws cnt r i j xs ys zs turned is js ls turned_filled
 
   -- So the area is answered, and the box, and the mesh is written as a file, or refused for room alone.
-  pub turned_area : area_answer xs ys zs i is js ls j ≡ Square (area_from (vertices_in xs ys zs i) zero32 (triangles_in is js ls j))
+  pub turned_area : area_answer xs ys zs i is js ls j ≡ Ok (area_from (vertices_in xs ys zs i) zero32 (triangles_in is js ls j))
   turned_area = area Closed s ks ds ws cnt r i j xs ys zs turned is js ls turned_filled
 
   pub turned_box : box_answer xs ys zs i ≡ box_of (vertices_in xs ys zs i)

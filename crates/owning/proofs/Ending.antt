@@ -1,5 +1,6 @@
 -- A part of a batch, from the rows loaded to the rows settled: it leaves what its readings leave in turn.
 -- Assumes nothing.
+use Rattle.std.specs.Prelude.{Ok}
 use mathlib.Core.Path.{◌≡◌, sym, ap, subst, ◌∙◌}
 use mathlib.Core.Bool.{true}
 use mathlib.Core.List.{List}
@@ -12,7 +13,6 @@ use Rattle.gathering.specs.Gathering.{puts, Loaded}
 use Rattle.gathering.proofs.LoadLaws.{puts_loaded, waits_loaded}
 use Rattle.gathering.proofs.Planning.{relaid_same}
 use Rattle.table.specs.declared.Settings.{Settings}
-use Rattle.table.specs.declared.Checked.TheVariants.{Passed}
 use Rattle.search.specs.Keys.{ascending}
 use Rattle.table.specs.Table.{Table, table, rows_of, rows, lengths_ok, table_check, relaid}
 use Rattle.table.proofs.RowLaws.{lengths_known}
@@ -26,7 +26,7 @@ use Rattle.owning.specs.Runs.{over, Ready, RunLeft, RanTo, RunTo}
 pub own_fits : (a b c n : ℕ) → a ≡ 4096 → b ≡ 4096 → c ≡ 4096 → n ≤ 4096 → lengths_ok a b c n ≡ true
 own_fits a b c n p q r h = rw (p, q, r, le-leb n 4096 h)
 
-module _ (s : Settings) (ks : List ℕ) (ds ws : List Float) (n : ℕ) (passed : table_check s (table ks ds ws n) ≡ Passed) where
+module _ (s : Settings) (ks : List ℕ) (ds ws : List Float) (n : ℕ) (passed : table_check s (table ks ds ws n) ≡ (Ok tt)) where
   abbrev t : Table
   t = table ks ds ws n
 

@@ -1,5 +1,6 @@
 -- A part of a batch through own rows: what is left of it ends as the whole does, beside every table.
 -- Assumes nothing.
+use Rattle.std.specs.Prelude.{Ok, Err, Some, None}
 use mathlib.Core.Path.{◌≡◌, refl, sym, ap, subst, ◌∙◌}
 use mathlib.Core.Bool.{Bool, true, false}
 use mathlib.Core.List.{List, ◌∷◌}
@@ -13,7 +14,6 @@ use Rattle.refusals.specs.declared.Refusal.{Refusal}
 use Rattle.table.specs.declared.Settings.{Settings}
 use Rattle.table.specs.Table.{Table}
 use Rattle.measuring.specs.declared.Measured.{Measured}
-use Rattle.measuring.specs.declared.Admitted.TheVariants.{Near, Far, No}
 use Rattle.fusing.specs.declared.Averaging.{Averaging}
 use Rattle.owning.specs.declared.Owned.{Owned}
 use Rattle.owning.specs.declared.Run.{Run}
@@ -29,29 +29,29 @@ use Rattle.owning.specs.Runs.{over, Ready, Placed, GoesOn, StepLeft, Stepped, pa
 -- ---- readings that are not near
 
 module _ (s : Settings) (t : Table) (ks : List ℕ) (ds ws : List Float) (own added : ℕ) (ready : Ready s t ks ds ws own added) (r : Entry) where
-  pub no_left : (why : Refusal) → admitted s r.key (direct_of r) ≡ No why → StepLeft s t ks ds ws own added r (Owned.Refused why) ds ws
+  pub no_left : (why : Refusal) → admitted s r.key (direct_of r) ≡ Err why → StepLeft s t ks ds ws own added r (Owned.Refused why) ds ws
   unfolding StepLeft batch_from stop_or fuse effect_of fuse_if fused_if
   no_left why e = ((λ i rs. rw (ready.again, e)), refl, refl)
 
-  pub far_left : admitted s r.key (direct_of r) ≡ Far → StepLeft s t ks ds ws own added r Owned.Far ds ws
+  pub far_left : admitted s r.key (direct_of r) ≡ (Ok None) → StepLeft s t ks ds ws own added r Owned.Far ds ws
   unfolding StepLeft batch_from stop_or fuse effect_of fuse_if fused_if
   far_left e = ((λ i rs. rw (ready.again, e)), ready)
 
 -- ---- which readings are far
 
 module _ (s : Settings) (r : Entry) where
-  pub no_tells : (why : Refusal) → admitted s r.key (direct_of r) ≡ No why → passed_far (Owned.Refused why) ≡ is_far s r
+  pub no_tells : (why : Refusal) → admitted s r.key (direct_of r) ≡ Err why → passed_far (Owned.Refused why) ≡ is_far s r
   unfolding passed_far says_far
   no_tells why e = rw e
 
-  pub far_tells : admitted s r.key (direct_of r) ≡ Far → passed_far Owned.Far ≡ is_far s r
+  pub far_tells : admitted s r.key (direct_of r) ≡ (Ok None) → passed_far Owned.Far ≡ is_far s r
   unfolding passed_far says_far
   far_tells e = rw e
 
   -- a near reading never is
   pub near_tells :
       (how : Averaging) (ds ws : List Float) (p : ℕ) (spare : Bool) (m : Measured) (step : Owned) (ds' ws' : List Float)
-      → admitted s r.key (direct_of r) ≡ Near m
+      → admitted s r.key (direct_of r) ≡ Ok (Some m)
       → Placed how ds ws p spare m step ds' ws'
       → passed_far step ≡ is_far s r
   unfolding passed_far says_far Placed

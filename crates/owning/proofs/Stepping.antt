@@ -1,5 +1,6 @@
 -- A near reading fused into an own row: the batch goes on as it does with the table that has the own rows.
 -- Assumes nothing.
+use Rattle.std.specs.Prelude.{Ok, Err, Some, None, Option, Result}
 use mathlib.Core.Path.{◌≡◌, refl, sym, ap, subst, ◌∙◌}
 use mathlib.Core.Logic.{◌⊎◌, inl, inr}
 use mathlib.Core.Bool.{Bool, true, false, cond, not, ◌||◌}
@@ -19,9 +20,6 @@ use Rattle.lists.proofs.BesideLaws.{by_set}
 use Rattle.lists.proofs.Bools.{cases}
 use Rattle.refusals.specs.declared.Refusal.TheVariants.{TooLarge}
 use Rattle.table.specs.declared.Settings.{Settings}
-use Rattle.search.specs.declared.Found.{Found}
-use Rattle.search.specs.declared.Found.TheVariants.{At, Absent}
-use Rattle.table.specs.declared.Checked.TheVariants.{Passed}
 use Rattle.search.specs.Keys.{find, ascending}
 use Rattle.table.specs.Table.{Row, row, Table, beside, rows_of, rows, table_check, put, laid, relaid}
 use Rattle.search.proofs.KeyLaws.{found, first_below, tail_ascends}
@@ -36,7 +34,6 @@ use Rattle.fusing.specs.declared.Voxel.{Voxel}
 use Rattle.measuring.specs.declared.Measured.{Measured}
 use Rattle.fusing.specs.declared.Fused.{Fused}
 use Rattle.batching.specs.declared.Ending.TheVariants as Ending
-use Rattle.measuring.specs.declared.Admitted.TheVariants.{Near}
 use Rattle.owning.specs.declared.Owned.{Owned}
 use Rattle.measuring.specs.Readings.{admitted}
 use Rattle.fusing.specs.Fusing.{Outcome, outcome, averaging_of, fused_voxel, voxel_at, has_place, step_at, stored, fused_near, fused_if, fuse_if, effect_of, fused_of, answered, fuse}
@@ -45,6 +42,7 @@ use Rattle.sorting.specs.Sorting.{Numbered}
 use Rattle.owning.specs.Runs.{over, Ready, old_voxel, voxel_after, Placed, StepLeft}
 use Rattle.fusing.proofs.Keeping.{weight_above, voxel_kept, zero_in, fuse_keeps}
 use Rattle.fusing.proofs.FuseLaws.{stored_answers}
+use Rattle.refusals.specs.declared.Refusal.{Refusal}
 
 -- ---- lists
 
@@ -148,7 +146,7 @@ module _ (s : Settings) (t : Table) (ks : List ℕ) (ds ws : List Float) (own ad
       ∙ puts_set most mine (rows t) p (row k d w) (rw cols.0 ready.order) (rw size inside) (rw (cols.0, get_or-take own ks p 0 inside) at) h
 
   -- the voxel of a row of both
-  voxel_at_lem : (x : Row) (h : HasRow x both) → voxel_at (At h.place) now_table ≡ record { distance = x.distance; weight = x.weight }
+  voxel_at_lem : (x : Row) (h : HasRow x both) → voxel_at (Some h.place) now_table ≡ record { distance = x.distance; weight = x.weight }
   unfolding relaid voxel_at
   voxel_at_lem x h =
       let l : h.place < length both = rw length-map at (found x.key (keys_of both) h.place h.at).0 in
@@ -163,7 +161,7 @@ module _ (s : Settings) (t : Table) (ks : List ℕ) (ds ws : List Float) (own ad
 
   -- fusing, where the key's voxel is known and has a place
   near_own :
-      (f : Found) (old : Voxel) (m : Measured)
+      (f : Option ℕ) (old : Voxel) (m : Measured)
       → find k (keys_of both) ≡ f
       → has_place f now_table ≡ true
       → voxel_at f now_table ≡ old
@@ -171,17 +169,17 @@ module _ (s : Settings) (t : Table) (ks : List ℕ) (ds ws : List Float) (own ad
       → answered (fused_near how now_table k m) ≡ cond (within million (fused_voxel how old m).distance)
       (outcome (fused_of (step_at f now_table k))
       (over s t ks (set ds p (fused_voxel how old m).distance) (set ws p (fused_voxel how old m).weight) own))
-      (outcome (Fused.Refused TooLarge) now_table)
+      (outcome (Err TooLarge) now_table)
   unfolding fused_near
   near_own f old m e h q w =
       let v = fused_voxel how old m in
       let y = row k v.distance v.weight in
-      ap (λ (g : Found). answered (stored now_table k (has_place g now_table) (step_at g now_table k) (fused_voxel how (voxel_at g now_table) m)))
+      ap (λ (g : Option ℕ). answered (stored now_table k (has_place g now_table) (step_at g now_table k) (fused_voxel how (voxel_at g now_table) m)))
       (ap (find k) (relaid_keys t both) ∙ e)
       ∙ ap (λ (o : Voxel). answered (stored now_table k (has_place f now_table) (step_at f now_table k) (fused_voxel how o m))) q
       ∙ ap (λ (b : Bool). answered (stored now_table k b (step_at f now_table k) v)) h
       ∙ stored_answers now_table k f v
-      ∙ ap (λ (u : Table). cond (within million v.distance) (outcome (fused_of (step_at f now_table k)) u) (outcome (Fused.Refused TooLarge) now_table))
+      ∙ ap (λ (u : Table). cond (within million v.distance) (outcome (fused_of (step_at f now_table k)) u) (outcome (Err TooLarge) now_table))
       (ap (λ (l : List Row). relaid now_table (put y l)) (relaid_rows t both)
       ∙ relaid_twice t both (put y both) (no_shorter y both)
       ∙ ap (relaid t) (sym (put_own v.distance v.weight w)))
@@ -205,7 +203,7 @@ module _ (s : Settings) (t : Table) (ks : List ℕ) (ds ws : List Float) (own ad
 
   -- the row waits
   module _ (st : standing most (get_or ws p nan) ≡ false) where
-    waiting : find k (keys_of both) ≡ Absent
+    waiting : find k (keys_of both) ≡ None
     waiting =
         let f = lengths_known (length t.keys) (length t.distances) (length t.weights) t.count (sound s t ready.passed).lengths in
         let c = columns t.keys t.distances t.weights t.count f.1 f.2 in
@@ -221,7 +219,7 @@ module _ (s : Settings) (t : Table) (ks : List ℕ) (ds ws : List Float) (own ad
             let z : ◌≡◌ {A = ℕ} 0 1 = cc in
             omega arith
 
-    place_left : t.count + added < length t.keys → has_place Absent now_table ≡ true
+    place_left : t.count + added < length t.keys → has_place None now_table ≡ true
     unfolding has_place relaid
     place_left h =
         lt-ltb (length both) (length (laid (keys_of both) t.keys))
@@ -247,28 +245,28 @@ module _ (s : Settings) (t : Table) (ks : List ℕ) (ds ws : List Float) (own ad
         (old_in (standing most (get_or ws p nan)) refl) on
 
     -- fusing that is answered so, said of the own rows
-    abbrev Said : Fused → Type 0
+    abbrev Said : Result Fused Refusal → Type 0
     Said a =
         answered (fused_near how now_table k m) ≡ cond (within million v.distance)
         (outcome a (over s t ks (set ds p v.distance) (set ws p v.weight) own))
-        (outcome (Fused.Refused TooLarge) now_table)
+        (outcome (Err TooLarge) now_table)
 
-    said_stands : standing most (get_or ws p nan) ≡ true → Said Fused.Changed
+    said_stands : standing most (get_or ws p nan) ≡ true → Said (Ok Fused.Changed)
     unfolding has_place old_voxel step_at
     said_stands st =
-        near_own (At (has st).place) (old_voxel (standing most (get_or ws p nan)) (get_or ds p nan) (get_or ws p nan)) m (has st).at refl
+        near_own (Some (has st).place) (old_voxel (standing most (get_or ws p nan)) (get_or ds p nan) (get_or ws p nan)) m (has st).at refl
         (voxel_at_lem (x st) (has st) ∙ ap (λ (b : Bool). old_voxel b (get_or ds p nan) (get_or ws p nan)) (sym st)) weighs
 
-    said_waits : standing most (get_or ws p nan) ≡ false → t.count + added < length t.keys → Said Fused.New
+    said_waits : standing most (get_or ws p nan) ≡ false → t.count + added < length t.keys → Said (Ok Fused.New)
     unfolding voxel_at old_voxel step_at
     said_waits st h =
-        near_own Absent (old_voxel (standing most (get_or ws p nan)) (get_or ds p nan) (get_or ws p nan)) m (waiting st) (place_left st h)
+        near_own None (old_voxel (standing most (get_or ws p nan)) (get_or ds p nan) (get_or ws p nan)) m (waiting st) (place_left st h)
         (ap (λ (b : Bool). old_voxel b (get_or ds p nan) (get_or ws p nan)) (sym st)) weighs
 
     -- the rows that wait are still not in the table
-    waits_on : (q : ℕ) → q < own → standing most (get_or (set ws p v.weight) q nan) ≡ false → find (get_or ks q 0) (take t.count t.keys) ≡ Absent
+    waits_on : (q : ℕ) → q < own → standing most (get_or (set ws p v.weight) q nan) ≡ false → find (get_or ks q 0) (take t.count t.keys) ≡ None
     waits_on q h e =
-        cases (λ (b : Bool). find (get_or ks q 0) (take t.count t.keys) ≡ Absent) (eqb q p)
+        cases (λ (b : Bool). find (get_or ks q 0) (take t.count t.keys) ≡ None) (eqb q p)
         (λ c.
         let same : q ≡ p = eqb-true q p c in
         let e' : standing most (get_or (set ws p v.weight) p nan) ≡ false = rw same at e in
@@ -280,7 +278,7 @@ module _ (s : Settings) (t : Table) (ks : List ℕ) (ds ws : List Float) (own ad
 
     ready_again :
         (n : ℕ)
-        → table_check s (over s t ks (set ds p v.distance) (set ws p v.weight) own) ≡ Passed
+        → table_check s (over s t ks (set ds p v.distance) (set ws p v.weight) own) ≡ (Ok tt)
         → length (put (row k v.distance v.weight) both) ≡ t.count + n
         → t.count + n ≤ length t.keys
         → Ready s t ks (set ds p v.distance) (set ws p v.weight) own n
@@ -295,12 +293,12 @@ module _ (s : Settings) (t : Table) (ks : List ℕ) (ds ws : List Float) (own ad
           fits = f;
         }
 
-    module _ (r : Entry) (keyed : r.key ≡ k) (near : admitted s k (direct_of r) ≡ Near m) where
+    module _ (r : Entry) (keyed : r.key ≡ k) (near : admitted s k (direct_of r) ≡ Ok (Some m)) where
       fused : fuse s now_table r.key (direct_of r) ≡ answered (fused_near how now_table k m)
       unfolding fuse effect_of fuse_if fused_if
       fused = rw (keyed, ready.again, near)
 
-      module _ (a : Fused) (said : Said a) where
+      module _ (a : Result Fused Refusal) (said : Said a) where
         stores :
             within million v.distance ≡ true
             → fuse s now_table r.key (direct_of r) ≡ outcome a (over s t ks (set ds p v.distance) (set ws p v.weight) own)
@@ -316,7 +314,7 @@ module _ (s : Settings) (t : Table) (ks : List ℕ) (ds ws : List Float) (own ad
         goes_on lets b i rs =
             ap (λ (o : Outcome). stop_or o.answer i o.left (batch_from s (suc i) o.left rs)) (stores b) ∙ lets i _ _
 
-        passes : within million v.distance ≡ true → table_check s (over s t ks (set ds p v.distance) (set ws p v.weight) own) ≡ Passed
+        passes : within million v.distance ≡ true → table_check s (over s t ks (set ds p v.distance) (set ws p v.weight) own) ≡ (Ok tt)
         passes b =
             ap (λ (o : Outcome). table_check s o.left) (sym (stores b)) ∙ fuse_keeps s now_table r.key (direct_of r) ready.again
 
@@ -326,7 +324,7 @@ module _ (s : Settings) (t : Table) (ks : List ℕ) (ds ws : List Float) (own ad
             → batch_from s i now_table (r ∷ rs) ≡ batch_end (Ending.Refused TooLarge i) now_table
         unfolding batch_from stop_or
         ends_there b i rs =
-            let e : fuse s now_table r.key (direct_of r) ≡ outcome (Fused.Refused TooLarge) now_table = fused ∙ said ∙ rw b in
+            let e : fuse s now_table r.key (direct_of r) ≡ outcome (Err TooLarge) now_table = fused ∙ said ∙ rw b in
             ap (λ (o : Outcome). stop_or o.answer i o.left (batch_from s (suc i) o.left rs)) e
 
       -- every case of a near reading
@@ -342,16 +340,16 @@ module _ (s : Settings) (t : Table) (ks : List ℕ) (ds ws : List Float) (own ad
           let said = said_stands h.0 in
           let c = h.1 in
           rw (c.1, c.2) (
-            goes_on Fused.Changed said (λ i u rest. refl) c.0,
-            ready_again added (passes Fused.Changed said c.0) (stands_many h.0 v.distance v.weight ∙ ready.many)
+            goes_on (Ok Fused.Changed) said (λ i u rest. refl) c.0,
+            ready_again added (passes (Ok Fused.Changed) said c.0) (stands_many h.0 v.distance v.weight ∙ ready.many)
                 ready.fits,
           )
       near_left spare room Owned.Added ds' ws' h =
           let said = said_waits h.0 (room h.1) in
           let c = h.2 in
           rw (c.1, c.2) (
-            goes_on Fused.New said (λ i u rest. refl) c.0,
-            ready_again (suc added) (passes Fused.New said c.0)
+            goes_on (Ok Fused.New) said (λ i u rest. refl) c.0,
+            ready_again (suc added) (passes (Ok Fused.New) said c.0)
                 (longer (row k v.distance v.weight) both (waiting h.0)
                 ∙ ap suc ready.many
                 ∙ sym (add-suc t.count added)) (omega (arith, room h.1)),
@@ -363,7 +361,7 @@ module _ (s : Settings) (t : Table) (ks : List ℕ) (ds ws : List Float) (own ad
               (standing most (get_or ws p nan) ≡ true) ⊎ (spare ≡ true)
               → (i : ℕ) (rs : List Entry)
               → batch_from s i now_table (r ∷ rs) ≡ batch_end (Ending.Refused TooLarge i) now_table
-          told (inl e) = ends_there Fused.Changed (said_stands e) h.3
+          told (inl e) = ends_there (Ok Fused.Changed) (said_stands e) h.3
           told (inr e) = by_standing (standing most (get_or ws p nan)) refl
             where
               by_standing :
@@ -371,5 +369,5 @@ module _ (s : Settings) (t : Table) (ks : List ℕ) (ds ws : List Float) (own ad
                   → standing most (get_or ws p nan) ≡ b
                   → (i : ℕ) (rs : List Entry)
                   → batch_from s i now_table (r ∷ rs) ≡ batch_end (Ending.Refused TooLarge i) now_table
-              by_standing true q = ends_there Fused.Changed (said_stands q) h.3
-              by_standing false q = ends_there Fused.New (said_waits q (room e)) h.3
+              by_standing true q = ends_there (Ok Fused.Changed) (said_stands q) h.3
+              by_standing false q = ends_there (Ok Fused.New) (said_waits q (room e)) h.3

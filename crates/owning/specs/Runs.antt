@@ -1,12 +1,10 @@
 -- A part of a batch goes through own rows: what its steps keep, for private contracts.
-use Rattle.std.specs.Prelude.{ℕ, suc, ◌+◌, ◌<◌, ◌≤◌, ◌≡◌, ◌⊎◌, Bool, true, false, List, ◌∷◌, length, get_or, take, drop, set, Float}
+use Rattle.std.specs.Prelude.{ℕ, suc, ◌+◌, ◌<◌, ◌≤◌, ◌≡◌, ◌⊎◌, Bool, true, false, List, ◌∷◌, length, get_or, take, drop, set, Float, Ok, None}
 use Rattle.std.specs.Float.{nan}
 use Rattle.floats.specs.Floats.{zero32, million, within}
 use Rattle.gathering.specs.Gathering.{standing, puts}
 use Rattle.refusals.specs.declared.Refusal.TheVariants.{TooLarge}
 use Rattle.table.specs.declared.Settings.{Settings}
-use Rattle.search.specs.declared.Found.TheVariants.{Absent}
-use Rattle.table.specs.declared.Checked.TheVariants.{Passed}
 use Rattle.search.specs.Keys.{find, ascending}
 use Rattle.table.specs.Table.{Table, rows_of, rows, lengths_ok, table_check, relaid}
 use Rattle.fusing.specs.declared.Averaging.{Averaging}
@@ -27,11 +25,11 @@ over s t ks ds ws own = relaid t (puts s.max_weight (rows_of ks ds ws own) (rows
 
 -- own rows of ascending keys beside a table that passes: with them it passes too and has so many rows more, and those that wait are not in it
 pub record Ready (s : Settings) (t : Table) (ks : List ℕ) (ds ws : List Float) (own added : ℕ) : Type 0 where
-  pub passed : table_check s t ≡ Passed
-  pub again : table_check s (over s t ks ds ws own) ≡ Passed
+  pub passed : table_check s t ≡ (Ok tt)
+  pub again : table_check s (over s t ks ds ws own) ≡ (Ok tt)
   pub lengths : lengths_ok (length ks) (length ds) (length ws) own ≡ true
   pub order : ascending (take own ks) ≡ true
-  pub waits : (q : ℕ) → q < own → standing s.max_weight (get_or ws q nan) ≡ false → find (get_or ks q 0) (take t.count t.keys) ≡ Absent
+  pub waits : (q : ℕ) → q < own → standing s.max_weight (get_or ws q nan) ≡ false → find (get_or ks q 0) (take t.count t.keys) ≡ None
   pub many : length (puts s.max_weight (rows_of ks ds ws own) (rows t)) ≡ t.count + added
   pub fits : t.count + added ≤ length t.keys
 
@@ -121,4 +119,4 @@ RanTo s ks ds ws own room rs from ran ds' ws' = RanOver s ks ds ws own room rs f
 
 -- a part of a batch, the table that it leaves, and its far readings
 abbrev pub RunTo : Settings → Table → List Entry → ℕ → ℕ → Run → Table → Type 0
-RunTo s t rs from least run u = RunLeft s t rs from least run u × (table_check s u ≡ Passed) × RunFar s rs from run
+RunTo s t rs from least run u = RunLeft s t rs from least run u × (table_check s u ≡ (Ok tt)) × RunFar s rs from run

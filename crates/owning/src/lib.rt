@@ -1,7 +1,7 @@
 // A part of a batch: up to 4,096 readings are fused into own rows, which are settled into the table column by column.
 #![tactic(auto)]
 
-ghost use Rattle.std.specs.Prelude.{◌≡◌, true, ◌+◌, ◌<◌, ◌≤◌, length, take};
+ghost use Rattle.std.specs.Prelude.{◌≡◌, true, ◌+◌, ◌<◌, ◌≤◌, length, take, Ok};
 ghost use Rattle.search.specs.Keys.{ascending};
 ghost use Rattle.table.specs.Table.{table, rows_of, lengths_ok, settings_ok, table_check, relaid};
 ghost use Rattle.gathering.specs.Gathering.{puts, seats_of, Loaded};
@@ -13,10 +13,10 @@ ghost use Rattle.owning.specs.Runs.{old_voxel, Placed, Stepped, passed_far, OwnS
 use floats::{Metres, between, within};
 use fusing::{Averaging, Voxel, averaging_of, fused_voxel};
 use gathering::{hold_back, load_f32, locate, settle};
-use measuring::{Admitted, Measured, Reading, admit};
+use measuring::{Measured, Reading, admit};
 use refusals::Refusal;
 use sorting::{distinct, sort};
-use table::{Checked, Settings};
+use table::Settings;
 
 // What a reading does to the own rows of a batch: nothing where it is far; a row is added or changed; it is left to
 // others where its row has no place in the table; or why it is refused.
@@ -114,9 +114,9 @@ fn fuse_own(
         confidence,
     };
     match admit(settings, key, reading) {
-        Admitted::No(why) => Owned::Refused(why),
-        Admitted::Far => Owned::Far,
-        Admitted::Near(near) => {
+        Err(why) => Owned::Refused(why),
+        Ok(None) => Owned::Far,
+        Ok(Some(near)) => {
             let place = slot as usize - 1;
             fuse_place(
                 averaging_of(settings),
@@ -220,11 +220,9 @@ fn own_rows(
     let mut sorted = [0u64; 4096];
     let mut places = [0u16; 4096];
     let n = to - from;
-    let mut i = 0;
-    while i < n {
+    for i in 0..n {
         sorted[i] = batch_keys[from + i];
         places[i] = i as u16;
-        i += 1;
     }
     sort(&mut sorted, &mut places, n);
     distinct(&sorted, &places, n, own_keys, slots)
@@ -320,7 +318,7 @@ pub fn batch_run(
     batch_confidences: &[f32],
     from: usize,
 ) -> Run
-    requires count_value { table_check settings (table keys.old distances.old weights.old count.old) ≡ Checked.Passed }
+    requires count_value { table_check settings (table keys.old distances.old weights.old count.old) ≡ (Ok tt) }
     requires from_in_bounds { from ≤ length batch_keys.now }
     requires batch_distances_len { (length batch_distances.now ≡ length batch_keys.now) × (length batch_confidences.now ≡ length batch_keys.now) }
     ensures { RunTo settings

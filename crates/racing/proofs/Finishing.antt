@@ -1,4 +1,5 @@
 -- The beginning and the end of the march: blank lists hold nothing, and once no cell waits the marks are the stored rows, scattered. Assumes nothing.
+use Rattle.std.specs.Prelude.{Ok, Err, Result}
 use mathlib.Core.Path.{◌≡◌, refl, sym, ap, subst, ◌∙◌}
 use mathlib.Core.Bool.{Bool, true, false, or-true}
 use mathlib.Core.List.Memᴰ
@@ -19,7 +20,6 @@ use Rattle.lists.specs.Lists.{◌∈◌, All}
 use Rattle.lists.specs.Padding.{padded}
 use Rattle.lists.specs.Places.{filled}
 use Rattle.lists.proofs.PaddingLaws.{padded_length}
-use Rattle.marks.specs.declared.Spot.TheVariants.{At}
 use Rattle.marks.specs.Marks.{label, standing}
 use Rattle.marks.proofs.Keeping.{label_real, within, standing_at, looked, kept_at, kept_once, value_at_lem, kept_none, look_none}
 use Rattle.search.specs.Keys.{member, ascending}
@@ -36,10 +36,6 @@ use Rattle.hearing.specs.Hearing.{or_waits, Marked}
 use Rattle.hearing.proofs.Fitting.{key_for, key_for_lem, key_real}
 use Rattle.hearing.proofs.Walking.{real_key}
 use Rattle.fronts.specs.declared.Stop.{Stop}
-use Rattle.racing.specs.declared.Raced.{Raced}
-use Rattle.racing.specs.declared.Raced.TheVariants as raced
-use Rattle.racing.specs.declared.Went.{Went}
-use Rattle.racing.specs.declared.Went.TheVariants.{On, Not}
 use Rattle.fronts.specs.Fronts.{marking, Held, rooms_of}
 use Rattle.racing.specs.Racing.{unlabelled, MayStep, Goes, Blank, Sown, Emptied, Laid, Finished}
 use Rattle.fronts.proofs.Marking.{stored_here}
@@ -152,7 +148,7 @@ module _ (s : State) (n : ℕ) (ks : List ℕ) (ds es : List Float) (cs : List �
             λ i l z.
             let k = key_for (get_or ks i 0) in
             let e : label k ≡ get_or ks i 0 = key_for_lem (get_or ks i 0) z in
-            let found = subst (λ (y : ℕ). standing y ks ≡ At i) (sym e) (kept_at ks bare.kept i z) in
+            let found = subst (λ (y : ℕ). standing y ks ≡ Ok i) (sym e) (kept_at ks bare.kept i z) in
             ap (λ (y : ℕ). distance_of y (labelled s.stored)) (sym e)
             ∙ distance_labelled k s.stored (key_real (get_or ks i 0)) own
             ∙ only (distance_of k s.stored) (get_or ds i nan) (sym (bare.marks k (key_real (get_or ks i 0))) ∙ value_at_lem (label k) ks ds i found);
@@ -204,24 +200,24 @@ unlabel_one (k ∷ ks) l e = rw (eq-eqb k 1 e)
 
 -- ---- the whole
 
-module _ (c : Course) (t : Float) (rs : List Row) (ks₀ cs₀ : List ℕ) (r : Went) (ks : List ℕ) (ds es : List Float)
+module _ (c : Course) (t : Float) (rs : List Row) (ks₀ cs₀ : List ℕ) (r : Result (ℕ × ℕ × Bool) Stop) (ks : List ℕ) (ds es : List Float)
     (cs : List ℕ) (did : Goes (sow_all neighbours (rooms_of ks₀ cs₀) (seeds t rs) nothing) r ks ds es cs) where
   -- a seed stops it
   pub march_stopped :
       (why : Stop)
-      → r ≡ Not why
+      → r ≡ Err why
       → (ks' : List ℕ) (ds' es' : List Float) (cs' : List ℕ)
-      → Finished (march_from c.size c.most (rooms_of ks₀ cs₀) t rs) (raced.Not why) ks' ds' es' cs'
+      → Finished (march_from c.size c.most (rooms_of ks₀ cs₀) t rs) (Err why) ks' ds' es' cs'
   unfolding Goes Finished march.march
   march_stopped why e ks' ds' es' cs' =
-      stopped_then _ _ why (subst (λ (x : Went). Goes (sow_all neighbours (rooms_of ks₀ cs₀) (seeds t rs) nothing) x ks ds es cs) e did)
+      stopped_then _ _ why (subst (λ (x : Result (ℕ × ℕ × Bool) Stop). Goes (sow_all neighbours (rooms_of ks₀ cs₀) (seeds t rs) nothing) x ks ds es cs) e did)
 
-  module _ (a : ascending (table_keys rs) ≡ true) (p : length ks ≡ length ks₀) (q : length cs ≡ length cs₀) (n w : ℕ) (lean : Bool) (e : r ≡ On n w lean) where
+  module _ (a : ascending (table_keys rs) ≡ true) (p : length ks ≡ length ks₀) (q : length cs ≡ length cs₀) (n w : ℕ) (lean : Bool) (e : r ≡ Ok (n, w, lean)) where
     -- all seeds are sown
     pub sown_all : (s : State) × ((sow_all neighbours (rooms_of ks₀ cs₀) (seeds t rs) nothing ≡ on s) × Sown (seeds t rs) neighbours lean s n ks ds w es cs)
     unfolding Goes
     sown_all =
-        let x = subst (λ (x : Went). Goes (sow_all neighbours (rooms_of ks₀ cs₀) (seeds t rs) nothing) x ks ds es cs) e did in (
+        let x = subst (λ (x : Result (ℕ × ℕ × Bool) Stop). Goes (sow_all neighbours (rooms_of ks₀ cs₀) (seeds t rs) nothing) x ks ds es cs) e did in (
           x.0,
           (
             x.1.0,
@@ -233,7 +229,7 @@ module _ (c : Course) (t : Float) (rs : List Row) (ks₀ cs₀ : List ℕ) (r : 
           ),
         )
 
-    module _ (o : Raced) (ks' : List ℕ) (ds' es' : List Float) (cs' : List ℕ)
+    module _ (o : Result (ℕ × ℕ) Stop) (ks' : List ℕ) (ds' es' : List Float) (cs' : List ℕ)
         (takes : (s : State) → Sown (seeds t rs) neighbours lean s n ks ds w es cs
         → Emptied (take_up_to (lattice_of c) (rooms_of ks cs) (suc (length ks)) s) o ks' ds' es' cs') where
       emptied : Emptied (march_from c.size c.most (rooms_of ks₀ cs₀) t rs) o ks' ds' es' cs'
@@ -245,25 +241,25 @@ module _ (c : Course) (t : Float) (rs : List Row) (ks₀ cs₀ : List ℕ) (r : 
           (same_rooms (rooms_of ks₀ cs₀) ks cs p q) (takes x.0 x.1.1))
 
       -- a taking stops it
-      pub march_halted : (why : Stop) → o ≡ raced.Not why → Finished (march_from c.size c.most (rooms_of ks₀ cs₀) t rs) (raced.Not why) ks' ds' es' cs'
+      pub march_halted : (why : Stop) → o ≡ Err why → Finished (march_from c.size c.most (rooms_of ks₀ cs₀) t rs) (Err why) ks' ds' es' cs'
       unfolding Emptied Finished
-      march_halted why f = subst (λ (x : Raced). Emptied (march_from c.size c.most (rooms_of ks₀ cs₀) t rs) x ks' ds' es' cs') f emptied
+      march_halted why f = subst (λ (x : Result (ℕ × ℕ) Stop). Emptied (march_from c.size c.most (rooms_of ks₀ cs₀) t rs) x ks' ds' es' cs') f emptied
 
       -- no cell waits any more, and the rows are sorted
       pub march_done :
           All (λ (x : Row). on_lattice x.key ≡ true) rs
           → (i j : ℕ)
-          → o ≡ raced.Done i j
+          → o ≡ Ok (i, j)
           → (ks'' ks''' : List ℕ) (ds'' : List Float)
           → length ks''' ≡ length ks'
           → ((rs : List MarchedRow)
           → Scattered rs ks' ds'
           → (ks'' ≡ padded 0 (length ks') (keys_of rs)) × (ds'' ≡ padded zero32 (length ks') (distances_of rs)))
           → ks''' ≡ unlabelled ks''
-          → Finished (march_from c.size c.most (rooms_of ks₀ cs₀) t rs) (raced.Done i j) ks''' ds'' es' cs'
+          → Finished (march_from c.size c.most (rooms_of ks₀ cs₀) t rs) (Ok (i, j)) ks''' ds'' es' cs'
       unfolding Emptied Finished
       march_done all i j f ks'' ks''' ds'' l sorted back =
-          let x = subst (λ (x : Raced). Emptied (march_from c.size c.most (rooms_of ks₀ cs₀) t rs) x ks' ds' es' cs') f emptied in
+          let x = subst (λ (x : Result (ℕ × ℕ) Stop). Emptied (march_from c.size c.most (rooms_of ks₀ cs₀) t rs) x ks' ds' es' cs') f emptied in
           let own =
           after_on (λ s. All (λ (r : MarchedRow). on_lattice r.key ≡ true) s.stored) (march_from c.size c.most (rooms_of ks₀ cs₀) t rs) x.0
           (lattice_keeps c.size c.most (rooms_of ks₀ cs₀) t rs all) x.1.0 in

@@ -1,4 +1,5 @@
 -- A step after the march has been lightened: its marks have a place, and it leaves a state from which the next may be taken. Assumes nothing.
+use Rattle.std.specs.Prelude.{Ok, Err, Result}
 use mathlib.Core.Path.{◌≡◌, refl, sym, subst}
 use mathlib.Core.Bool.{Bool, true}
 use mathlib.Core.List.{List, ◌∷◌}
@@ -15,15 +16,13 @@ use Rattle.marching.specs.declared.Course.{Course}
 use Rattle.marching.specs.Lattice.{lattice_of}
 use Rattle.marching.proofs.Sound.{After, after_on, after_weaken}
 use Rattle.marching.proofs.Crowding.{Fuller, sow_adds, Took, taking_adds}
-use Rattle.fronts.specs.declared.Step.{Step}
-use Rattle.fronts.specs.declared.Step.TheVariants.{On, Not}
 use Rattle.fronts.specs.Fronts.{rooms_of, Held, MarksFit, Left}
 use Rattle.fronts.proofs.Stepping.{uncons}
 use Rattle.thinning.specs.Thinning.{kind_of, Lightens}
 use Rattle.thinning.proofs.Forgetting.{roomy}
-use Rattle.racing.specs.declared.Went.{Went}
 use Rattle.racing.specs.Racing.{sow_if, MayStep, went_of, Goes}
 use Rattle.racing.proofs.Marching.{same_rooms}
+use Rattle.fronts.specs.declared.Stop.{Stop}
 
 -- ---- what a step adds
 
@@ -54,12 +53,12 @@ module _ (lean : Bool) (n w : ℕ) (ks : List ℕ) (ds es : List Float) (cs : Li
       let d = held.front.heap.counted in
       omega arith
 
-  goes : (g : Going) → After (Fuller 15 s) g → (o : Step) (ks' : List ℕ) (ds' es' : List Float) (cs' : List ℕ)
+  goes : (g : Going) → After (Fuller 15 s) g → (o : Result (ℕ × ℕ) Stop) (ks' : List ℕ) (ds' es' : List Float) (cs' : List ℕ)
       → length ks' ≡ length ks₁
       → Left kind g o ks' ds' es' cs'
       → Goes g (went_of o kind) ks' ds' es' cs'
   unfolding Left Goes
-  goes g most (On n' w') ks' ds' es' cs' long did = (
+  goes g most (Ok (n', w')) ks' ds' es' cs' long did = (
     did.0,
     (
       did.1.0,
@@ -76,24 +75,24 @@ module _ (lean : Bool) (n w : ℕ) (ks : List ℕ) (ds es : List Float) (cs : Li
       },
     ),
   )
-  goes g most (Not why) ks' ds' es' cs' long did = did
+  goes g most (Err why) ks' ds' es' cs' long did = did
 
   -- a seed is sown
   pub sown_goes :
       (t : Float) (x : Row)
       → is_seed t x ≡ true
-      → (o : Step) (ks' : List ℕ) (ds' es' : List Float) (cs' : List ℕ)
+      → (o : Result (ℕ × ℕ) Stop) (ks' : List ℕ) (ds' es' : List Float) (cs' : List ℕ)
       → length ks' ≡ length ks₁
       → (Held kind s n ks₁ ds₁ w es cs
       → MarksFit kind (suc (length (neighbours x.key))) s ks₁
       → Left kind (sow neighbours (rooms_of ks₁ cs) (marched_row x.key x.distance) s) o ks' ds' es' cs')
-      → (r : Went)
+      → (r : Result (ℕ × ℕ × Bool) Stop)
       → r ≡ went_of o kind
       → Goes (sow_if t neighbours (rooms_of ks cs) x s) r ks' ds' es' cs'
   unfolding sow_if
   sown_goes t x seed o ks' ds' es' cs' long did r e =
       let q = marched_row x.key x.distance in
-      subst (λ (r : Went). Goes (sow_if t neighbours (rooms_of ks cs) x s) r ks' ds' es' cs') (sym e)
+      subst (λ (r : Result (ℕ × ℕ × Bool) Stop). Goes (sow_if t neighbours (rooms_of ks cs) x s) r ks' ds' es' cs') (sym e)
       (subst (λ (g : Going). Goes g (went_of o kind) ks' ds' es' cs') (sym (rw seed))
       (subst (λ (m : Rooms). Goes (sow neighbours m q s) (went_of o kind) ks' ds' es' cs') (same_rooms (rooms_of ks cs) ks₁ cs wide refl)
       (goes (sow neighbours (rooms_of ks₁ cs) q s) (sow_most (rooms_of ks₁ cs) q s) o ks' ds' es' cs' long (did held (room x.key)))))
@@ -102,16 +101,16 @@ module _ (lean : Bool) (n w : ℕ) (ks : List ℕ) (ds es : List Float) (cs : Li
   pub taken_goes :
       (c : Course)
       → 0 < w
-      → (o : Step) (ks' : List ℕ) (ds' es' : List Float) (cs' : List ℕ)
+      → (o : Result (ℕ × ℕ) Stop) (ks' : List ℕ) (ds' es' : List Float) (cs' : List ℕ)
       → length ks' ≡ length ks₁
       → (Held kind s n ks₁ ds₁ w es cs
       → ((k : ℕ) → MarksFit kind (suc (length (neighbours k))) s ks₁)
       → Left kind (march.take (lattice_of c) (rooms_of ks₁ cs) s) o ks' ds' es' cs')
-      → (r : Went)
+      → (r : Result (ℕ × ℕ × Bool) Stop)
       → r ≡ went_of o kind
       → Goes (march.take (lattice_of c) (rooms_of ks cs) s) r ks' ds' es' cs'
   taken_goes c l o ks' ds' es' cs' long did r e =
-      subst (λ (r : Went). Goes (march.take (lattice_of c) (rooms_of ks cs) s) r ks' ds' es' cs') (sym e)
+      subst (λ (r : Result (ℕ × ℕ × Bool) Stop). Goes (march.take (lattice_of c) (rooms_of ks cs) s) r ks' ds' es' cs') (sym e)
       (subst (λ (m : Rooms). Goes (march.take (lattice_of c) m s) (went_of o kind) ks' ds' es' cs') (same_rooms (rooms_of ks cs) ks₁ cs wide refl)
       (goes (march.take (lattice_of c) (rooms_of ks₁ cs) s) (take_most c (rooms_of ks₁ cs) s w held.front.heap.counted l) o ks' ds' es' cs' long
       (did held room)))

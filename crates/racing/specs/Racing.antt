@@ -1,5 +1,5 @@
 -- What the march over lent lists leaves, and what its functions promise each other.
-use Rattle.std.specs.Prelude.{ℕ, ◌≤◌, ◌<◌, ◌≡◌, Bool, true, cond, List, [], ◌∷◌, eqb, length, get_or, Float}
+use Rattle.std.specs.Prelude.{ℕ, ◌≤◌, ◌<◌, ◌≡◌, Bool, true, cond, List, [], ◌∷◌, eqb, length, get_or, Float, Ok, Err, Result}
 use Rattle.std.specs.Float.{nan}
 use Rattle.floats.specs.Floats.{zero32, is_finite}
 use Rattle.ids.specs.Key.{on_lattice}
@@ -8,14 +8,9 @@ use Rattle.search.specs.Keys.{ascending}
 use Rattle.table.specs.Table.{Row}
 use Rattle.marching.specs.March.{MarchedRow, marched_row, State, Going, on, Rooms, keys_of, distances_of, is_seed, sow, sow_all, nothing}
 use Rattle.hearing.specs.Hearing.{Lent}
-use Rattle.fronts.specs.declared.Step.{Step}
-use Rattle.fronts.specs.declared.Step.TheVariants as step
 use Rattle.fronts.specs.Fronts.{rooms_of, Held, Stopped}
 use Rattle.thinning.specs.Thinning.{Spare}
-use Rattle.racing.specs.declared.Raced.{Raced}
-use Rattle.racing.specs.declared.Raced.TheVariants as raced
-use Rattle.racing.specs.declared.Went.{Went}
-use Rattle.racing.specs.declared.Went.TheVariants as went
+use Rattle.fronts.specs.declared.Stop.{Stop}
 
 -- a table whose rows are on the lattice, at finite distances
 pub record Tabled (ks : List ℕ) (ds ws : List Float) (n : ℕ) : Type 0 where
@@ -33,14 +28,14 @@ pub record MayStep (lean : Bool) (s : State) (n : ℕ) (ks : List ℕ) (ds : Lis
   pub spare : Spare lean n w ks
 
 -- what a step of a kind leads to
-abbrev pub went_of : Step → Bool → Went
-went_of (step.On n w) lean = went.On n w lean
-went_of (step.Not why) lean = went.Not why
+abbrev pub went_of : Result (ℕ × ℕ) Stop → Bool → Result (ℕ × ℕ × Bool) Stop
+went_of (Ok (n, w)) lean = Ok (n, w, lean)
+went_of (Err why) lean = Err why
 
 -- what a step leaves, from which the next may be taken; or why it stopped
-unfoldable pub Goes : Going → Went → List ℕ → List Float → List Float → List ℕ → Type 0
-Goes g (went.On n w lean) ks ds es cs = (t : State) × ((g ≡ on t) × MayStep lean t n ks ds w es cs)
-Goes g (went.Not why) ks ds es cs = Stopped g why
+unfoldable pub Goes : Going → Result (ℕ × ℕ × Bool) Stop → List ℕ → List Float → List Float → List ℕ → Type 0
+Goes g (Ok (n, w, lean)) ks ds es cs = (t : State) × ((g ≡ on t) × MayStep lean t n ks ds w es cs)
+Goes g (Err why) ks ds es cs = Stopped g why
 
 -- the four lists are zero
 pub record Blank (ks : List ℕ) (ds es : List Float) (cs : List ℕ) : Type 0 where
@@ -57,9 +52,9 @@ pub record Sown (rs : List MarchedRow) (near : ℕ → List ℕ) (lean : Bool) (
   pub ready : MayStep lean s n ks ds w es cs
 
 -- no cell waits any more, and the rows have a place
-unfoldable pub Emptied : Going → Raced → List ℕ → List Float → List Float → List ℕ → Type 0
-Emptied g (raced.Done n t) ks ds es cs = (s : State) × ((g ≡ on s) × ((s.takings ≡ t) × (Held true s n ks ds 0 es cs × (n ≤ length ks))))
-Emptied g (raced.Not why) ks ds es cs = Stopped g why
+unfoldable pub Emptied : Going → Result (ℕ × ℕ) Stop → List ℕ → List Float → List Float → List ℕ → Type 0
+Emptied g (Ok (n, t)) ks ds es cs = (s : State) × ((g ≡ on s) × ((s.takings ≡ t) × (Held true s n ks ds 0 es cs × (n ≤ length ks))))
+Emptied g (Err why) ks ds es cs = Stopped g why
 
 -- a first key that stands as 1 is 0
 unfoldable pub unlabelled : List ℕ → List ℕ
@@ -78,6 +73,6 @@ pub record Laid (s : State) (n : ℕ) (ks : List ℕ) (ds es : List Float) (cs :
   pub cells : cs ≡ padded 0 (length cs) []
 
 -- what a march leaves: its rows, and no cell waiting; or why it stopped
-unfoldable pub Finished : Going → Raced → List ℕ → List Float → List Float → List ℕ → Type 0
-Finished g (raced.Done n t) ks ds es cs = (s : State) × ((g ≡ on s) × ((s.takings ≡ t) × Laid s n ks ds es cs))
-Finished g (raced.Not why) ks ds es cs = Stopped g why
+unfoldable pub Finished : Going → Result (ℕ × ℕ) Stop → List ℕ → List Float → List Float → List ℕ → Type 0
+Finished g (Ok (n, t)) ks ds es cs = (s : State) × ((g ≡ on s) × ((s.takings ≡ t) × Laid s n ks ds es cs))
+Finished g (Err why) ks ds es cs = Stopped g why

@@ -16,33 +16,19 @@ ghost use Rattle.hearing.specs.Hearing.{Lent};
 ghost use Rattle.fronts.specs.Fronts.{Fair, Paired, rooms_of, ToldOnce, ToldFirst};
 ghost use Rattle.racing.specs.Racing.{Tabled, sow_if, MayStep, went_of, Goes, Blank, Sown, Emptied, unlabelled, Finished};
 
-use fronts::{Step, Stop, sow, take};
+use fronts::{Stop, sow, take};
 use heap::sort_rows;
 use lists::{clear_f32, clear_u64};
 use marching::{Course, is_seed, surely_full};
 use thinning::lighten;
 
-// A march's answer: how many rows and how many takings.
-#[derive(Clone, Copy)]
-pub enum Raced {
-    Done(usize, usize),
-    Not(Stop),
-}
-
-// How many rows and waiting cells there are now, and whether the march is lean.
-#[derive(Clone, Copy)]
-enum Went {
-    On(usize, usize, bool),
-    Not(Stop),
-}
-
 // What a step of a kind leads to.
-fn leads_to(step: Step, lean: bool) -> Went
+fn leads_to(step: Result<(usize, usize), Stop>, lean: bool) -> Result<(usize, usize, bool), Stop>
     ensures { result ≡ went_of step lean }
 {
     match step {
-        Step::Not(why) => Went::Not(why),
-        Step::On(rows, waiting) => Went::On(rows, waiting, lean),
+        Err(why) => Err(why),
+        Ok((rows, waiting)) => Ok((rows, waiting, lean)),
     }
 }
 
@@ -64,7 +50,7 @@ fn sow_if(
     key: u64,
     distance: f32,
     weight: f32,
-) -> Went
+) -> Result<(usize, usize, bool), Stop>
     requires lent { Lent fused_keys.now fused_distances.now fused_weights.now fused_count
         × Paired keys.old distances.old estimates.old cells.old }
     requires key_value { (on_lattice key ≡ true) × ((is_finite distance ≡ true) × (waiting ≤ length cells.old)) }
@@ -77,7 +63,7 @@ fn sow_if(
         keys.new distances.new estimates.new cells.new }
 {
     if !is_seed(threshold, key, distance, weight) {
-        return Went::On(count, waiting, lean);
+        return Ok((count, waiting, lean));
     }
     let kind = lighten(lean, keys, distances, count, cells, waiting);
     let step = sow(
@@ -112,7 +98,7 @@ fn sow_all(
     distances: &mut [f32],
     estimates: &mut [f32],
     cells: &mut [u64],
-) -> Went
+) -> Result<(usize, usize, bool), Stop>
     requires { Tabled fused_keys.now fused_distances.now fused_weights.now fused_count
         × Blank keys.old distances.old estimates.old cells.old }
     ensures { Goes (sow_all neighbours (rooms_of keys.old cells.old) (seeds threshold
@@ -122,8 +108,7 @@ fn sow_all(
     let mut rows = 0;
     let mut held = 0;
     let mut lean = false;
-    let mut i = 0;
-    while i < fused_count {
+    for i in 0..fused_count {
         match sow_if(
             lean,
             fused_keys,
@@ -142,16 +127,15 @@ fn sow_all(
             fused_distances[i],
             fused_weights[i],
         ) {
-            Went::Not(why) => return Went::Not(why),
-            Went::On(n, w, kind) => {
+            Err(why) => return Err(why),
+            Ok((n, w, kind)) => {
                 rows = n;
                 held = w;
                 lean = kind;
             }
         }
-        i += 1;
     }
-    Went::On(rows, held, lean)
+    Ok((rows, held, lean))
 }
 
 // The first waiting cell is taken.
@@ -169,7 +153,7 @@ fn take_next(
     estimates: &mut [f32],
     cells: &mut [u64],
     waiting: usize,
-) -> Went
+) -> Result<(usize, usize, bool), Stop>
     requires lent { Lent fused_keys.now fused_distances.now fused_weights.now fused_count
         × Paired keys.old distances.old estimates.old cells.old }
     requires waiting_nonzero { (0 < waiting) × ((waiting ≤ length cells.old) × (Fair course × (on_lattice (get_or cells.old 0 0) ≡ true))) }
@@ -214,7 +198,7 @@ fn take_all(
     estimates: &mut [f32],
     cells: &mut [u64],
     waiting: usize,
-) -> Raced
+) -> Result<(usize, usize), Stop>
     requires tabled { Tabled fused_keys.now fused_distances.now fused_weights.now fused_count × Fair course }
     requires sown { (s : State) × Sown (seeds threshold (rows_of fused_keys.now fused_distances.now fused_weights.now fused_count))
         neighbours lean s count keys.old distances.old waiting estimates.old cells.old }
@@ -230,7 +214,7 @@ fn take_all(
     let mut takings = 0;
     while 0 < held {
         if surely_full(keys.len(), cells.len(), rows, held, takings) {
-            return Raced::Not(Stop::NoRow);
+            return Err(Stop::NoRow);
         }
         match take_next(
             kind,
@@ -247,8 +231,8 @@ fn take_all(
             cells,
             held,
         ) {
-            Went::Not(why) => return Raced::Not(why),
-            Went::On(n, w, next) => {
+            Err(why) => return Err(why),
+            Ok((n, w, next)) => {
                 rows = n;
                 held = w;
                 kind = next;
@@ -256,7 +240,7 @@ fn take_all(
         }
         takings += 1;
     }
-    Raced::Done(rows, takings)
+    Ok((rows, takings))
 }
 
 // A first key that stands as 1 is 0.
@@ -295,7 +279,7 @@ pub fn march(
     distances: &mut [f32],
     estimates: &mut [f32],
     cells: &mut [u64],
-) -> Raced
+) -> Result<(usize, usize), Stop>
     requires { (Tabled fused_keys.now fused_distances.now fused_weights.now fused_count × Fair course)
         × Blank keys.old distances.old estimates.old cells.old }
     ensures { Finished (march_from course.size course.most (rooms_of keys.old cells.old) threshold
@@ -314,8 +298,8 @@ pub fn march(
         estimates,
         cells,
     ) {
-        Went::Not(why) => Raced::Not(why),
-        Went::On(rows, held, lean) => {
+        Err(why) => Err(why),
+        Ok((rows, held, lean)) => {
             match take_all(
                 lean,
                 fused_keys,
@@ -331,11 +315,11 @@ pub fn march(
                 cells,
                 held,
             ) {
-                Raced::Not(why) => Raced::Not(why),
-                Raced::Done(n, takings) => {
+                Err(why) => Err(why),
+                Ok((n, takings)) => {
                     sort_rows(keys, distances);
                     unlabel(keys);
-                    Raced::Done(n, takings)
+                    Ok((n, takings))
                 }
             }
         }

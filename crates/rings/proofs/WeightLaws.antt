@@ -1,5 +1,6 @@
 -- Looking up a weight: what the search finds, by cases.
 -- Assumes nothing.
+use Rattle.std.specs.Prelude.{Some, None, Option}
 use mathlib.Core.Path.{◌≡◌}
 use mathlib.Core.Bool.{false}
 use mathlib.Core.List.{List}
@@ -7,21 +8,19 @@ use Prim.Native.Nat.{ℕ, ◌<◌, ◌≤◌}
 use borrow.Author.Tests.{lt-ltb, le-ltb}
 use lib.ListN.{length, get_or}
 use lib.Ieee.{Float, nan}
-use Rattle.search.specs.declared.Found.{Found}
-use Rattle.search.specs.declared.Found.TheVariants.{At, Absent}
 use Rattle.rings.specs.Sides.{is_positive}
 use Rattle.rings.specs.Rings.{weighted_found}
 
 -- f is what the search says, r what it was seen to be
-module _ (ws : List Float) (f r : Found) (e : r ≡ f) where
-  pub nowhere : r ≡ Absent → false ≡ weighted_found ws f
+module _ (ws : List Float) (f r : Option ℕ) (e : r ≡ f) where
+  pub nowhere : r ≡ None → false ≡ weighted_found ws f
   unfolding weighted_found
   nowhere h = rw (← e, h)
 
-  pub here : (place : ℕ) → r ≡ At place → place < length ws → is_positive (get_or ws place nan) ≡ weighted_found ws f
+  pub here : (place : ℕ) → r ≡ Some place → place < length ws → is_positive (get_or ws place nan) ≡ weighted_found ws f
   unfolding weighted_found
   here place h l = rw (← e, h, lt-ltb place (length ws) l)
 
-  pub past : (place : ℕ) → r ≡ At place → length ws ≤ place → false ≡ weighted_found ws f
+  pub past : (place : ℕ) → r ≡ Some place → length ws ≤ place → false ≡ weighted_found ws f
   unfolding weighted_found
   past place h l = rw (← e, h, le-ltb place (length ws) l)

@@ -1,11 +1,9 @@
 -- Whether a tetrahedron of stored cells with weight above 0 lies around a pair of cells, by the neighbours of one of them.
-use Rattle.std.specs.Prelude.{ℕ, Bool, false, cond, ◌&&◌, ◌||◌, List, [], ◌∷◌, ltb, Float, length, get_or, take}
+use Rattle.std.specs.Prelude.{ℕ, Bool, false, cond, ◌&&◌, ◌||◌, List, [], ◌∷◌, ltb, Float, length, get_or, take, Some, None}
 use Rattle.std.proofs.Math.Option.{Option, none, some}
 use Rattle.std.specs.Float.{nan}
 use Rattle.neighbors.specs.Neighbors.{neighbours, adjacent}
 use Rattle.search.specs.Nearby.{find_near}
-use Rattle.search.specs.declared.Found.{Found}
-use Rattle.search.specs.declared.Found.TheVariants.{At, Absent}
 use Rattle.table.specs.Table.{Row}
 use Rattle.table.specs.Rows.{stored}
 use Rattle.rings.specs.Sides.{is_positive, weighted, opposed}
@@ -25,9 +23,9 @@ unfolding weighted stored
 weighted_at rows k = weighted_of (stored k rows)
 
 -- the weight at a place that was found is above 0
-unfoldable pub weighted_found : List Float → Found → Bool
-weighted_found ws (At place) = cond (ltb place (length ws)) (is_positive (get_or ws place nan)) false
-weighted_found ws Absent = false
+unfoldable pub weighted_found : List Float → Option ℕ → Bool
+weighted_found ws (Some place) = cond (ltb place (length ws)) (is_positive (get_or ws place nan)) false
+weighted_found ws None = false
 
 -- The same by a search among the first n keys, in whatever order they stand, expected near a row. On an accepted table it is that of the row, whatever
 -- was expected (edges' SurfaceLaws).

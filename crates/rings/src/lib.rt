@@ -5,7 +5,6 @@ ghost use Rattle.std.specs.Prelude.{◌≡◌, ◌≤◌, length, take};
 ghost use Rattle.rings.specs.Sides.{opposed};
 ghost use Rattle.rings.specs.Rings.{any, weighted_by, beside_both, completed, joint_by};
 
-use search::Found;
 
 // One distance is below zero and the other is not, and both weights are above 0.
 pub fn are_opposed(distance: f32, weight: f32, other: f32, beside: f32) -> bool
@@ -18,7 +17,7 @@ pub fn are_opposed(distance: f32, weight: f32, other: f32, beside: f32) -> bool
 fn is_weighted(keys: &[u64], weights: &[f32], count: usize, near: usize, key: u64) -> bool
     ensures { result ≡ weighted_by keys.now weights.now count near key }
 {
-    let Found::At(place) = search::find_near(keys, count, near, key) else {
+    let Some(place) = search::find_near(keys, count, near, key) else {
         return false;
     };
     if place < weights.len() {
@@ -63,12 +62,10 @@ fn shares(
     requires { (end ≤ 14) × (end ≤ length cells.now) }
     ensures { result ≡ any (beside_both (weighted_by keys.now weights.now count near) other third) (take end cells.now) }
 {
-    let mut i = 0;
-    while i < end {
+    for i in 0..end {
         if is_beside_both(keys, weights, count, near, other, third, cells[i]) {
             return true;
         }
-        i += 1;
     }
     false
 }
@@ -110,13 +107,11 @@ pub fn is_joint(
     let around = neighbors::around(cell);
     let cells = around.keys;
     let end = around.count;
-    let mut i = 0;
-    while i < end {
+    for i in 0..end {
         let third = cells[i];
         if completes(keys, weights, count, near, &cells, end, other, third) {
             return true;
         }
-        i += 1;
     }
     false
 }

@@ -1,12 +1,11 @@
 -- The square root of a binary32 value: the nearest binary32 value, defined over whole numbers.
-use Rattle.std.specs.Prelude.{ℕ, zero, suc, ◌+◌, ◌*◌, ◌/◌, ◌^◌, Bool, true, false, cond, nat_le, nat_lt, Float}
+use Rattle.std.specs.Prelude.{ℕ, zero, suc, ◌+◌, ◌*◌, ◌/◌, ◌^◌, Bool, true, false, cond, nat_le, nat_lt, Float, Ok, Err, Result}
 use Rattle.std.specs.Float.{nan, inf, fin, binary32}
 use Rattle.std.specs.Float.Ieee.{up, down, size, round, le}
 use Rattle.floats.specs.Floats.{zero32}
 use Rattle.refusals.specs.Refusals.{number_of}
 use Rattle.refusals.specs.declared.Refusal.TheVariants.{BadReading}
-use Rattle.root.specs.declared.Rooted.{Rooted}
-use Rattle.root.specs.declared.Rooted.TheVariants.{Root, Refused}
+use Rattle.refusals.specs.declared.Refusal.{Refusal}
 
 -- the whole part of the root of an n below 4 ^ k: twice that of n / 4, or one more
 unfoldable pub root_below : ℕ → ℕ → ℕ
@@ -34,16 +33,16 @@ root_of (inf s) = inf s
 root_of (fin s zero e) = fin s zero e
 root_of (fin s (suc m) e) = rounded (suc m * up e * 2 ^ 298 / down e)
 
-abbrev pub pick_rooted : Bool → Rooted → Rooted → Rooted
+abbrev pub pick_rooted : Bool → Result Float Refusal → Result Float Refusal → Result Float Refusal
 pick_rooted true a b = a
 pick_rooted false a b = b
 
 -- a NaN and what is below zero are refused
-unfoldable pub root_answer : Float → Rooted
+unfoldable pub root_answer : Float → Result Float Refusal
 unfolding le root_of
-root_answer x = pick_rooted (le zero32 x) (Root (root_of x)) (Refused BadReading)
+root_answer x = pick_rooted (le zero32 x) (Ok (root_of x)) (Err BadReading)
 
 -- document 01's number of the answer, 0 for no refusal
-abbrev pub root_number : Rooted → ℕ
-root_number (Root r) = 0
-root_number (Refused r) = number_of r
+abbrev pub root_number : Result Float Refusal → ℕ
+root_number (Ok r) = 0
+root_number (Err r) = number_of r

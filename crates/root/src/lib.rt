@@ -11,13 +11,6 @@ ghost use Rattle.root.specs.Steps.{units_of_one, units_of, Near, LeadOf, ScaledO
 
 use refusals::Refusal;
 
-// The root, or that the argument is not taken (BadReading).
-#[derive(Clone, Copy)]
-pub enum Rooted {
-    Root(f32),
-    Refused(Refusal),
-}
-
 // A number of units as n * 2 ^ j units, n having 24 digits.
 #[derive(Clone, Copy)]
 struct Lead {
@@ -184,12 +177,12 @@ fn root_taken(x: f32) -> f32
 }
 
 // The root of x, refused for a NaN and below zero. -0 gives -0, and the infinity gives itself.
-pub fn root(x: f32) -> Rooted
+pub fn root(x: f32) -> Result<f32, Refusal>
     ensures { result ≡ root_answer x }
 {
     if 0.0 <= x {
-        Rooted::Root(root_taken(x))
+        Ok(root_taken(x))
     } else {
-        Rooted::Refused(Refusal::BadReading)
+        Err(Refusal::BadReading)
     }
 }

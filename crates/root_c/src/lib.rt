@@ -5,7 +5,6 @@ ghost use Rattle.std.specs.Prelude.{◌≡◌};
 ghost use Rattle.root.specs.Root.{root_answer};
 ghost use Rattle.root_c.specs.Answers.{root_or};
 
-use root::Rooted;
 
 // The root of x, or `other` where it is refused.
 #[unsafe(no_mangle)]
@@ -13,7 +12,7 @@ pub extern "C" fn root_or(x: f32, other: f32) -> f32
     ensures { result ≡ root_or (root_answer x) other }
 {
     match root::root(x) {
-        Rooted::Root(r) => r,
-        Rooted::Refused(_) => other,
+        Ok(r) => r,
+        Err(_) => other,
     }
 }

@@ -1,6 +1,7 @@
 -- Document 01's cases marked P, and those of document 02's requests: what the definitions give beside what the documents say, one list and one
 -- statement. Floats stand as their bits, whole numbers below 0 as 32 bits.
 -- Assumes nothing.
+use Rattle.std.specs.Prelude.{Ok, Err, Result}
 use Prim.Native.Nat.{ℕ, ◌+◌, ◌-◌}
 use mathlib.Core.Path.{◌≡◌, refl}
 use mathlib.Core.Bool.{cond}
@@ -18,8 +19,6 @@ use Rattle.ids.specs.Key.{key_of, same_parity}
 use Rattle.ids.specs.Morton.{respaced, morton}
 use Rattle.neighbors.specs.Neighbors.{offsets, in_box, reached_from, shown, neighbours_by}
 use Rattle.search.specs.Keys.{member, rises_from, ascending, next, find, place_of}
-use Rattle.root.specs.declared.Rooted.{Rooted}
-use Rattle.root.specs.declared.Rooted.TheVariants.{Root, Refused}
 use Rattle.root.specs.Root.{root_answer}
 use Rattle.bcc_utils.specs.Snapping.{even, on_lattice, even_down, even_up, odd_up, odd_down, square_of, squared_distance, nearest, nearer, nearest_candidate, is_end, snapped, snapped_number, snapped_place}
 use Rattle.table.specs.Table.{Row, row, Table, table, rows, rows_ok, settings_of, need, check_with, put, relaid}
@@ -37,6 +36,7 @@ use Rattle.slopes.specs.Vertices.{part_of, vertex_of, vertex_at, vertices_of}
 use Rattle.vertices.specs.StoredRows.{distance_of as distance-stored, distance_in}
 use Rattle.marching.specs.March.{MarchedRow, rooms, Going, on, refused, and_then, distance_of, store, wait, wait_all, seeds, sow, sow_all, candidate, heard, settling, settled, spread, settle, visit, taking, take_up_to, march}
 use Rattle.marching.specs.Lattice.{length_at, march_from}
+use Rattle.refusals.specs.declared.Refusal.{Refusal}
 
 -- ---- how a case is written down
 
@@ -106,9 +106,9 @@ crossed rs =
 abbrev pair : ℕ → ℕ → List Row
 pair d e = row ten (f32 d) one32 ∷ row eleven (f32 e) one32 ∷ []
 
-unfoldable rooted : Rooted → List ℕ
-rooted (Root x) = to_bits binary32 x ∷ []
-rooted (Refused why) = []
+unfoldable rooted : Result Float Refusal → List ℕ
+rooted (Ok x) = to_bits binary32 x ∷ []
+rooted (Err why) = []
 
 -- how many rows have a distance of these bits
 unfoldable holding : ℕ → List MarchedRow → ℕ

@@ -1,5 +1,6 @@
 -- Ascending keys, and the search by halves.
 -- Assumes nothing.
+use Rattle.std.specs.Prelude.{Some, None, Option}
 use mathlib.Core.Path.{◌≡◌, refl, sym, ap, subst, ◌∙◌}
 use mathlib.Core.Bool.{Bool, true, false, cond, ◌&&◌, ◌||◌, and-false}
 use mathlib.Core.List.Memᴰ
@@ -14,8 +15,6 @@ use lib.Dec.{ltb, eqb, leb-suc-suc}
 use lib.ListN.{length, get_or, take, drop, length-take}
 use lib.Seq.{length-take-le, get_or-take}
 use Rattle.search.specs.Keys.{member, rises_from, ascending, place_of, halving, halved, find, find_by, next}
-use Rattle.search.specs.declared.Found.{Found}
-use Rattle.search.specs.declared.Found.TheVariants.{At, Absent}
 use Rattle.lists.specs.Lists.{◌∈◌, Ordered}
 use Rattle.lists.proofs.Bools.{and_first, and_second, cases}
 use Rattle.lists.proofs.ListLaws.{at_in, ordered_weaken}
@@ -213,70 +212,70 @@ module _ (k : ℕ) (ks : List ℕ) where
 -- ---- finding a key
 
 -- a key below the first is nowhere
-absent : (k l : ℕ) (ks : List ℕ) → k < l → rises_from l ks ≡ true → find k ks ≡ Absent
+absent : (k l : ℕ) (ks : List ℕ) → k < l → rises_from l ks ≡ true → find k ks ≡ None
 unfolding find next rises_from
 absent k l [] h a = refl
 absent k l (m ∷ ks) h a =
     let g : k < m = lt_trans h (ltb-true l m (and_first (ltb l m) (rises_from m ks) a)) in
     rw (ne_eqb m k (λ e. omega arith), absent k m ks g (and_second (ltb l m) (rises_from m ks) a))
 
-at_absent : (i : ℕ) → At i ≡ Absent → ⊥
+at_absent : (i : ℕ) → Some i ≡ None → ⊥
 at_absent i e = let z : ◌≡◌ {A = ℕ} 0 1 = cc in omega arith
 
-next_absent : (f : Found) → next f ≡ Absent → f ≡ Absent
+next_absent : (f : Option ℕ) → next f ≡ None → f ≡ None
 unfolding next
-next_absent (At i) e = absurd (at_absent (suc i) e)
-next_absent Absent e = refl
+next_absent (Some i) e = absurd (at_absent (suc i) e)
+next_absent None e = refl
 
 -- a key that is nowhere differs from the first, and is nowhere after it
-pub absent_differs : (k l : ℕ) (ks : List ℕ) → find k (l ∷ ks) ≡ Absent → (l ≡ k → ⊥) × (find k ks ≡ Absent)
+pub absent_differs : (k l : ℕ) (ks : List ℕ) → find k (l ∷ ks) ≡ None → (l ≡ k → ⊥) × (find k ks ≡ None)
 unfolding find next
 absent_differs k l ks a =
-    cases (λ (b : Bool). cond b (At 0) (next (find k ks)) ≡ Absent → (l ≡ k → ⊥) × (find k ks ≡ Absent)) (eqb l k)
+    cases (λ (b : Bool). cond b (Some 0) (next (find k ks)) ≡ None → (l ≡ k → ⊥) × (find k ks ≡ None)) (eqb l k)
     (λ e h. absurd (at_absent 0 h))
     (λ e h. (eqb-false l k e, next_absent (find k ks) h))
     a
 
 -- a key that is found stands in the list, and one that is not does not
-is_at : Found → Bool
-is_at (At i) = true
-is_at Absent = false
+is_at : Option ℕ → Bool
+is_at (Some i) = true
+is_at None = false
 
 find_member : (k : ℕ) (ks : List ℕ) → member k ks ≡ is_at (find k ks)
 unfolding is_at member find next
 find_member k [] = refl
 find_member k (l ∷ ls) =
-    cases (λ (b : Bool). b || member k ls ≡ is_at (cond b (At 0) (next (find k ls)))) (eqb l k)
+    cases (λ (b : Bool). b || member k ls ≡ is_at (cond b (Some 0) (next (find k ls)))) (eqb l k)
     (λ e. refl)
     (λ e. find_member k ls ∙ moved (find k ls))
   where
-    moved : (f : Found) → is_at f ≡ is_at (next f)
-    moved (At i) = refl
-    moved Absent = refl
+    moved : (f : Option ℕ) → is_at f ≡ is_at (next f)
+    moved (Some i) = refl
+    moved None = refl
 
-pub found_member : (k : ℕ) (ks : List ℕ) (i : ℕ) → find k ks ≡ At i → member k ks ≡ true
+pub found_member : (k : ℕ) (ks : List ℕ) (i : ℕ) → find k ks ≡ Some i → member k ks ≡ true
 unfolding is_at
 found_member k ks i e = find_member k ks ∙ ap is_at e
 
-pub absent_member : (k : ℕ) (ks : List ℕ) → find k ks ≡ Absent → member k ks ≡ false
+pub absent_member : (k : ℕ) (ks : List ℕ) → find k ks ≡ None → member k ks ≡ false
 unfolding is_at
 absent_member k ks e = find_member k ks ∙ ap is_at e
 
-next_cond : (b : Bool) (p : ℕ) → cond b (At (suc p)) Absent ≡ next (cond b (At p) Absent)
+next_cond : (b : Bool) (p : ℕ) → cond b (Some (suc p)) None ≡ next (cond b (Some p) None)
 unfolding next
 next_cond true p = refl
 next_cond false p = refl
 
 -- p, if k stands there
-abbrev told : ℕ → List ℕ → ℕ → Found
-told k ks p = cond (ltb p (length ks) && eqb (get_or ks p 0) k) (At p) Absent
+abbrev told : ℕ → List ℕ → ℕ → Option ℕ
+told k ks p = cond (ltb p (length ks) && eqb (get_or ks p 0) k) (Some p) None
 
 -- on ascending keys k stands at its place or nowhere
 at_place : (k : ℕ) (ks : List ℕ) → ascending ks ≡ true → told k ks (place_of k ks) ≡ find k ks
 unfolding place_of find ascending
 at_place k [] a = refl
 at_place k (l ∷ ks) a =
-    cases (λ (b : Bool). told k (l ∷ ks) (cond b (suc (place_of k ks)) 0) ≡ cond (eqb l k) (At 0) (next (find k ks))) (ltb l k)
+    cases (λ (b : Bool). told k (l ∷ ks) (cond b (suc (place_of k ks)) 0) ≡ cond (eqb l k) (Some 0) (next (find k ks))) (ltb l k)
     (λ e.
     let h : l < k = ltb-true l k e in
     rw (ne_eqb l k (λ q. omega arith), leb-suc-suc (suc (place_of k ks)) (length ks))
@@ -284,7 +283,7 @@ at_place k (l ∷ ks) a =
     (λ e.
     let h : k ≤ l = ltb-false l k e in
     rw (lt-ltb 0 (suc (length ks)) (suc-le-suc zero-le))
-    (cases (λ (b : Bool). cond b (At 0) Absent ≡ cond b (At 0) (next (find k ks))) (eqb l k)
+    (cases (λ (b : Bool). cond b (Some 0) None ≡ cond b (Some 0) (next (find k ks))) (eqb l k)
     (λ q. refl)
     (λ q.
     let ne : l ≡ k → ⊥ = eqb-false l k q in
@@ -298,36 +297,36 @@ find_by-find k ks a = rw (halved_place k ks a) (at_place k ks a)
 
 -- the same of the first n of a list, by the place p that the search ends at
 module _ (k : ℕ) (ks : List ℕ) (n p : ℕ) (e : p ≡ halved k (take n ks)) where
-  pub found_here : p < n → p < length ks → get_or ks p 0 ≡ k → At p ≡ find_by k (take n ks)
+  pub found_here : p < n → p < length ks → get_or ks p 0 ≡ k → Some p ≡ find_by k (take n ks)
   unfolding find_by
   found_here h g t =
       rw (← e, lt-ltb p (length (take n ks)) (rw length-take (omega arith)), get_or-take n ks p 0 h, eq-eqb (get_or ks p 0) k t)
 
-  pub found_another : p < n → (get_or ks p 0 ≡ k → ⊥) → Absent ≡ find_by k (take n ks)
+  pub found_another : p < n → (get_or ks p 0 ≡ k → ⊥) → None ≡ find_by k (take n ks)
   unfolding find_by
   found_another h t = rw (← e, get_or-take n ks p 0 h, ne_eqb (get_or ks p 0) k t, and-false)
 
-  found_none : length (take n ks) ≤ p → Absent ≡ find_by k (take n ks)
+  found_none : length (take n ks) ≤ p → None ≡ find_by k (take n ks)
   unfolding find_by
   found_none h = rw (← e, le-ltb p (length (take n ks)) h)
 
-  pub found_past_count : n ≤ p → Absent ≡ find_by k (take n ks)
+  pub found_past_count : n ≤ p → None ≡ find_by k (take n ks)
   found_past_count h = found_none (rw length-take (omega arith))
 
-  pub found_past_end : length ks ≤ p → Absent ≡ find_by k (take n ks)
+  pub found_past_end : length ks ≤ p → None ≡ find_by k (take n ks)
   found_past_end h = found_none (rw length-take (omega arith))
 
-from_next : (P : ℕ → Type 0) (f : Found) (i : ℕ) → next f ≡ At i → ((j : ℕ) → f ≡ At j → P (suc j)) → P i
+from_next : (P : ℕ → Type 0) (f : Option ℕ) (i : ℕ) → next f ≡ Some i → ((j : ℕ) → f ≡ Some j → P (suc j)) → P i
 unfolding next
-from_next P (At j) i e g = let z : suc j ≡ i = cc in subst P z (g j refl)
-from_next P Absent i e g = absurd (at_absent i (sym e))
+from_next P (Some j) i e g = let z : suc j ≡ i = cc in subst P z (g j refl)
+from_next P None i e g = absurd (at_absent i (sym e))
 
 -- a found key stands at its place
-pub found : (k : ℕ) (ks : List ℕ) (i : ℕ) → find k ks ≡ At i → (i < length ks) × (get_or ks i 0 ≡ k)
+pub found : (k : ℕ) (ks : List ℕ) (i : ℕ) → find k ks ≡ Some i → (i < length ks) × (get_or ks i 0 ≡ k)
 unfolding find
 found k [] i e = absurd (at_absent i (sym e))
 found k (l ∷ ks) i e =
-    cases (λ (b : Bool). cond b (At 0) (next (find k ks)) ≡ At i → (i < length (l ∷ ks)) × (get_or (l ∷ ks) i 0 ≡ k)) (eqb l k)
+    cases (λ (b : Bool). cond b (Some 0) (next (find k ks)) ≡ Some i → (i < length (l ∷ ks)) × (get_or (l ∷ ks) i 0 ≡ k)) (eqb l k)
     (λ t h.
     let z : 0 ≡ i = cc in
     subst (λ (j : ℕ). (j < length (l ∷ ks)) × (get_or (l ∷ ks) j 0 ≡ k)) z (suc-le-suc zero-le, eqb-true l k t))

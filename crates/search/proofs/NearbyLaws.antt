@@ -1,5 +1,6 @@
 -- A search that ends near its start finds what the search of the whole list finds, where the keys ascend.
 -- Assumes nothing.
+use Rattle.std.specs.Prelude.{Some, None}
 use Prim.Native.Nat.{ℕ, ◌+◌, ◌-◌, ◌≤◌, ◌<◌, zero-le}
 use native.Mathlib.Omega.{arith}
 use mathlib.Core.Path.{◌≡◌, refl, sym, ap, ◌∙◌}
@@ -13,7 +14,6 @@ use Rattle.lists.specs.Lists.{Ordered}
 use Rattle.lists.proofs.Bools.{and_first, and_second, cases}
 use Rattle.search.specs.Keys.{ascending, place_of, find_by}
 use Rattle.search.specs.Nearby.{nearer, end_above, stands_at, find_above, behind, start_near, place_near, find_near}
-use Rattle.search.specs.declared.Found.TheVariants.{At, Absent}
 use Rattle.search.proofs.KeyLaws.{place_le, place_length, ascending_order, ordered_lt_place, ordered_reaches, lt_place, reaches, halved_place}
 
 -- ---- where it ends
@@ -96,15 +96,15 @@ found_above_lem k ks n row f a h l =
 
 -- what stands at a place of the list
 module _ (k : ℕ) (ks : List ℕ) (p q : ℕ) (e : p ≡ q) where
-  pub stands_here : p < length ks → get_or ks p 0 ≡ k → At p ≡ stands_at k ks q
+  pub stands_here : p < length ks → get_or ks p 0 ≡ k → Some p ≡ stands_at k ks q
   unfolding stands_at
   stands_here h t = rw (← e, lt-ltb p (length ks) h, eq-eqb (get_or ks p 0) k t)
 
-  pub stands_another : (get_or ks p 0 ≡ k → ⊥) → Absent ≡ stands_at k ks q
+  pub stands_another : (get_or ks p 0 ≡ k → ⊥) → None ≡ stands_at k ks q
   unfolding stands_at
   stands_another t = rw (← e, ne_eqb (get_or ks p 0) k t, and-false)
 
-  pub stands_past : length ks ≤ p → Absent ≡ stands_at k ks q
+  pub stands_past : length ks ≤ p → None ≡ stands_at k ks q
   unfolding stands_at
   stands_past h = rw (← e, le-ltb p (length ks) h)
 

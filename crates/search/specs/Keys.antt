@@ -1,7 +1,5 @@
 -- Keys in order, and where one stands.
-use Rattle.std.specs.Prelude.{ℕ, zero, suc, ◌+◌, ◌-◌, ◌/◌, Bool, true, false, cond, ◌&&◌, ◌||◌, List, [], ◌∷◌, length, get_or, ltb, eqb}
-use Rattle.search.specs.declared.Found.{Found}
-use Rattle.search.specs.declared.Found.TheVariants.{At, Absent}
+use Rattle.std.specs.Prelude.{ℕ, zero, suc, ◌+◌, ◌-◌, ◌/◌, Bool, true, false, cond, ◌&&◌, ◌||◌, List, [], ◌∷◌, length, get_or, ltb, eqb, Some, None, Option}
 
 -- k stands in the list
 unfoldable pub member : ℕ → List ℕ → Bool
@@ -19,15 +17,15 @@ ascending [] = true
 ascending (k ∷ ks) = rises_from k ks
 
 -- one place further on
-unfoldable pub next : Found → Found
-next (At i) = At (suc i)
-next Absent = Absent
+unfoldable pub next : Option ℕ → Option ℕ
+next (Some i) = Some (suc i)
+next None = None
 
 -- the first place where k stands
-unfoldable pub find : ℕ → List ℕ → Found
+unfoldable pub find : ℕ → List ℕ → Option ℕ
 unfolding next
-find k [] = Absent
-find k (l ∷ ls) = cond (eqb l k) (At 0) (next (find k ls))
+find k [] = None
+find k (l ∷ ls) = cond (eqb l k) (Some 0) (next (find k ls))
 
 -- how many keys at the front are below k: the place that k has or would take
 unfoldable pub place_of : ℕ → List ℕ → ℕ
@@ -45,5 +43,5 @@ abbrev pub halved : ℕ → List ℕ → ℕ
 halved k ks = halving (length ks) k ks 0 (length ks)
 
 -- the place where the search by halves ends, if k stands there
-unfoldable pub find_by : ℕ → List ℕ → Found
-find_by k ks = let p = halved k ks in cond (ltb p (length ks) && eqb (get_or ks p 0) k) (At p) Absent
+unfoldable pub find_by : ℕ → List ℕ → Option ℕ
+find_by k ks = let p = halved k ks in cond (ltb p (length ks) && eqb (get_or ks p 0) k) (Some p) None

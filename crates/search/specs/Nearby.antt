@@ -1,8 +1,6 @@
 -- A search from a place on, of a key that is expected near.
-use Rattle.std.specs.Prelude.{ℕ, ◌+◌, ◌-◌, cond, ◌&&◌, List, length, get_or, ltb, leb, eqb}
+use Rattle.std.specs.Prelude.{ℕ, ◌+◌, ◌-◌, cond, ◌&&◌, List, length, get_or, ltb, leb, eqb, Some, None, Option}
 use Rattle.search.specs.Keys.{halving}
-use Rattle.search.specs.declared.Found.{Found}
-use Rattle.search.specs.declared.Found.TheVariants.{At, Absent}
 
 -- the place `step` on, if the key there is not below k; else `end`
 unfoldable pub nearer : ℕ → List ℕ → ℕ → ℕ → ℕ → ℕ
@@ -17,11 +15,11 @@ abbrev pub place_above : ℕ → List ℕ → ℕ → ℕ
 place_above k ks from = halving (length ks) k ks from (end_above k ks from)
 
 -- p, if k stands there
-unfoldable pub stands_at : ℕ → List ℕ → ℕ → Found
-stands_at k ks p = cond (ltb p (length ks) && eqb (get_or ks p 0) k) (At p) Absent
+unfoldable pub stands_at : ℕ → List ℕ → ℕ → Option ℕ
+stands_at k ks p = cond (ltb p (length ks) && eqb (get_or ks p 0) k) (Some p) None
 
 -- that place, if k stands there. On ascending keys of which those before `from` are below k, this finds k (find_above_lem of proofs/NearbyLaws.antt).
-abbrev pub find_above : ℕ → List ℕ → ℕ → Found
+abbrev pub find_above : ℕ → List ℕ → ℕ → Option ℕ
 find_above k ks from = stands_at k ks (place_above k ks from)
 
 -- the place `step` back, if the key before it is below k; else `low`
@@ -37,5 +35,5 @@ start_near k ks from = behind k ks from 0 (behind k ks from 16 (behind k ks from
 abbrev pub place_near : ℕ → List ℕ → ℕ → ℕ
 place_near k ks from = place_above k ks (start_near k ks from)
 
-abbrev pub find_near : ℕ → List ℕ → ℕ → Found
+abbrev pub find_near : ℕ → List ℕ → ℕ → Option ℕ
 find_near k ks from = find_above k ks (start_near k ks from)

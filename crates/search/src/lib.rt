@@ -5,13 +5,6 @@ ghost use Rattle.std.specs.Prelude.{◌≡◌, ◌≤◌, min, length, take};
 ghost use Rattle.search.specs.Keys.{ascending, halving, halved, find_by};
 ghost use Rattle.search.specs.Nearby.{nearer as nearer_end, end_above, find_above, behind as behind_start, start_near, place_near, find_near};
 
-// Where a key stands.
-#[derive(Clone, Copy)]
-pub enum Found {
-    At(usize),
-    Absent,
-}
-
 // How many of the first `count` places a list of `len` has.
 fn least(count: usize, len: usize) -> usize
     ensures { result ≡ min count len }
@@ -60,18 +53,18 @@ pub fn place_of(keys: &[u64], count: usize, key: u64) -> usize
 }
 
 // Where `key` stands among the first `count` keys, by halves.
-pub fn find_row(keys: &[u64], count: usize, key: u64) -> Found
+pub fn find_row(keys: &[u64], count: usize, key: u64) -> Option<usize>
     ensures { result ≡ find_by key (take count keys.now) }
 {
     let place = place_of(keys, count, key);
     if place < count {
         if place < keys.len() {
             if keys[place] == key {
-                return Found::At(place);
+                return Some(place);
             }
         }
     }
-    Found::Absent
+    None
 }
 
 // The place `step` on, if the key there is not below `key`; else `end`.
@@ -104,16 +97,16 @@ fn end_above(keys: &[u64], from: usize, key: u64) -> usize
 }
 
 // Where `key` stands, if at `from` or above it: the neighbours of a cell mostly stand within a few rows.
-pub fn find_above(keys: &[u64], from: usize, key: u64) -> Found
+pub fn find_above(keys: &[u64], from: usize, key: u64) -> Option<usize>
     ensures { result ≡ find_above key keys.now from }
 {
     let place = place_between(keys, from, end_above(keys, from, key), key);
     if place < keys.len() {
         if keys[place] == key {
-            return Found::At(place);
+            return Some(place);
         }
     }
-    Found::Absent
+    None
 }
 
 // The place `step` back, if the key before it is below `key`; else `low`.
@@ -163,14 +156,14 @@ pub fn place_near(keys: &[u64], count: usize, from: usize, key: u64) -> usize
 }
 
 // Where `key` stands, expected near a place.
-fn find_from(keys: &[u64], from: usize, key: u64) -> Found
+fn find_from(keys: &[u64], from: usize, key: u64) -> Option<usize>
     ensures { result ≡ find_near key keys.now from }
 {
     find_above(keys, start_near(keys, from, key), key)
 }
 
 // Where `key` stands among the first `count` keys, expected near a place.
-pub fn find_near(keys: &[u64], count: usize, from: usize, key: u64) -> Found
+pub fn find_near(keys: &[u64], count: usize, from: usize, key: u64) -> Option<usize>
     ensures { result ≡ find_near key (take count keys.now) from }
 {
     let end = least(count, keys.len());

@@ -1,5 +1,6 @@
 -- What the code works out, step by step, is what the definitions say.
 -- Assumes nothing.
+use Rattle.std.specs.Prelude.{Ok, Err, Some, None, Option, Result}
 use mathlib.Core.Path.{◌≡◌, ap, ◌∙◌}
 use mathlib.Core.Bool.{true, false}
 use mathlib.Core.List.{List}
@@ -23,11 +24,7 @@ use Rattle.neighbors.specs.declared.Near.{Near}
 use Rattle.neighbors.proofs.NeighborLaws.{at_most_14}
 use Rattle.bcc_utils.specs.Metres.{metres_of}
 use Rattle.root.specs.Root.{root_answer}
-use Rattle.root.specs.declared.Rooted.{Rooted}
-use Rattle.root.specs.declared.Rooted.TheVariants.{Root, Refused}
 use Rattle.slopes.specs.declared.Slopes.{Slopes}
-use Rattle.slopes.specs.declared.Stored.{Stored}
-use Rattle.slopes.specs.declared.Stored.TheVariants.{Distance, Absent}
 use Rattle.slopes.specs.Stored.{Lookup}
 use Rattle.slopes.specs.Vertices.{tiny, half, part_of, place_of, vertex_of}
 use Rattle.slopes.specs.Normals.{normal, no_normal, rooted_or, length_of, direction_of, step_of, no_slopes, slopes_with, slopes_from, mean_of, normal_by}
@@ -61,12 +58,12 @@ vertex_is size k1 d1 k2 d2 t c1 c2 x y z et e1 e2 ex ey ez = rw (ex, ey, ez, et,
 
 -- ---- a length and a direction
 
-module _ (s : Float) (a : Rooted) (e : a ≡ root_answer s) where
-  pub has_root : (r : Float) → a ≡ Root r → r ≡ rooted_or s (root_answer s)
+module _ (s : Float) (a : Result Float Refusal) (e : a ≡ root_answer s) where
+  pub has_root : (r : Float) → a ≡ Ok r → r ≡ rooted_or s (root_answer s)
   unfolding rooted_or
   has_root r h = rw (← e, h)
 
-  pub has_no_root : (why : Refusal) → a ≡ Refused why → s ≡ rooted_or s (root_answer s)
+  pub has_no_root : (why : Refusal) → a ≡ Err why → s ≡ rooted_or s (root_answer s)
   unfolding rooted_or
   has_no_root why h = rw (← e, h)
 
@@ -81,10 +78,10 @@ module _ (x y z l : Float) (e : l ≡ length_of x y z) where
 
 -- ---- the slopes
 
-module _ (size : Float) (key : ℕ) (d : Float) (sum : Slopes) (k : ℕ) (s : Stored) where
+module _ (size : Float) (key : ℕ) (d : Float) (sum : Slopes) (k : ℕ) (s : Option Float) where
   pub slopes_stored :
       (dn : Float) (c1 c2 : Coords) (x y z : Metres)
-      → s ≡ Distance dn
+      → s ≡ Some dn
       → c1 ≡ coords_of key
       → c2 ≡ coords_of k
       → x.0 ≡ step_of size c1.x c2.x
@@ -101,13 +98,13 @@ module _ (size : Float) (key : ℕ) (d : Float) (sum : Slopes) (k : ℕ) (s : St
   slopes_stored dn c1 c2 x y z es e1 e2 ex ey ez = rw (es, ex, ey, ez, e1, e2)
 
 -- one neighbour adds at most one to the count
-count_with : (size : Float) (key : ℕ) (d : Float) (sum : Slopes) (k : ℕ) (s : Stored) → (slopes_with size key d sum k s).count ≤ sum.count + 1
+count_with : (size : Float) (key : ℕ) (d : Float) (sum : Slopes) (k : ℕ) (s : Option Float) → (slopes_with size key d sum k s).count ≤ sum.count + 1
 unfolding slopes_with
-count_with size key d sum k (Distance dn) = omega arith
-count_with size key d sum k Absent = omega arith
+count_with size key d sum k (Some dn) = omega arith
+count_with size key d sum k None = omega arith
 
 pub count_more :
-    (size : Float) (key : ℕ) (d : Float) (sum sum' : Slopes) (k : ℕ) (s : Stored) (i : ℕ)
+    (size : Float) (key : ℕ) (d : Float) (sum sum' : Slopes) (k : ℕ) (s : Option Float) (i : ℕ)
     → sum' ≡ slopes_with size key d sum k s
     → sum.count ≤ i
     → sum'.count ≤ i + 1
@@ -120,7 +117,7 @@ near_list key n e = (ap (λ (x : Near). x.keys) e, ap (λ (x : Near). x.count) e
 module _ (look : Lookup) (size : Float) (key : ℕ) (d : Float) (ks list : List ℕ) (listed : list ≡ padded 0 14 ks) where
   -- one neighbour more, by the one that stands at place i of the list
   pub slopes_more :
-      (sum sum' : Slopes) (s : Stored) (i : ℕ)
+      (sum sum' : Slopes) (s : Option Float) (i : ℕ)
       → i < length ks
       → s ≡ look (get_or list i 0)
       → sum' ≡ slopes_with size key d sum (get_or list i 0) s
@@ -149,14 +146,14 @@ module _ (sum : Slopes) where
   unfolding mean_of
   mean_some h = rw (ne_eqb sum.count 0 h)
 
-module _ (look : Lookup) (size : Float) (key : ℕ) (s : Stored) (e : s ≡ look key) where
-  pub normal_none : s ≡ Absent → no_normal ≡ normal_by look size key (look key)
+module _ (look : Lookup) (size : Float) (key : ℕ) (s : Option Float) (e : s ≡ look key) where
+  pub normal_none : s ≡ None → no_normal ≡ normal_by look size key (look key)
   unfolding normal_by
   normal_none h = rw (← e, h)
 
   pub normal_some :
       (d : Float) (sum : Slopes)
-      → s ≡ Distance d
+      → s ≡ Some d
       → slopes_from look size key d no_slopes (neighbours key) ≡ sum
       → mean_of sum ≡ normal_by look size key (look key)
   unfolding normal_by

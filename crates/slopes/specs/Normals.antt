@@ -1,19 +1,16 @@
 -- Normals: `compute_normal` at a cell, over all stored neighbours in their order, whatever their weights.
-use Rattle.std.specs.Prelude.{ℕ, ◌+◌, cond, List, [], ◌∷◌, map, eqb, pos, Float}
+use Rattle.std.specs.Prelude.{ℕ, ◌+◌, cond, List, [], ◌∷◌, map, eqb, pos, Float, Ok, Err, Some, None, Option, Result}
 use Rattle.std.specs.Float.{binary32}
 use Rattle.std.specs.Float.Ieee.{add, sub, mul, div, lt, of_int}
 use Rattle.floats.specs.Floats.{zero32}
 use Rattle.ids.specs.Key.{x_of, y_of, z_of}
 use Rattle.neighbors.specs.Neighbors.{neighbours}
 use Rattle.root.specs.Root.{root_answer}
-use Rattle.root.specs.declared.Rooted.{Rooted}
-use Rattle.root.specs.declared.Rooted.TheVariants.{Root, Refused}
 use Rattle.slopes.specs.declared.Normal.{Normal}
 use Rattle.slopes.specs.declared.Slopes.{Slopes}
-use Rattle.slopes.specs.declared.Stored.{Stored}
-use Rattle.slopes.specs.declared.Stored.TheVariants.{Distance, Absent}
 use Rattle.slopes.specs.Stored.{Lookup}
 use Rattle.slopes.specs.Vertices.{tiny}
+use Rattle.refusals.specs.declared.Refusal.{Refusal}
 
 abbrev pub normal : Float → Float → Float → Normal
 normal x y z = record { x = x; y = y; z = z }
@@ -23,9 +20,9 @@ abbrev pub no_normal : Normal
 no_normal = normal zero32 zero32 zero32
 
 -- what has a root by its root; what has none stays
-unfoldable pub rooted_or : Float → Rooted → Float
-rooted_or x (Root r) = r
-rooted_or x (Refused why) = x
+unfoldable pub rooted_or : Float → Result Float Refusal → Float
+rooted_or x (Ok r) = r
+rooted_or x (Err why) = x
 
 -- x² + y² + z²
 abbrev pub squares : Float → Float → Float → Float
@@ -52,8 +49,8 @@ abbrev pub no_slopes : Slopes
 no_slopes = record { x = zero32; y = zero32; z = zero32; count = 0 }
 
 -- one neighbour more, where it is stored: its distance less the cell's, times the step to it
-unfoldable pub slopes_with : Float → ℕ → Float → Slopes → ℕ → Stored → Slopes
-slopes_with size key d sum k (Distance dn) =
+unfoldable pub slopes_with : Float → ℕ → Float → Slopes → ℕ → Option Float → Slopes
+slopes_with size key d sum k (Some dn) =
     let dd = sub binary32 dn d in
     record {
       x = add binary32 sum.x (mul binary32 dd (step_of size (x_of key) (x_of k)));
@@ -61,7 +58,7 @@ slopes_with size key d sum k (Distance dn) =
       z = add binary32 sum.z (mul binary32 dd (step_of size (z_of key) (z_of k)));
       count = sum.count + 1;
     }
-slopes_with size key d sum k Absent = sum
+slopes_with size key d sum k None = sum
 
 -- some neighbours more, in order
 unfoldable pub slopes_from : Lookup → Float → ℕ → Float → Slopes → List ℕ → Slopes
@@ -77,10 +74,10 @@ mean_of sum =
     cond (eqb sum.count 0) no_normal (direction_of (div binary32 sum.x n) (div binary32 sum.y n) (div binary32 sum.z n))
 
 -- the normal at a cell by what is stored of it; none at a cell that is not stored
-unfoldable pub normal_by : Lookup → Float → ℕ → Stored → Normal
+unfoldable pub normal_by : Lookup → Float → ℕ → Option Float → Normal
 unfolding slopes_from mean_of
-normal_by look size key (Distance d) = mean_of (slopes_from look size key d no_slopes (neighbours key))
-normal_by look size key Absent = no_normal
+normal_by look size key (Some d) = mean_of (slopes_from look size key d no_slopes (neighbours key))
+normal_by look size key None = no_normal
 
 -- the normal at a cell
 abbrev pub normal_at : Lookup → Float → ℕ → Normal

@@ -9,15 +9,6 @@ ghost use Rattle.slopes.specs.Normals.{length_of, direction_of, step_of, slopes_
 
 use floats::Metres;
 use ids::Cells;
-use root::Rooted;
-use search::Found;
-
-// What is stored of a cell.
-#[derive(Clone, Copy)]
-pub enum Stored {
-    Distance(f32),
-    Absent,
-}
 
 // A vertex's place.
 #[derive(Clone, Copy)]
@@ -45,26 +36,26 @@ struct Slopes {
 }
 
 // The distance of a cell, by halving the first `count` keys.
-pub fn distance_of(keys: &[u64], distances: &[f32], count: usize, key: u64) -> Stored
+pub fn distance_of(keys: &[u64], distances: &[f32], count: usize, key: u64) -> Option<f32>
     ensures { result ≡ distance_by keys.now distances.now count key }
 {
-    let Found::At(place) = search::find_row(keys, count, key) else {
-        return Stored::Absent;
+    let Some(place) = search::find_row(keys, count, key) else {
+        return None;
     };
     if place < distances.len() {
-        Stored::Distance(distances[place])
+        Some(distances[place])
     } else {
-        Stored::Absent
+        None
     }
 }
 
 // The distance, 0 where none is stored.
-fn or_zero(stored: Stored) -> f32
+fn or_zero(stored: Option<f32>) -> f32
     ensures { result ≡ or_zero stored }
 {
     match stored {
-        Stored::Distance(d) => d,
-        Stored::Absent => 0.0,
+        Some(d) => d,
+        None => 0.0,
     }
 }
 
@@ -106,8 +97,8 @@ pub fn length(x: f32, y: f32, z: f32) -> f32
 {
     let squares = x * x + y * y + z * z;
     match root::root(squares) {
-        Rooted::Root(r) => r,
-        Rooted::Refused(_) => squares,
+        Ok(r) => r,
+        Err(_) => squares,
     }
 }
 
@@ -145,12 +136,12 @@ fn slopes_with(
     d: f32,
     sum: Slopes,
     neighbour: u64,
-    stored: Stored,
+    stored: Option<f32>,
 ) -> Slopes
     requires { sum.count < 65535 }
     ensures { result ≡ slopes_with voxel_size.0 key d sum neighbour stored }
 {
-    let Stored::Distance(other) = stored else {
+    let Some(other) = stored else {
         return sum;
     };
     let c1 = ids::morton_decode(key);
@@ -189,7 +180,7 @@ pub fn compute_normal(
 ) -> Normal
     ensures { result ≡ normal_at (distance_by keys.now distances.now count) voxel_size.0 key }
 {
-    let Stored::Distance(d) = distance_of(keys, distances, count, key) else {
+    let Some(d) = distance_of(keys, distances, count, key) else {
         return Normal {
             x: 0.0,
             y: 0.0,
@@ -205,12 +196,10 @@ pub fn compute_normal(
         z: 0.0,
         count: 0,
     };
-    let mut i = 0;
-    while i < n {
+    for i in 0..n {
         let k = list[i];
         let stored = distance_of(keys, distances, count, k);
         sum = slopes_with(voxel_size, key, d, sum, k, stored);
-        i += 1;
     }
     mean_of(sum)
 }

@@ -1,5 +1,6 @@
 -- What each answer means: tests passed, and what the lent lists hold by it.
 -- Assumes nothing.
+use Rattle.std.specs.Prelude.{Ok, Err, Result}
 use Prim.Native.Nat.{ℕ, ◌+◌, ◌-◌, ◌*◌, ◌<◌, ◌≤◌, zero-le}
 use native.Mathlib.Nat.{not-suc-le-zero, min-eq_left}
 use native.Mathlib.Omega.{arith}
@@ -18,8 +19,6 @@ use Rattle.refusals.specs.declared.Refusal.TheVariants.{Lengths, NoPlace, BadVer
 use Rattle.lists.specs.Padding.{padded}
 use Rattle.lists.specs.Places.{zero_f, cleared_from}
 use Rattle.lists.specs.Listing.{room_for, count_of, held_for}
-use Rattle.lists.specs.declared.Listed.{Listed}
-use Rattle.lists.specs.declared.Listed.TheVariants.{Count, Refused}
 use Rattle.lists.proofs.Bools.{yes, and_first, and_second, or_second}
 use Rattle.lists.proofs.Writing.{sets_front, cleared_whole}
 use Rattle.slopes.specs.declared.Vertex.{Vertex}
@@ -57,45 +56,45 @@ zeros_clear l n h =
 
 -- What a list holds by its answer: written from the front and cleared from the count, or cleared throughout.
 module _ {A : Type 0} (v : A) (l l' xs : List A) (long : length l' ≡ length l) where
-  pub held_by : (answer : Listed)
-      → ((n : ℕ) → answer ≡ Count n → (n ≡ length xs) × (n ≤ length l) × (l' ≡ sets l 0 xs))
+  pub held_by : (answer : Result ℕ Refusal)
+      → ((n : ℕ) → answer ≡ Ok n → (n ≡ length xs) × (n ≤ length l) × (l' ≡ sets l 0 xs))
       → cleared_from v (count_of answer) l' ≡ held_for v answer (length l) xs
   unfolding held_for padded
-  held_by (Count n) f =
+  held_by (Ok n) f =
       let k = f n refl in
       let front : take n l' ≡ xs = rw (k.2, k.0) (sets_front l xs (rw (← k.0) k.1)) in
       rw (front, long, k.0)
-  held_by (Refused why) f = cleared_whole v l' ∙ rw long
+  held_by (Err why) f = cleared_whole v l' ∙ rw long
 
 -- ---- answers that count
 
-pub never : (why : Refusal) (n : ℕ) → Refused why ≡ Count n → ⊥
+pub never : (why : Refusal) (n : ℕ) → Err why ≡ Ok n → ⊥
 never why n e = let z : ◌≡◌ {A = ℕ} 0 1 = cc in omega arith
 
-pub passed_if : (b : Bool) (x : Listed) (why : Refusal) (k : ℕ) → cond b x (Refused why) ≡ Count k → (b ≡ true) × (x ≡ Count k)
+pub passed_if : (b : Bool) (x : Result ℕ Refusal) (why : Refusal) (k : ℕ) → cond b x (Err why) ≡ Ok k → (b ≡ true) × (x ≡ Ok k)
 passed_if true x why k e = (refl, e)
 passed_if false x why k e = absurd (never why k e)
 
-pub passed_unless : (b : Bool) (x : Listed) (why : Refusal) (k : ℕ) → cond b (Refused why) x ≡ Count k → (b ≡ false) × (x ≡ Count k)
+pub passed_unless : (b : Bool) (x : Result ℕ Refusal) (why : Refusal) (k : ℕ) → cond b (Err why) x ≡ Ok k → (b ≡ false) × (x ≡ Ok k)
 passed_unless true x why k e = absurd (never why k e)
 passed_unless false x why k e = (refl, e)
 
-counts : (n k : ℕ) → Count n ≡ Count k → k ≡ n
+counts : (n k : ℕ) → Ok n ≡ Ok k → k ≡ n
 counts n k e = cc
 
-room_counted : (n room k : ℕ) → room_for n room ≡ Count k → (n ≤ room) × (k ≡ n)
+room_counted : (n room k : ℕ) → room_for n room ≡ Ok k → (n ≤ room) × (k ≡ n)
 room_counted n room k e =
-    let p = passed_if (leb n room) (Count n) NoPlace k e in
+    let p = passed_if (leb n room) (Ok n) NoPlace k e in
     (leb-true n room p.0, counts n k p.1)
 
-some_counted : {P : Type 0} (answer : Listed) → 0 < count_of answer → ((k : ℕ) → answer ≡ Count k → P) → P
-some_counted (Count k) h f = f k refl
-some_counted (Refused why) h f = absurd (not-suc-le-zero h)
+some_counted : {P : Type 0} (answer : Result ℕ Refusal) → 0 < count_of answer → ((k : ℕ) → answer ≡ Ok k → P) → P
+some_counted (Ok k) h f = f k refl
+some_counted (Err why) h f = absurd (not-suc-le-zero h)
 
 -- at most what is counted, where it is
-count_most : (answer : Listed) (most : ℕ) → ((k : ℕ) → answer ≡ Count k → k ≤ most) → count_of answer ≤ most
-count_most (Count k) most f = f k refl
-count_most (Refused why) most f = zero-le
+count_most : (answer : Result ℕ Refusal) (most : ℕ) → ((k : ℕ) → answer ≡ Ok k → k ≤ most) → count_of answer ≤ most
+count_most (Ok k) most f = f k refl
+count_most (Err why) most f = zero-le
 
 module _ (xs ys zs : List Float) (n : ℕ) (is js ks : List ℕ) (m room : ℕ) where
   -- the lengths of all lent lists pass
@@ -112,7 +111,7 @@ module _ (xs ys zs : List Float) (n : ℕ) (is js ks : List ℕ) (m room : ℕ) 
       )
 
   -- a mesh that is written passes every test and has room, and its length is counted
-  pub export_counted : (k : ℕ) → export_answer xs ys zs n is js ks m room ≡ Count k → Writable xs ys zs n is js ks m room × (k ≡ 84 + 50 * m)
+  pub export_counted : (k : ℕ) → export_answer xs ys zs n is js ks m room ≡ Ok k → Writable xs ys zs n is js ks m room × (k ≡ 84 + 50 * m)
   unfolding export_answer
   export_counted k e =
       let p = passed_if sets_fit _ Lengths k e in
@@ -135,7 +134,7 @@ module _ (xs ys zs : List Float) (n : ℕ) (is js ks : List ℕ) (m room : ℕ) 
   counted_writable h = some_counted (export_answer xs ys zs n is js ks m room) h (λ k e. (export_counted k e).0)
 
   -- and where none are counted, none is written
-  pub none_counted : (c : ℕ) → c ≡ count_of (export_answer xs ys zs n is js ks m room) → c ≤ 0 → (k : ℕ) → export_answer xs ys zs n is js ks m room ≡ Count k → ⊥
+  pub none_counted : (c : ℕ) → c ≡ count_of (export_answer xs ys zs n is js ks m room) → c ≤ 0 → (k : ℕ) → export_answer xs ys zs n is js ks m room ≡ Ok k → ⊥
   none_counted c e h k g =
       let w = export_counted k g in
       let same : c ≡ k = e ∙ ap count_of g in
@@ -150,7 +149,7 @@ module _ (xs ys zs : List Float) (n : ℕ) (is js ks : List ℕ) (m room : ℕ) 
       → length l ≡ room
       → c ≡ count_of (export_answer xs ys zs n is js ks m room)
       → length l' ≡ length l
-      → ((k : ℕ) → export_answer xs ys zs n is js ks m room ≡ Count k → l' ≡ sets l 0 (file_of (facets_lent xs ys zs n is js ks m)))
+      → ((k : ℕ) → export_answer xs ys zs n is js ks m room ≡ Ok k → l' ≡ sets l 0 (file_of (facets_lent xs ys zs n is js ks m)))
       → l'' ≡ sets l' c (zeros (length l' - c))
       → l'' ≡ held_for 0 (export_answer xs ys zs n is js ks m room) (length l) (file_of (facets_lent xs ys zs n is js ks m))
   export_held l l' l'' c e ec long f z =
@@ -180,7 +179,7 @@ module _ (file : List ℕ) where
 
 -- a file that is read is as long as its count says, its corners pass, and they have room in three equal lists
 pub record Readable (file : List ℕ) (a b c k : ℕ) : Type 0 where
-  pub stated : stated_for file a b c ≡ Count (stated_in file)
+  pub stated : stated_for file a b c ≡ Ok (stated_in file)
   pub long : length file ≡ 84 + 50 * stated_in file
   pub passed : every vertex_ok (corners_of (facets_in file)) ≡ true
   pub second : b ≡ a
@@ -194,7 +193,7 @@ module _ (file : List ℕ) (a b c : ℕ) where
   lists_fit = file_fits (length file) && set_ok a b c 0
 
   -- what the file states, where it is not refused for a length
-  stated_right : (n : ℕ) → stated_for file a b c ≡ Count n → (lists_fit ≡ true) × (length_bad file ≡ false) × (n ≡ stated_in file)
+  stated_right : (n : ℕ) → stated_for file a b c ≡ Ok n → (lists_fit ≡ true) × (length_bad file ≡ false) × (n ≡ stated_in file)
   unfolding stated_for
   stated_right n e =
       let p = passed_if lists_fit _ Lengths n e in
@@ -205,30 +204,30 @@ module _ (file : List ℕ) (a b c : ℕ) where
   pub stated_asks : (n : ℕ) → n ≡ count_of (stated_for file a b c) → (50 * n ≤ length file - 84) × (n ≤ 1048576)
   stated_asks n e = asks (stated_for file a b c) e stated_right
     where
-      asks : (x : Listed)
+      asks : (x : Result ℕ Refusal)
           → n ≡ count_of x
-          → ((k : ℕ) → x ≡ Count k → (lists_fit ≡ true) × (length_bad file ≡ false) × (k ≡ stated_in file))
+          → ((k : ℕ) → x ≡ Ok k → (lists_fit ≡ true) × (length_bad file ≡ false) × (k ≡ stated_in file))
           → (50 * n ≤ length file - 84) × (n ≤ 1048576)
-      asks (Count k) e f =
+      asks (Ok k) e f =
           let r = f k refl in
           let long = right_long file r.1 in
           let most = leb-true (length file) 52428884 (and_first _ _ r.0) in
           (omega (arith, e, r.2), omega (arith, e, r.2))
-      asks (Refused why) e f = rw e (zero-le, zero-le)
+      asks (Err why) e f = rw e (zero-le, zero-le)
 
   -- ---- the answer
 
   abbrev passes : ℕ → Bool
   passes n = every vertex_ok (corners_of (facets_from n file 84))
 
-  turned : (e : Bool) (x : Listed) → cond (not e) (Refused BadVertex) x ≡ cond e x (Refused BadVertex)
+  turned : (e : Bool) (x : Result ℕ Refusal) → cond (not e) (Err BadVertex) x ≡ cond e x (Err BadVertex)
   turned true x = refl
   turned false x = refl
 
   in_order : (p q : Bool)
-      → cond p (cond q (Refused BadLength) (cond (not (passes (stated_in file))) (Refused BadVertex) (room_for (3 * stated_in file) a))) (Refused Lengths)
-      ≡ read_answer (cond p (cond q (Refused BadLength) (Count (stated_in file))) (Refused Lengths))
-      (passes (count_of (cond p (cond q (Refused BadLength) (Count (stated_in file))) (Refused Lengths)))) a
+      → cond p (cond q (Err BadLength) (cond (not (passes (stated_in file))) (Err BadVertex) (room_for (3 * stated_in file) a))) (Err Lengths)
+      ≡ read_answer (cond p (cond q (Err BadLength) (Ok (stated_in file))) (Err Lengths))
+      (passes (count_of (cond p (cond q (Err BadLength) (Ok (stated_in file))) (Err Lengths)))) a
   unfolding read_answer
   in_order true true = refl
   in_order true false = turned (passes (stated_in file)) _
@@ -239,7 +238,7 @@ module _ (file : List ℕ) (a b c : ℕ) where
   unfolding import_answer stated_for
   import_is = in_order lists_fit (length_bad file)
 
-  pub import_answered : (x : Listed) (m : ℕ) (r : Bool) (room : ℕ) (answer : Listed)
+  pub import_answered : (x : Result ℕ Refusal) (m : ℕ) (r : Bool) (room : ℕ) (answer : Result ℕ Refusal)
       → x ≡ stated_for file a b c
       → m ≡ count_of (stated_for file a b c)
       → r ≡ passes m
@@ -250,7 +249,7 @@ module _ (file : List ℕ) (a b c : ℕ) where
       let same : r ≡ passes (count_of x) = er ∙ ap passes (em ∙ ap count_of (sym ex)) in
       rw (import_is, ← ex, ← e) (h ∙ ap (λ (b : Bool). read_answer x b room) same)
 
-  pub import_counted : (k : ℕ) → import_answer file a b c ≡ Count k → Readable file a b c k
+  pub import_counted : (k : ℕ) → import_answer file a b c ≡ Ok k → Readable file a b c k
   unfolding import_answer stated_for
   import_counted k e =
       let p = passed_if lists_fit _ Lengths k e in

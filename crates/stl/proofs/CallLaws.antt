@@ -1,5 +1,6 @@
 -- What a caller of both calls has: a mesh that was written, read, given room, gives its corners again bit for bit.
 -- Assumes nothing.
+use Rattle.std.specs.Prelude.{Ok}
 use Prim.Native.Nat.{ℕ, zero, suc, ◌+◌, ◌*◌, ◌^◌, ◌<◌, ◌≤◌, zero-le}
 use native.Mathlib.Omega.{arith}
 use mathlib.Core.Path.{◌≡◌, refl, sym, ap, ◌∙◌}
@@ -13,7 +14,6 @@ use lib.Ieee.Bits.{of_bits-fits}
 use Rattle.lists.specs.Beside.{beside_by}
 use Rattle.lists.specs.Lists.{joined, All}
 use Rattle.lists.specs.Listing.{held_for}
-use Rattle.lists.specs.declared.Listed.TheVariants.{Count}
 use Rattle.lists.proofs.Bools.{and_eq}
 use Rattle.lists.proofs.PaddingLaws.{padded_front}
 use Rattle.floats.specs.Floats.{zero32}
@@ -65,7 +65,7 @@ corners_pass vs (t ∷ ts) h =
 
 -- ---- a mesh that was written
 
-module _ (xs ys zs : List Float) (n : ℕ) (is js ks : List ℕ) (m room k : ℕ) (e : export_answer xs ys zs n is js ks m room ≡ Count k) where
+module _ (xs ys zs : List Float) (n : ℕ) (is js ks : List ℕ) (m room k : ℕ) (e : export_answer xs ys zs n is js ks m room ≡ Ok k) where
   abbrev fs : List Facet
   fs = facets_lent xs ys zs n is js ks m
 
@@ -101,7 +101,7 @@ module _ (xs ys zs : List Float) (n : ℕ) (is js ks : List ℕ) (m room k : ℕ
     corners_back = file_back fs few binary
 
     -- Given room, it is not turned away.
-    pub taken_back : (a : ℕ) → 3 * m ≤ a → a ≤ 1048576 → import_answer (file_of fs) a a a ≡ Count (3 * m)
+    pub taken_back : (a : ℕ) → 3 * m ≤ a → a ≤ 1048576 → import_answer (file_of fs) a a a ≡ Ok (3 * m)
     unfolding import_answer
     taken_back a h g =
         let w = export_counted xs ys zs n is js ks m room k e in

@@ -1,5 +1,6 @@
 -- When a mesh or a file is refused, exactly: with 11, with 10 and with 6, each in both directions.
 -- Assumes nothing.
+use Rattle.std.specs.Prelude.{Ok, Err, Result}
 use Prim.Native.Nat.{ℕ, ◌+◌, ◌*◌, ◌<◌}
 use native.Mathlib.Omega.{arith}
 use mathlib.Core.Path.{◌≡◌, refl, sym, ap, ◌∙◌}
@@ -16,8 +17,6 @@ use Rattle.refusals.specs.declared.Refusal.{Refusal}
 use Rattle.refusals.specs.declared.Refusal.TheVariants.{Lengths, NoPlace, BadVertex, BadLength}
 use Rattle.lists.specs.Lists.{◌∈◌}
 use Rattle.lists.specs.Listing.{listed_number}
-use Rattle.lists.specs.declared.Listed.{Listed}
-use Rattle.lists.specs.declared.Listed.TheVariants.{Count, Refused}
 use Rattle.lists.proofs.Bools.{yes, no, cases, and_first, and_second, or_cases}
 use Rattle.floats.proofs.Values.{le_or_lt}
 use Rattle.corners.specs.Corners.{every, vertex_ok, vertices_in, triangle_ok, triangles_in}
@@ -73,57 +72,57 @@ fails_either f l g m (inr p) = rw (fails_not g m p) (and_none (every f l))
 
 -- ---- answers by their tests, in order
 
-other : (why why' : Refusal) → number_of why < number_of why' → Refused why ≡ Refused why' → ⊥
+other : (why why' : Refusal) → number_of why < number_of why' → Err why ≡ Err why' → ⊥
 other why why' h e = let same : number_of why ≡ number_of why' = ap listed_number e in omega arith
 
 -- a mesh is tested for lengths, for vertices and for room
-abbrev mesh_ladder : Bool → Bool → Bool → ℕ → Listed
-mesh_ladder a b c n = cond a (cond b (cond c (Count n) (Refused NoPlace)) (Refused BadVertex)) (Refused Lengths)
+abbrev mesh_ladder : Bool → Bool → Bool → ℕ → Result ℕ Refusal
+mesh_ladder a b c n = cond a (cond b (cond c (Ok n) (Err NoPlace)) (Err BadVertex)) (Err Lengths)
 
-mesh_2 : (a b c : Bool) (n : ℕ) → (mesh_ladder a b c n ≡ Refused Lengths) ↔ (a ≡ false)
+mesh_2 : (a b c : Bool) (n : ℕ) → (mesh_ladder a b c n ≡ Err Lengths) ↔ (a ≡ false)
 mesh_2 false b c n = (λ e. refl, λ e. refl)
 mesh_2 true true true n = (λ e. absurd (never Lengths n (sym e)), λ e. absurd (true≢false e))
 mesh_2 true true false n = (λ e. absurd (other Lengths NoPlace (lit< tt) (sym e)), λ e. absurd (true≢false e))
 mesh_2 true false c n = (λ e. absurd (other Lengths BadVertex (lit< tt) (sym e)), λ e. absurd (true≢false e))
 
-mesh_10 : (a b c : Bool) (n : ℕ) → (mesh_ladder a b c n ≡ Refused BadVertex) ↔ ((a ≡ true) × (b ≡ false))
+mesh_10 : (a b c : Bool) (n : ℕ) → (mesh_ladder a b c n ≡ Err BadVertex) ↔ ((a ≡ true) × (b ≡ false))
 mesh_10 false b c n = (λ e. absurd (other Lengths BadVertex (lit< tt) e), λ p. absurd (false≢true p.0))
 mesh_10 true true true n = (λ e. absurd (never BadVertex n (sym e)), λ p. absurd (true≢false p.1))
 mesh_10 true true false n = (λ e. absurd (other NoPlace BadVertex (lit< tt) e), λ p. absurd (true≢false p.1))
 mesh_10 true false c n = (λ e. (refl, refl), λ p. refl)
 
-mesh_6 : (a b c : Bool) (n : ℕ) → (mesh_ladder a b c n ≡ Refused NoPlace) ↔ ((a ≡ true) × (b ≡ true) × (c ≡ false))
+mesh_6 : (a b c : Bool) (n : ℕ) → (mesh_ladder a b c n ≡ Err NoPlace) ↔ ((a ≡ true) × (b ≡ true) × (c ≡ false))
 mesh_6 false b c n = (λ e. absurd (other Lengths NoPlace (lit< tt) e), λ p. absurd (false≢true p.0))
 mesh_6 true true true n = (λ e. absurd (never NoPlace n (sym e)), λ p. absurd (true≢false p.2))
 mesh_6 true true false n = (λ e. (refl, refl, refl), λ p. refl)
 mesh_6 true false c n = (λ e. absurd (other NoPlace BadVertex (lit< tt) (sym e)), λ p. absurd (false≢true p.1))
 
 -- a file is tested for lengths, for its own length, and then as a mesh is
-abbrev file_ladder : Bool → Bool → Bool → Bool → ℕ → Listed
-file_ladder a l v c n = cond a (cond l (Refused BadLength) (cond v (Refused BadVertex) (cond c (Count n) (Refused NoPlace)))) (Refused Lengths)
+abbrev file_ladder : Bool → Bool → Bool → Bool → ℕ → Result ℕ Refusal
+file_ladder a l v c n = cond a (cond l (Err BadLength) (cond v (Err BadVertex) (cond c (Ok n) (Err NoPlace)))) (Err Lengths)
 
-file_2 : (a l v c : Bool) (n : ℕ) → (file_ladder a l v c n ≡ Refused Lengths) ↔ (a ≡ false)
+file_2 : (a l v c : Bool) (n : ℕ) → (file_ladder a l v c n ≡ Err Lengths) ↔ (a ≡ false)
 file_2 false l v c n = (λ e. refl, λ e. refl)
 file_2 true true v c n = (λ e. absurd (other Lengths BadLength (lit< tt) (sym e)), λ e. absurd (true≢false e))
 file_2 true false true c n = (λ e. absurd (other Lengths BadVertex (lit< tt) (sym e)), λ e. absurd (true≢false e))
 file_2 true false false true n = (λ e. absurd (never Lengths n (sym e)), λ e. absurd (true≢false e))
 file_2 true false false false n = (λ e. absurd (other Lengths NoPlace (lit< tt) (sym e)), λ e. absurd (true≢false e))
 
-file_11 : (a l v c : Bool) (n : ℕ) → (file_ladder a l v c n ≡ Refused BadLength) ↔ ((a ≡ true) × (l ≡ true))
+file_11 : (a l v c : Bool) (n : ℕ) → (file_ladder a l v c n ≡ Err BadLength) ↔ ((a ≡ true) × (l ≡ true))
 file_11 false l v c n = (λ e. absurd (other Lengths BadLength (lit< tt) e), λ p. absurd (false≢true p.0))
 file_11 true true v c n = (λ e. (refl, refl), λ p. refl)
 file_11 true false true c n = (λ e. absurd (other BadVertex BadLength (lit< tt) e), λ p. absurd (false≢true p.1))
 file_11 true false false true n = (λ e. absurd (never BadLength n (sym e)), λ p. absurd (false≢true p.1))
 file_11 true false false false n = (λ e. absurd (other NoPlace BadLength (lit< tt) e), λ p. absurd (false≢true p.1))
 
-file_10 : (a l v c : Bool) (n : ℕ) → (file_ladder a l v c n ≡ Refused BadVertex) ↔ ((a ≡ true) × (l ≡ false) × (v ≡ true))
+file_10 : (a l v c : Bool) (n : ℕ) → (file_ladder a l v c n ≡ Err BadVertex) ↔ ((a ≡ true) × (l ≡ false) × (v ≡ true))
 file_10 false l v c n = (λ e. absurd (other Lengths BadVertex (lit< tt) e), λ p. absurd (false≢true p.0))
 file_10 true true v c n = (λ e. absurd (other BadVertex BadLength (lit< tt) (sym e)), λ p. absurd (true≢false p.1))
 file_10 true false true c n = (λ e. (refl, refl, refl), λ p. refl)
 file_10 true false false true n = (λ e. absurd (never BadVertex n (sym e)), λ p. absurd (false≢true p.2))
 file_10 true false false false n = (λ e. absurd (other NoPlace BadVertex (lit< tt) e), λ p. absurd (false≢true p.2))
 
-file_6 : (a l v c : Bool) (n : ℕ) → (file_ladder a l v c n ≡ Refused NoPlace) ↔ ((a ≡ true) × (l ≡ false) × (v ≡ false) × (c ≡ false))
+file_6 : (a l v c : Bool) (n : ℕ) → (file_ladder a l v c n ≡ Err NoPlace) ↔ ((a ≡ true) × (l ≡ false) × (v ≡ false) × (c ≡ false))
 file_6 false l v c n = (λ e. absurd (other Lengths NoPlace (lit< tt) e), λ p. absurd (false≢true p.0))
 file_6 true true v c n = (λ e. absurd (other NoPlace BadLength (lit< tt) (sym e)), λ p. absurd (true≢false p.1))
 file_6 true false true c n = (λ e. absurd (other NoPlace BadVertex (lit< tt) (sym e)), λ p. absurd (true≢false p.2))
@@ -144,11 +143,11 @@ module _ (xs ys zs : List Float) (n : ℕ) (is js ks : List ℕ) (m room : ℕ) 
   ladder = refl
 
   -- 2: exactly when the lengths don't pass
-  pub export_lengths : (export_answer xs ys zs n is js ks m room ≡ Refused Lengths) ↔ (lengths ≡ false)
+  pub export_lengths : (export_answer xs ys zs n is js ks m room ≡ Err Lengths) ↔ (lengths ≡ false)
   export_lengths = rw ladder (mesh_2 lengths passes (leb (84 + 50 * m) room) (84 + 50 * m))
 
   -- 10: exactly when they pass, and some vertex is out of range or some triangle names no vertex
-  pub export_vertex : (export_answer xs ys zs n is js ks m room ≡ Refused BadVertex) ↔
+  pub export_vertex : (export_answer xs ys zs n is js ks m room ≡ Err BadVertex) ↔
       ((lengths ≡ true) × (Fails vertex_ok (vertices_in xs ys zs n) ⊎ Fails (triangle_ok n) (triangles_in is js ks m)))
   export_vertex =
       rw ladder
@@ -158,7 +157,7 @@ module _ (xs ys zs : List Float) (n : ℕ) (is js ks : List ℕ) (m room : ℕ) 
       ))
 
   -- 6: exactly when all pass, and the file is shorter than 84 + 50 for each triangle
-  pub export_room : (export_answer xs ys zs n is js ks m room ≡ Refused NoPlace) ↔
+  pub export_room : (export_answer xs ys zs n is js ks m room ≡ Err NoPlace) ↔
       ((lengths ≡ true) × (every vertex_ok (vertices_in xs ys zs n) && every (triangle_ok n) (triangles_in is js ks m) ≡ true) × (room < 84 + 50 * m))
   export_room =
       rw ladder
@@ -178,7 +177,7 @@ module _ (file : List ℕ) (a b c : ℕ) where
   steps = refl
 
   -- 2: exactly when the lengths don't pass
-  pub import_lengths : (import_answer file a b c ≡ Refused Lengths) ↔ (lists ≡ false)
+  pub import_lengths : (import_answer file a b c ≡ Err Lengths) ↔ (lists ≡ false)
   import_lengths = rw steps (file_2 lists (length_bad file) (corners_bad file) (leb (3 * stated_in file) a) (3 * stated_in file))
 
   bad_length : length_bad file ≡ true → (length file < 84) ⊎ (length file ≡ 84 + 50 * stated_in file → ⊥)
@@ -193,14 +192,14 @@ module _ (file : List ℕ) (a b c : ℕ) where
   length_bad_lem (inr f) = ⊎_elim (λ h. length_other file h f) (λ h. length_short file h) (le_or_lt 84 (length file))
 
   -- 11: exactly when they pass, and the file is under 84 bytes or not 84 + 50n long for its count n
-  pub import_length : (import_answer file a b c ≡ Refused BadLength) ↔ ((lists ≡ true) × ((length file < 84) ⊎ (length file ≡ 84 + 50 * stated_in file → ⊥)))
+  pub import_length : (import_answer file a b c ≡ Err BadLength) ↔ ((lists ≡ true) × ((length file < 84) ⊎ (length file ≡ 84 + 50 * stated_in file → ⊥)))
   import_length =
       rw steps
       (let on = file_11 lists (length_bad file) (corners_bad file) (leb (3 * stated_in file) a) (3 * stated_in file) in
       (λ e. ((on.0 e).0, bad_length (on.0 e).1), λ p. on.1 (p.0, length_bad_lem p.1)))
 
   -- 10: exactly when the lengths are right, and some corner is out of range
-  pub import_vertex : (import_answer file a b c ≡ Refused BadVertex) ↔
+  pub import_vertex : (import_answer file a b c ≡ Err BadVertex) ↔
       ((lists ≡ true) × (length file ≡ 84 + 50 * stated_in file) × Fails vertex_ok (corners_of (facets_in file)))
   import_vertex =
       rw steps
@@ -210,7 +209,7 @@ module _ (file : List ℕ) (a b c : ℕ) where
       ))
 
   -- 6: exactly when the lengths are right, every corner passes, and a list has fewer places than corners
-  pub import_room : (import_answer file a b c ≡ Refused NoPlace) ↔
+  pub import_room : (import_answer file a b c ≡ Err NoPlace) ↔
       ((lists ≡ true) × (length file ≡ 84 + 50 * stated_in file) × (every vertex_ok (corners_of (facets_in file)) ≡ true) × (a < 3 * stated_in file))
   import_room =
       rw steps

@@ -1,15 +1,14 @@
 -- What the private functions of the writer and the reader promise each other.
-use Rattle.std.specs.Prelude.{ℕ, ◌+◌, ◌*◌, ◌≤◌, ◌≡◌, Bool, true, cond, ◌&&◌, List, [], ◌∷◌, leb, length, Float}
+use Rattle.std.specs.Prelude.{ℕ, ◌+◌, ◌*◌, ◌≤◌, ◌≡◌, Bool, true, cond, ◌&&◌, List, [], ◌∷◌, leb, length, Float, Ok, Err, Result}
 use Rattle.std.proofs.lemmas.List.Edits.{sets}
 use Rattle.refusals.specs.declared.Refusal.TheVariants.{Lengths, BadVertex, BadLength}
 use Rattle.lists.specs.Listing.{room_for}
-use Rattle.lists.specs.declared.Listed.{Listed}
-use Rattle.lists.specs.declared.Listed.TheVariants.{Count, Refused}
 use Rattle.floats.specs.Floats.{f32}
 use Rattle.corners.specs.Corners.{set_ok, every, vertex_ok, vertices_in, triangle_ok, triangles_in}
 use Rattle.corners.specs.Steps.{Lent}
 use Rattle.stl.specs.Files.{stated_in, length_bad}
 use Rattle.stl.specs.Calls.{file_fits}
+use Rattle.refusals.specs.declared.Refusal.{Refusal}
 
 -- a mesh that passes the tests, and room for its file
 pub record Writable (xs ys zs : List Float) (n : ℕ) (is js ks : List ℕ) (m room : ℕ) : Type 0 where
@@ -32,11 +31,11 @@ pub record ColumnRead (passed : Bool) (count : ℕ) (l xs l' : List Float) : Typ
   pub written : passed ≡ true → 3 * count ≤ length l → l' ≡ sets l 0 xs
 
 -- how many triangles a file states, or why it is refused before its corners are looked at
-unfoldable pub stated_for : List ℕ → ℕ → ℕ → ℕ → Listed
+unfoldable pub stated_for : List ℕ → ℕ → ℕ → ℕ → Result ℕ Refusal
 stated_for file a b c =
-    cond (file_fits (length file) && set_ok a b c 0) (cond (length_bad file) (Refused BadLength) (Count (stated_in file))) (Refused Lengths)
+    cond (file_fits (length file) && set_ok a b c 0) (cond (length_bad file) (Err BadLength) (Ok (stated_in file))) (Err Lengths)
 
 -- what is answered by it, whether the corners passed, and the places of a list
-unfoldable pub read_answer : Listed → Bool → ℕ → Listed
-read_answer (Count n) passed room = cond passed (room_for (3 * n) room) (Refused BadVertex)
-read_answer (Refused why) passed room = Refused why
+unfoldable pub read_answer : Result ℕ Refusal → Bool → ℕ → Result ℕ Refusal
+read_answer (Ok n) passed room = cond passed (room_for (3 * n) room) (Err BadVertex)
+read_answer (Err why) passed room = Err why

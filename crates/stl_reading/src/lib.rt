@@ -10,10 +10,11 @@ ghost use Rattle.slopes.specs.Vertices.{xs_of, ys_of, zs_of};
 ghost use Rattle.stl.specs.Files.{facets_in, corners_of};
 ghost use Rattle.stl.specs.Calls.{import_answer};
 
-use lists::{Listed, count_of};
+use lists::count_of;
+use refusals::Refusal;
 
 // A file's corners as vertices, three for each triangle, and how many they are.
-pub fn import_mesh_stl(file: &[u8], px: &mut [f32], py: &mut [f32], pz: &mut [f32]) -> Listed
+pub fn import_mesh_stl(file: &[u8], px: &mut [f32], py: &mut [f32], pz: &mut [f32]) -> Result<usize, Refusal>
     ensures value { result ≡ import_answer file.now (length px.old) (length py.old)
         (length pz.old) }
     ensures px_after { px.new ≡ held_for zero_f

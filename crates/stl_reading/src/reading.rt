@@ -8,7 +8,6 @@ ghost use Rattle.stl.specs.Steps.{put_three, ColumnRead, stated_for, read_answer
 ghost use Rattle.stl_reading.specs.Steps.{patterns_from, pattern_vertex};
 
 use corners::set_ok;
-use lists::Listed;
 use refusals::Refusal;
 use words::{LONGEST_FILE, float_of_pattern, read_word};
 
@@ -72,8 +71,7 @@ pub(crate) fn read_facets(
     ensures column_read_2 { ColumnRead result count py.old (ys_of (corners_of (facets_from count file.now 84))) py.new }
     ensures column_read_3 { ColumnRead result count pz.old (zs_of (corners_of (facets_from count file.now 84))) pz.new }
 {
-    let mut i = 0;
-    while i < count {
+    for i in 0..count {
         let at = 84 + 50 * i;
         let a = read_patterns(file, at + 12);
         let b = read_patterns(file, at + 24);
@@ -85,42 +83,41 @@ pub(crate) fn read_facets(
         put_three(px, vertex, a.x, b.x, c.x);
         put_three(py, vertex, a.y, b.y, c.y);
         put_three(pz, vertex, a.z, b.z, c.z);
-        i += 1;
     }
     true
 }
 
 // How many triangles a file states, or why it is refused before its corners are looked at, for lists of so many places.
-pub(crate) fn stated(file: &[u8], a: usize, b: usize, c: usize) -> Listed
+pub(crate) fn stated(file: &[u8], a: usize, b: usize, c: usize) -> Result<usize, Refusal>
     ensures { result ≡ stated_for file.now a b c }
 {
     if !((file.len() <= LONGEST_FILE) & set_ok(a, b, c, 0)) {
-        return Listed::Refused(Refusal::Lengths);
+        return Err(Refusal::Lengths);
     }
     if file.len() < 84 {
-        return Listed::Refused(Refusal::BadLength);
+        return Err(Refusal::BadLength);
     }
     let count = read_word(file, 80) as usize;
     if file.len() != 84 + 50 * count {
-        return Listed::Refused(Refusal::BadLength);
+        return Err(Refusal::BadLength);
     }
-    Listed::Count(count)
+    Ok(count)
 }
 
 // What is answered to so many triangles, whose corners pass or don't, for lists of so many places.
-pub(crate) fn answer(stated: Listed, passed: bool, room: usize) -> Listed
+pub(crate) fn answer(stated: Result<usize, Refusal>, passed: bool, room: usize) -> Result<usize, Refusal>
     ensures { result ≡ read_answer stated passed room }
 {
     match stated {
-        Listed::Count(count) => {
+        Ok(count) => {
             if !passed {
-                Listed::Refused(Refusal::BadVertex)
+                Err(Refusal::BadVertex)
             } else if count <= room / 3 {
-                Listed::Count(3 * count)
+                Ok(3 * count)
             } else {
-                Listed::Refused(Refusal::NoPlace)
+                Err(Refusal::NoPlace)
             }
         }
-        Listed::Refused(why) => Listed::Refused(why),
+        Err(why) => Err(why),
     }
 }

@@ -8,8 +8,9 @@ ghost use Rattle.lists.specs.Listing.{held_for};
 ghost use Rattle.stl.specs.Files.{file_of};
 ghost use Rattle.stl.specs.Calls.{facets_lent, export_answer};
 
-use lists::{Listed, count_of};
+use lists::count_of;
 use words::write_zeros;
+use refusals::Refusal;
 
 // A mesh as the bytes of a file, and how many they are.
 pub fn export_mesh_stl(
@@ -22,7 +23,7 @@ pub fn export_mesh_stl(
     t2: &[u32],
     triangles: usize,
     file: &mut [u8],
-) -> Listed
+) -> Result<usize, Refusal>
     ensures value { result ≡ export_answer px.now py.now pz.now vertices t0.now
         t1.now t2.now triangles (length file.old) }
     ensures file_after { file.new ≡ held_for 0

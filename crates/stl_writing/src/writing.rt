@@ -9,7 +9,6 @@ ghost use Rattle.stl.specs.Calls.{facets_lent, export_answer};
 ghost use Rattle.stl.specs.Steps.{Writable};
 
 use corners::{set_ok, triangles_ok, vertices_ok};
-use lists::Listed;
 use refusals::Refusal;
 use slopes::Vertex;
 use surfaces::vertex_at;
@@ -26,17 +25,17 @@ pub(crate) fn answer(
     t2: &[u32],
     triangles: usize,
     room: usize,
-) -> Listed
+) -> Result<usize, Refusal>
     ensures { result ≡ export_answer px.now py.now pz.now vertices t0.now
         t1.now t2.now triangles room }
 {
     if !(set_ok(px.len(), py.len(), pz.len(), vertices)
         & (set_ok(t0.len(), t1.len(), t2.len(), triangles) & (room <= LONGEST_FILE)))
     {
-        return Listed::Refused(Refusal::Lengths);
+        return Err(Refusal::Lengths);
     }
     if !(vertices_ok(px, py, pz, vertices) & triangles_ok(vertices, t0, t1, t2, triangles)) {
-        return Listed::Refused(Refusal::BadVertex);
+        return Err(Refusal::BadVertex);
     }
     lists::room_for(84 + 50 * triangles, room)
 }
@@ -82,13 +81,11 @@ fn write_facets(
         (joined facet_bytes (facets_lent px.now py.now pz.now vertices t0.now
         t1.now t2.now triangles)) }
 {
-    let mut i = 0;
-    while i < triangles {
+    for i in 0..triangles {
         let a = vertex_at(px, py, pz, t0[i] as usize);
         let b = vertex_at(px, py, pz, t1[i] as usize);
         let c = vertex_at(px, py, pz, t2[i] as usize);
         write_facet(file, 84 + 50 * i, a, b, c);
-        i += 1;
     }
 }
 

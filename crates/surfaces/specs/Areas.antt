@@ -1,5 +1,5 @@
 -- The area of a mesh: half the length of a cross product for each triangle, added up in order.
-use Rattle.std.specs.Prelude.{ℕ, cond, ◌&&◌, List, [], ◌∷◌, length, get_or, Float}
+use Rattle.std.specs.Prelude.{ℕ, cond, ◌&&◌, List, [], ◌∷◌, length, get_or, Float, Ok, Err, Result}
 use Rattle.std.specs.Float.{binary32}
 use Rattle.std.specs.Float.Ieee.{add, sub, mul}
 use Rattle.floats.specs.Floats.{zero32}
@@ -9,9 +9,8 @@ use Rattle.slopes.specs.declared.Vertex.{Vertex}
 use Rattle.slopes.specs.Vertices.{half}
 use Rattle.slopes.specs.Normals.{length_of}
 use Rattle.surfaces.specs.declared.Arrow.{Arrow}
-use Rattle.surfaces.specs.declared.Area.{Area}
-use Rattle.surfaces.specs.declared.Area.TheVariants.{Square, Refused}
 use Rattle.corners.specs.Corners.{set_ok, every, vertex, vertices_in, vertex_ok, Triangle, triangles_in, triangle_ok}
+use Rattle.refusals.specs.declared.Refusal.{Refusal}
 
 -- from one vertex to another
 unfoldable pub arrow_of : Vertex → Vertex → Arrow
@@ -50,20 +49,20 @@ area_from vs sum (t ∷ ts) =
     area_from vs (add binary32 sum (area_between (numbered vs t.first) (numbered vs t.second) (numbered vs t.third))) ts
 
 -- refused with 2 for lengths, then with 10 for a vertex out of range or a triangle that names no vertex
-unfoldable pub area_answer : List Float → List Float → List Float → ℕ → List ℕ → List ℕ → List ℕ → ℕ → Area
+unfoldable pub area_answer : List Float → List Float → List Float → ℕ → List ℕ → List ℕ → List ℕ → ℕ → Result Float Refusal
 unfolding area_from every
 area_answer xs ys zs n is js ks m =
     let vs = vertices_in xs ys zs n in
     let ts = triangles_in is js ks m in
     cond (set_ok (length xs) (length ys) (length zs) n && set_ok (length is) (length js) (length ks) m)
-    (cond (every vertex_ok vs && every (triangle_ok n) ts) (Square (area_from vs zero32 ts)) (Refused BadVertex))
-    (Refused Lengths)
+    (cond (every vertex_ok vs && every (triangle_ok n) ts) (Ok (area_from vs zero32 ts)) (Err BadVertex))
+    (Err Lengths)
 
 -- document 01's number of the answer, 0 for no refusal, and the area, 0 where it is refused
-abbrev pub area_number : Area → ℕ
-area_number (Square a) = 0
-area_number (Refused why) = number_of why
+abbrev pub area_number : Result Float Refusal → ℕ
+area_number (Ok a) = 0
+area_number (Err why) = number_of why
 
-abbrev pub area_value : Area → Float
-area_value (Square a) = a
-area_value (Refused why) = zero32
+abbrev pub area_value : Result Float Refusal → Float
+area_value (Ok a) = a
+area_value (Err why) = zero32

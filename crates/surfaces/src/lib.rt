@@ -1,4 +1,4 @@
-// Area, box and statistics of a mesh (src/layers/mesh.rs).
+// Result<f32, Refusal>, box and statistics of a mesh (src/layers/mesh.rs).
 #![tactic(auto)]
 
 ghost use Rattle.std.specs.Prelude.{◌≡◌, true, ◌<◌, length, get_or};
@@ -22,28 +22,6 @@ struct Arrow {
     x: f32,
     y: f32,
     z: f32,
-}
-
-// A mesh's area, in square metres.
-#[derive(Clone, Copy)]
-pub enum Area {
-    Square(f32),
-    Refused(Refusal),
-}
-
-// The lowest and the highest corner of the box around a mesh; none around no vertices.
-#[derive(Clone, Copy)]
-pub enum Bounds {
-    Corners(Vertex, Vertex),
-    Absent,
-    Refused(Refusal),
-}
-
-// A mesh's statistics.
-#[derive(Clone, Copy)]
-pub enum MeshStats {
-    HasNormals(bool),
-    Refused(Refusal),
 }
 
 // From one vertex to another.
@@ -106,13 +84,11 @@ fn area_of(
         (triangles_in t0.now t1.now t2.now triangles) }
 {
     let mut area = 0.0;
-    let mut i = 0;
-    while i < triangles {
+    for i in 0..triangles {
         let v0 = vertex_at(px, py, pz, t0[i] as usize);
         let v1 = vertex_at(px, py, pz, t1[i] as usize);
         let v2 = vertex_at(px, py, pz, t2[i] as usize);
         area = area + area_between(v0, v1, v2);
-        i += 1;
     }
     area
 }
@@ -127,19 +103,19 @@ pub fn surface_area(
     t1: &[u32],
     t2: &[u32],
     triangles: usize,
-) -> Area
+) -> Result<f32, Refusal>
     ensures { result ≡ area_answer px.now py.now pz.now vertices t0.now
         t1.now t2.now triangles }
 {
     if !(set_ok(px.len(), py.len(), pz.len(), vertices)
         & set_ok(t0.len(), t1.len(), t2.len(), triangles))
     {
-        return Area::Refused(Refusal::Lengths);
+        return Err(Refusal::Lengths);
     }
     if !(vertices_ok(px, py, pz, vertices) & triangles_ok(vertices, t0, t1, t2, triangles)) {
-        return Area::Refused(Refusal::BadVertex);
+        return Err(Refusal::BadVertex);
     }
-    Area::Square(area_of(px, py, pz, vertices, t0, t1, t2, triangles))
+    Ok(area_of(px, py, pz, vertices, t0, t1, t2, triangles))
 }
 
 // The smaller coordinates of two vertices.
@@ -165,34 +141,32 @@ fn upper_of(v: Vertex, w: Vertex) -> Vertex
 }
 
 // The box around some vertices.
-fn box_of(px: &[f32], py: &[f32], pz: &[f32], vertices: usize) -> Bounds
+fn box_of(px: &[f32], py: &[f32], pz: &[f32], vertices: usize) -> Result<Option<(Vertex, Vertex)>, Refusal>
     requires { Lent px.now py.now pz.now vertices }
     ensures { result ≡ box_of (vertices_in px.now py.now pz.now vertices) }
 {
     if vertices == 0 {
-        return Bounds::Absent;
+        return Ok(None);
     }
     let mut low = vertex_at(px, py, pz, 0);
     let mut high = low;
-    let mut i = 1;
-    while i < vertices {
+    for i in 1..vertices {
         let v = vertex_at(px, py, pz, i);
         low = lower_of(low, v);
         high = upper_of(high, v);
-        i += 1;
     }
-    Bounds::Corners(low, high)
+    Ok(Some((low, high)))
 }
 
 // The box around a mesh.
-pub fn bounding_box(px: &[f32], py: &[f32], pz: &[f32], vertices: usize) -> Bounds
+pub fn bounding_box(px: &[f32], py: &[f32], pz: &[f32], vertices: usize) -> Result<Option<(Vertex, Vertex)>, Refusal>
     ensures { result ≡ box_answer px.now py.now pz.now vertices }
 {
     if !set_ok(px.len(), py.len(), pz.len(), vertices) {
-        return Bounds::Refused(Refusal::Lengths);
+        return Err(Refusal::Lengths);
     }
     if !vertices_ok(px, py, pz, vertices) {
-        return Bounds::Refused(Refusal::BadVertex);
+        return Err(Refusal::BadVertex);
     }
     box_of(px, py, pz, vertices)
 }
@@ -209,22 +183,20 @@ fn all_none(nx: &[f32], ny: &[f32], nz: &[f32], vertices: usize) -> bool
     requires { Lent nx.now ny.now nz.now vertices }
     ensures { result ≡ every is_none (normals_in nx.now ny.now nz.now vertices) }
 {
-    let mut i = 0;
-    while i < vertices {
+    for i in 0..vertices {
         if !is_none(nx[i], ny[i], nz[i]) {
             return false;
         }
-        i += 1;
     }
     true
 }
 
 // Whether some vertex has a normal.
-pub fn mesh_stats(nx: &[f32], ny: &[f32], nz: &[f32], vertices: usize) -> MeshStats
+pub fn mesh_stats(nx: &[f32], ny: &[f32], nz: &[f32], vertices: usize) -> Result<bool, Refusal>
     ensures { result ≡ stats_answer nx.now ny.now nz.now vertices }
 {
     if !set_ok(nx.len(), ny.len(), nz.len(), vertices) {
-        return MeshStats::Refused(Refusal::Lengths);
+        return Err(Refusal::Lengths);
     }
-    MeshStats::HasNormals(!all_none(nx, ny, nz, vertices))
+    Ok(!all_none(nx, ny, nz, vertices))
 }

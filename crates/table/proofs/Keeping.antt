@@ -1,5 +1,6 @@
 -- A row in range, put into a table that passes, leaves a table that passes: the other rows stand, and the keys still ascend.
 -- Assumes nothing.
+use Rattle.std.specs.Prelude.{Ok}
 use mathlib.Core.Path.{◌≡◌, refl, sym, ap}
 use mathlib.Core.Bool.{Bool, true, cond}
 use mathlib.Core.List.{List, [], ◌∷◌, ◌++◌}
@@ -16,7 +17,6 @@ use Rattle.floats.specs.Floats.{zero32, million, between, within}
 use Rattle.ids.specs.Key.{on_lattice}
 use Rattle.lists.proofs.Bools.{and_first, and_second, cases}
 use Rattle.table.specs.declared.Settings.{Settings}
-use Rattle.table.specs.declared.Checked.TheVariants.{Passed}
 use Rattle.search.specs.Keys.{rises_from, ascending}
 use Rattle.table.specs.Table.{Row, Table, beside, rows_of, rows, put, laid, relaid, row_ok, rows_ok, lengths_ok, need, check_with, table_check}
 use Rattle.table.proofs.RowLaws.{lengths_known}
@@ -99,11 +99,11 @@ lengths_say a b c n h p q g = rw (eq-eqb a b (sym p), eq-eqb a c (sym q), le-leb
 -- a table that passes, with other rows that pass
 pub relaid_check :
     (s : Settings) (t : Table) (rs : List Row)
-    → table_check s t ≡ Passed
+    → table_check s t ≡ (Ok tt)
     → length rs ≤ length t.keys
     → rows_ok s.max_weight rs ≡ true
     → ascending (keys_of rs) ≡ true
-    → table_check s (relaid t rs) ≡ Passed
+    → table_check s (relaid t rs) ≡ (Ok tt)
 unfolding check_with need relaid
 relaid_check s t rs e h g a =
     let k = sound s t e in

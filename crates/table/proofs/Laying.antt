@@ -1,5 +1,6 @@
 -- A row put among the rows, and the rows laid back into their lists.
 -- Assumes nothing.
+use Rattle.std.specs.Prelude.{None}
 use mathlib.Core.Path.{◌≡◌, refl, sym, ap}
 use mathlib.Core.Bool.{Bool, true, cond}
 use mathlib.Core.List.{List, [], ◌∷◌, ◌++◌, map, append_assoc}
@@ -13,7 +14,6 @@ use lib.Seq.{length-take-le, set-append_left, take-take}
 use lib.Ieee.{Float}
 use Rattle.lists.specs.Beside.{beside_by}
 use Rattle.lists.specs.Places.{opened}
-use Rattle.search.specs.declared.Found.TheVariants.{Absent}
 use Rattle.search.specs.Keys.{find, place_of, ascending}
 use Rattle.table.specs.Table.{Row, beside, rows_of, put, laid}
 use Rattle.table.specs.Rows.{keys_of}
@@ -58,7 +58,7 @@ put_set r (s ∷ rs) (suc i) a h e =
 -- as a new row
 pub put_open :
     (r : Row) (rs : List Row)
-    → find r.key (keys_of rs) ≡ Absent
+    → find r.key (keys_of rs) ≡ None
     → put r rs ≡ take (place_of r.key (keys_of rs)) rs ++ r ∷ drop (place_of r.key (keys_of rs)) rs
 unfolding put place_of
 put_open r [] a = refl

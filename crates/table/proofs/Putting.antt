@@ -1,5 +1,6 @@
 -- A row put into a table, said of the three lists: a stored row's distance and weight are set, and a new row opens a place in each.
 -- Assumes nothing.
+use Rattle.std.specs.Prelude.{Some, None}
 use mathlib.Core.Path.{◌≡◌, sym, ap, ◌∙◌}
 use mathlib.Core.Bool.{true}
 use mathlib.Core.List.{List, ◌∷◌, ◌++◌}
@@ -11,7 +12,6 @@ use lib.ListN.{length, take, drop, set, length-map, length-set, length-append, l
 use lib.Seq.{length-take-le, get_or-take, set-get_or}
 use lib.Ieee.{Float}
 use Rattle.lists.specs.Places.{opened, inserted}
-use Rattle.search.specs.declared.Found.TheVariants.{At, Absent}
 use Rattle.search.specs.Keys.{ascending, find, place_of}
 use Rattle.table.specs.Table.{Row, row, Table, table, rows_of, lengths_ok, put, relaid}
 use Rattle.search.proofs.KeyLaws.{found, place_length}
@@ -39,7 +39,7 @@ module _ (ks : List ℕ) (ds ws : List Float) (n : ℕ) (known : lengths_ok (len
   fit = lengths_known (length ks) (length ds) (length ws) n known
 
   -- a found place is a place of every list
-  pub place_in : (k i : ℕ) → find k (take n ks) ≡ At i → (i < length ds) × (i < length ws) × (i < 65536)
+  pub place_in : (k i : ℕ) → find k (take n ks) ≡ Some i → (i < length ds) × (i < length ws) × (i < 65536)
   place_in k i e =
       let f = fit in
       let h = found k (take n ks) i e in
@@ -55,7 +55,7 @@ module _ (ks : List ℕ) (ds ws : List Float) (n : ℕ) (known : lengths_ok (len
   pub relaid_set :
       ascending (take n ks) ≡ true
       → (k i : ℕ) (d w : Float)
-      → find k (take n ks) ≡ At i
+      → find k (take n ks) ≡ Some i
       → relaid t (put (row k d w) rs) ≡ table ks (set ds i d) (set ws i w) n
   unfolding relaid
   relaid_set a k i d w e =
@@ -73,7 +73,7 @@ module _ (ks : List ℕ) (ds ws : List Float) (n : ℕ) (known : lengths_ok (len
   -- a new row opens a place
   pub relaid_open :
       (k : ℕ) (d w : Float)
-      → find k (take n ks) ≡ Absent
+      → find k (take n ks) ≡ None
       → n < length ks
       → (p : ℕ)
       → p ≡ place_of k (take n ks)

@@ -1,5 +1,5 @@
 -- The table: rows side by side in three lists, ascending by key.
-use Rattle.std.specs.Prelude.{ℕ, Bool, true, false, cond, not, ◌&&◌, List, [], ◌∷◌, ◌++◌, map, length, take, drop, leb, ltb, eqb, Float}
+use Rattle.std.specs.Prelude.{ℕ, Bool, true, false, cond, not, ◌&&◌, List, [], ◌∷◌, ◌++◌, map, length, take, drop, leb, ltb, eqb, Float, Ok, Err, Result}
 use Rattle.std.specs.Float.Ieee.{to_bits}
 use Rattle.std.specs.Float.{binary32}
 use Rattle.floats.specs.Floats.{f32, zero32, thousand, million, between, within, positive_to}
@@ -9,8 +9,6 @@ use Rattle.lists.specs.Beside.{beside_by}
 use Rattle.refusals.specs.declared.Refusal.{Refusal}
 use Rattle.refusals.specs.declared.Refusal.TheVariants.{Setting, Lengths, BadRow}
 use Rattle.table.specs.declared.Settings.{Settings}
-use Rattle.table.specs.declared.Checked.{Checked}
-use Rattle.table.specs.declared.Checked.TheVariants.{Passed, Refused}
 use Rattle.search.specs.Keys.{ascending}
 
 -- the four settings in their one order
@@ -85,26 +83,26 @@ abbrev pub table_ok : Float → Table → Bool
 table_ok most t = rows_ok most (rows t) && ascending (take t.count t.keys)
 
 -- a test that must pass before the rest counts
-unfoldable pub need : Bool → Refusal → Checked → Checked
+unfoldable pub need : Bool → Refusal → Result (Unit {0}) Refusal → Result (Unit {0}) Refusal
 need true why rest = rest
-need false why rest = Refused why
+need false why rest = Err why
 
 -- the tests of a call, in this order: a setting (1), a lent list, its own, which `fits` tells, or the table's (2), a row (3)
-unfoldable pub check_with : Bool → Settings → Table → Checked
+unfoldable pub check_with : Bool → Settings → Table → Result (Unit {0}) Refusal
 unfolding need
 check_with fits s t =
     need (settings_ok s) Setting
     (need (fits && lengths_ok (length t.keys) (length t.distances) (length t.weights) t.count) Lengths
-    (need (table_ok s.max_weight t) BadRow Passed))
+    (need (table_ok s.max_weight t) BadRow (Ok tt)))
 
 -- those of a call that lends no list but the table's
-abbrev pub table_check : Settings → Table → Checked
+abbrev pub table_check : Settings → Table → Result (Unit {0}) Refusal
 table_check s t = check_with true s t
 
 -- what passed goes on to what the call tests after them
-unfoldable pub then_test : Checked → Checked → Checked
-then_test Passed rest = rest
-then_test (Refused why) rest = Refused why
+unfoldable pub then_test : Result (Unit {0}) Refusal → Result (Unit {0}) Refusal → Result (Unit {0}) Refusal
+then_test (Ok tt) rest = rest
+then_test (Err why) rest = Err why
 
 -- r in the place of the row with its key, or as a new row before the first with a larger key
 unfoldable pub put : Row → List Row → List Row

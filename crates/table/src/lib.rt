@@ -1,7 +1,7 @@
 // The table: three lent lists whose first `count` places are rows, ascending by key (src/layers/tsdf.rs, the map).
 #![tactic(auto)]
 
-ghost use Rattle.std.specs.Prelude.{◌≡◌, ◌≤◌, length};
+ghost use Rattle.std.specs.Prelude.{◌≡◌, ◌≤◌, length, Ok};
 ghost use Rattle.table.specs.Table.{settings_of, defaults, table, rows_of, farthest_ok, settings_ok, lengths_ok, row_ok, rows_ok, need, check_with, table_check, then_test};
 
 use floats::{Metres, between, positive_to, within};
@@ -39,13 +39,6 @@ impl Settings {
     {
         settings_of(truncation.0, 100.0, 0.02, max_distance.0)
     }
-}
-
-// What the tests of a table find.
-#[derive(Clone, Copy)]
-pub enum Checked {
-    Passed,
-    Refused(Refusal),
 }
 
 // From 0 to 1,000,000, and not -0.
@@ -87,12 +80,10 @@ fn rows_ok(most: f32, keys: &[u64], distances: &[f32], weights: &[f32], count: u
     requires { (count ≤ length keys.now) × (length distances.now ≡ length keys.now) × (length weights.now ≡ length keys.now) }
     ensures { result ≡ rows_ok most (rows_of keys.now distances.now weights.now count) }
 {
-    let mut i = 0;
-    while i < count {
+    for i in 0..count {
         if !row_ok(most, keys[i], distances[i], weights[i]) {
             return false;
         }
-        i += 1;
     }
     true
 }
@@ -105,19 +96,19 @@ pub fn check_with(
     distances: &[f32],
     weights: &[f32],
     count: usize,
-) -> Checked
+) -> Result<(), Refusal>
     ensures { result ≡ check_with fits settings (table keys.now distances.now weights.now count) }
 {
     if !settings_ok(settings) {
-        return Checked::Refused(Refusal::Setting);
+        return Err(Refusal::Setting);
     }
     if !(fits & lengths_ok(keys.len(), distances.len(), weights.len(), count)) {
-        return Checked::Refused(Refusal::Lengths);
+        return Err(Refusal::Lengths);
     }
     if !(rows_ok(settings.max_weight, keys, distances, weights, count) & keys_ascend(keys, count)) {
-        return Checked::Refused(Refusal::BadRow);
+        return Err(Refusal::BadRow);
     }
-    Checked::Passed
+    Ok(())
 }
 
 // Those of a call that lends no list but the table's.
@@ -127,23 +118,23 @@ pub fn check_table(
     distances: &[f32],
     weights: &[f32],
     count: usize,
-) -> Checked
+) -> Result<(), Refusal>
     ensures { result ≡ table_check settings (table keys.now distances.now weights.now count) }
 {
     check_with(true, settings, keys, distances, weights, count)
 }
 
 // A verdict, and what the call tests after it: `passes`, or why it is refused.
-pub fn then_test(verdict: Checked, passes: bool, why: Refusal) -> Checked
-    ensures { result ≡ then_test verdict (need passes why Checked.Passed) }
+pub fn then_test(verdict: Result<(), Refusal>, passes: bool, why: Refusal) -> Result<(), Refusal>
+    ensures { result ≡ then_test verdict (need passes why (Ok tt)) }
 {
     match verdict {
-        Checked::Refused(earlier) => Checked::Refused(earlier),
-        Checked::Passed => {
+        Err(earlier) => Err(earlier),
+        Ok(()) => {
             if passes {
-                Checked::Passed
+                Ok(())
             } else {
-                Checked::Refused(why)
+                Err(why)
             }
         }
     }

@@ -1,4 +1,5 @@
 -- Marks of waiting cells are taken out one after the other, until none is left. Assumes nothing.
+use Rattle.std.specs.Prelude.{Ok, Err}
 use mathlib.Core.Path.{◌≡◌, refl, sym, ap, subst, ◌∙◌}
 use mathlib.Core.Bool.{Bool, true, false, cond, not, ◌&&◌, ◌||◌, true≢false}
 use mathlib.Core.List.{List, [], ◌∷◌}
@@ -16,7 +17,6 @@ use Rattle.heap.proofs.Tallies.{tally_some, some_tally, count_some, some_count}
 use Rattle.lists.specs.Lists.{◌∈◌, kept}
 use Rattle.lists.proofs.Bools.{cases}
 use Rattle.lists.proofs.ListLaws.{in_map, map_in, at_in}
-use Rattle.marks.specs.declared.Spot.TheVariants.{At, Absent}
 use Rattle.marks.specs.Marks.{label, spot_of, look, Kept, Leaves}
 use Rattle.marks.proofs.Keeping.{label_own, value_at_lem, value_absent}
 use Rattle.search.specs.Keys.{member}
@@ -85,13 +85,13 @@ module _ (k : ℕ) (real : k ≡ 1 → ⊥) (rs : List MarchedRow) (ws ks : List
         ascends = h.ascends;
       }
 
-  pub forget_absent : (p : ℕ) → spot_of k ks ≡ Absent p → Marked rs (all_but k ws) ks ds
+  pub forget_absent : (p : ℕ) → spot_of k ks ≡ Err p → Marked rs (all_but k ws) ks ds
   unfolding or_waits
   forget_absent p e =
       let none_there = value_absent (label k) ks ds p e in
       but_marked ks ds h.kept h.long (none_there ∙ rw (unmarked rs ws ks ds h k real none_there).0) (λ j n. refl)
 
-  module _ (p : ℕ) (at : spot_of k ks ≡ At p) where
+  module _ (p : ℕ) (at : spot_of k ks ≡ Ok p) where
     pub forget_stored : is_finite (get_or ds p nan) ≡ true → Marked rs (all_but k ws) ks ds
     unfolding or_waits
     forget_stored f =

@@ -6,7 +6,7 @@ ghost use Rattle.marching.specs.March.{MarchedRow};
 ghost use Rattle.hearing.specs.Hearing.{Marked};
 ghost use Rattle.thinning.specs.Thinning.{all_but, Thins, has_room, kind_of, Lightens};
 
-use marks::{Spot, find, leave};
+use marks::{find, leave};
 
 // The mark of a cell goes, unless it is stored.
 fn forget(keys: &mut [u64], distances: &mut [f32], key: u64)
@@ -17,7 +17,7 @@ fn forget(keys: &mut [u64], distances: &mut [f32], key: u64)
         → (key ≡ 1 → ⊥)
         → Marked rs (all_but key ws) keys.new distances.new }
 {
-    let Spot::At(place) = find(keys, key) else {
+    let Ok(place) = find(keys, key) else {
         return;
     };
     if !floats::is_finite(distances[place]) {
@@ -30,10 +30,8 @@ fn thin(keys: &mut [u64], distances: &mut [f32], cells: &[u64], waiting: usize)
     requires { (length distances.old ≡ length keys.old) × (waiting ≤ length cells.now) }
     ensures { Thins waiting cells.now keys.old distances.old keys.new distances.new }
 {
-    let mut i = 0;
-    while i < waiting {
+    for i in 0..waiting {
         forget(keys, distances, cells[i]);
-        i += 1;
     }
 }
 

@@ -1,5 +1,6 @@
 -- The answer to building, and what the four lists then hold: what was found, in its room, or zeros.
 -- Assumes nothing.
+use Rattle.std.specs.Prelude.{Ok, Err, Result}
 use Prim.Native.Nat.{ℕ, ◌≤◌}
 use native.Mathlib.Omega.{arith}
 use mathlib.Core.Path.{◌≡◌, refl, sym, ap, ◌∙◌}
@@ -12,8 +13,6 @@ use borrow.Author.Tests.{eqb-true, leb-true}
 use Rattle.lists.specs.Places.{cleared_from}
 use Rattle.lists.specs.Padding.{padded}
 use Rattle.lists.specs.Listing.{count_of, held_for}
-use Rattle.lists.specs.declared.Listed.{Listed}
-use Rattle.lists.specs.declared.Listed.TheVariants.{Count, Refused}
 use Rattle.lists.proofs.Bools.{and_first, and_second}
 use Rattle.lists.proofs.Writing.{sets_front, cleared_whole}
 use Rattle.refusals.specs.declared.Refusal.{Refusal}
@@ -27,32 +26,32 @@ use Rattle.triangles.specs.Steps.{Ready, filled_with, answer_for, kept_of}
 -- ---- one list
 
 -- what a list holds once it is cleared past what the answer keeps
-settled : (v : Listed) (xs l l' l'' : List ℕ) (n : ℕ) → l'' ≡ cleared_from 0 n l' → length l' ≡ length l →
-    ((m : ℕ) → v ≡ Count m → (n ≡ length xs) × (length xs ≤ length l) × (l' ≡ sets l 0 xs))
-    → ((why : Refusal) → v ≡ Refused why → n ≡ 0)
+settled : (v : Result ℕ Refusal) (xs l l' l'' : List ℕ) (n : ℕ) → l'' ≡ cleared_from 0 n l' → length l' ≡ length l →
+    ((m : ℕ) → v ≡ Ok m → (n ≡ length xs) × (length xs ≤ length l) × (l' ≡ sets l 0 xs))
+    → ((why : Refusal) → v ≡ Err why → n ≡ 0)
     → l'' ≡ held_for 0 v (length l) xs
 unfolding held_for padded
-settled (Count m) xs l l' l'' n e same how none =
+settled (Ok m) xs l l' l'' n e same how none =
     let h = how m refl in
     let long : length (sets l 0 xs) ≡ length l = length-sets l 0 xs in
     e ∙ rw (h.0, h.2, sets_front l xs h.1, long)
-settled (Refused why) xs l l' l'' n e same how none = e ∙ rw (none why refl) (cleared_whole 0 l' ∙ ap (λ (k : ℕ). replicate k 0) same)
+settled (Err why) xs l l' l'' n e same how none = e ∙ rw (none why refl) (cleared_whole 0 l' ∙ ap (λ (k : ℕ). replicate k 0) same)
 
 -- ---- the answer
 
-refused_count : (why : Refusal) (m : ℕ) → Refused why ≡ Count m → ⊥
+refused_count : (why : Refusal) (m : ℕ) → Err why ≡ Ok m → ⊥
 refused_count why m e = let z : ◌≡◌ {A = ℕ} 0 1 = cc in omega arith
 
 -- it counts only where the lengths were taken and both had room
 counted : (ok : Bool) (f : Filled) (room place m : ℕ)
-    → answer_for ok f room place ≡ Count m
+    → answer_for ok f room place ≡ Ok m
     → (ok ≡ true) × (f.groups ≤ room) × (f.triangles ≤ place) × (m ≡ f.triangles)
 counted true f room place m e = go (leb f.groups room) (leb f.triangles place) refl refl e
   where
     go : (p q : Bool)
         → leb f.groups room ≡ p
         → leb f.triangles place ≡ q
-        → cond (p && q) (Count f.triangles) (Refused NoPlace) ≡ Count m
+        → cond (p && q) (Ok f.triangles) (Err NoPlace) ≡ Ok m
         → (true ≡ true) × (f.groups ≤ room) × (f.triangles ≤ place) × (m ≡ f.triangles)
     go true true a b d = (refl, leb-true _ _ a, leb-true _ _ b, cc)
     go true false a b d = absurd (refused_count NoPlace m d)
@@ -81,7 +80,7 @@ ready_known ks rows a b m g x y z true n e t =
     let k = taken_known (length ks) rows a b m g (length x) (length y) (length z) (sym e) in
     record { fits = omega (arith, k.1); few = omega (arith, k.0, k.1); second = λ h. k.2; third = λ h. k.3 }
 
-module _ (ks : List ℕ) (rows : ℕ) (as' bs : List ℕ) (m : ℕ) (g x y z : List ℕ) (ok : Bool) (n : ℕ) (f : Filled) (v : Listed) (g' x' y' z' : List ℕ)
+module _ (ks : List ℕ) (rows : ℕ) (as' bs : List ℕ) (m : ℕ) (g x y z : List ℕ) (ok : Bool) (n : ℕ) (f : Filled) (v : Result ℕ Refusal) (g' x' y' z' : List ℕ)
     (tested : ok ≡ lengths_ok (length ks) rows (length as') (length bs) m (length g) (length x) (length y) (length z))
     (taken : n ≡ cond ok rows 0)
     (counts : f ≡ filled_with (source ks n as' bs m) (take n ks))
@@ -112,12 +111,12 @@ module _ (ks : List ℕ) (rows : ℕ) (as' bs : List ℕ) (m : ℕ) (g x y z : L
       ∙ rw (g_long, x_long) (go ok refl)
       ∙ ap (λ (b : Bool).
       cond b (room_for_both (length (groups_at s (take rows ks))) (length g) (length (triangles_at s (take rows ks)))
-      (length x)) (Refused Lengths)) tested
+      (length x)) (Err Lengths)) tested
     where
       go : (b : Bool)
           → ok ≡ b
           → answer_for b f (length g) (length x) ≡ cond b (room_for_both (length (groups_at s (take rows ks))) (length g)
-          (length (triangles_at s (take rows ks))) (length x)) (Refused Lengths)
+          (length (triangles_at s (take rows ks))) (length x)) (Err Lengths)
       go true e = ap (λ (h : Filled). room_for_both h.groups (length g) h.triangles (length x)) (all_counts e)
       go false e = refl
 
@@ -136,12 +135,12 @@ module _ (ks : List ℕ) (rows : ℕ) (as' bs : List ℕ) (m : ℕ) (g x y z : L
       (λ c q.
       let h = counted ok f (length g') (length x') c (sym answered ∙ q) in
       let d = ap (λ (w : Filled). w.groups) (all_counts h.0) in (
-        kept ∙ ap (λ (w : Listed). kept_of w f.groups) q ∙ d,
+        kept ∙ ap (λ (w : Result ℕ Refusal). kept_of w f.groups) q ∙ d,
         omega (arith, h.1, d, g_long),
         groups ∙ ap (λ (i : ℕ). sets g 0 (groups_at s (take i ks))) (all_rows h.0),
       ))
-      (λ why q. kept ∙ ap (λ (w : Listed). kept_of w f.groups) q)
-      ∙ ap (λ (w : Listed). held_for 0 w (length g) (groups_at s (take rows ks))) built_answer_lem
+      (λ why q. kept ∙ ap (λ (w : Result ℕ Refusal). kept_of w f.groups) q)
+      ∙ ap (λ (w : Result ℕ Refusal). held_for 0 w (length g) (groups_at s (take rows ks))) built_answer_lem
 
   module _ (k : ℕ) (kept : k ≡ count_of v) where
     column : (p : Three ℕ → ℕ) (l l' l'' : List ℕ)
@@ -166,14 +165,14 @@ module _ (ks : List ℕ) (rows : ℕ) (as' bs : List ℕ) (m : ℕ) (g x y z : L
     pub ones_settled : (l : List ℕ) → l ≡ cleared_from 0 k x' → l ≡ held0 s (rooms (length g) (length x) (length y) (length z))
     ones_settled l e =
         column (λ (t : Three ℕ). t.a) x x' l (λ q. refl) ones e
-        ∙ ap (λ (w : Listed). held_for 0 w (length x) (column0 (triangles_at s (take rows ks)))) built_answer_lem
+        ∙ ap (λ (w : Result ℕ Refusal). held_for 0 w (length x) (column0 (triangles_at s (take rows ks)))) built_answer_lem
 
     pub twos_settled : (l : List ℕ) → l ≡ cleared_from 0 k y' → l ≡ held1 s (rooms (length g) (length x) (length y) (length z))
     twos_settled l e =
         column (λ (t : Three ℕ). t.b) y y' l (λ q. (equal q).0) twos e
-        ∙ ap (λ (w : Listed). held_for 0 w (length y) (column1 (triangles_at s (take rows ks)))) built_answer_lem
+        ∙ ap (λ (w : Result ℕ Refusal). held_for 0 w (length y) (column1 (triangles_at s (take rows ks)))) built_answer_lem
 
     pub threes_settled : (l : List ℕ) → l ≡ cleared_from 0 k z' → l ≡ held2 s (rooms (length g) (length x) (length y) (length z))
     threes_settled l e =
         column (λ (t : Three ℕ). t.c) z z' l (λ q. (equal q).1) threes e
-        ∙ ap (λ (w : Listed). held_for 0 w (length z) (column2 (triangles_at s (take rows ks)))) built_answer_lem
+        ∙ ap (λ (w : Result ℕ Refusal). held_for 0 w (length z) (column2 (triangles_at s (take rows ks)))) built_answer_lem

@@ -1,13 +1,12 @@
 -- Filling the list of groups and the triangle list, on any two lists of edges. On the edge list of a table they are document 01's (proofs/Built.antt).
-use Rattle.std.specs.Prelude.{ℕ, Bool, cond, ◌&&◌, List, eqb, leb, length, take}
+use Rattle.std.specs.Prelude.{ℕ, Bool, cond, ◌&&◌, List, eqb, leb, length, take, Ok, Err, Result}
 use Rattle.lists.specs.Lists.{joined}
 use Rattle.lists.specs.Listing.{held_for}
-use Rattle.lists.specs.declared.Listed.{Listed}
-use Rattle.lists.specs.declared.Listed.TheVariants.{Count, Refused}
 use Rattle.refusals.specs.declared.Refusal.TheVariants.{Lengths, NoPlace}
 use Rattle.groups.specs.CellEdges.{pairs_ok}
 use Rattle.groups.specs.Near.{group_in}
 use Rattle.lists.specs.Threes.{Three, threes, column0, column1, column2}
+use Rattle.refusals.specs.declared.Refusal.{Refusal}
 
 -- keys and how many of them are rows; edges and how many there are
 pub record Source : Type 0 where
@@ -61,16 +60,16 @@ sizes_ok s r =
     lengths_ok (length s.keys) s.rows (length s.first) (length s.second) s.edges r.groups r.t0 r.t1 r.t2
 
 -- n groups' numbers and m triangles in rooms: refused with 6 exactly when one of the two is too small
-abbrev pub room_for_both : ℕ → ℕ → ℕ → ℕ → Listed
-room_for_both n room m place = cond (leb n room && leb m place) (Count m) (Refused NoPlace)
+abbrev pub room_for_both : ℕ → ℕ → ℕ → ℕ → Result ℕ Refusal
+room_for_both n room m place = cond (leb n room && leb m place) (Ok m) (Err NoPlace)
 
 -- the answer: 2, then 6, then the number of triangles
-unfoldable pub built_answer : Source → Rooms → Listed
+unfoldable pub built_answer : Source → Rooms → Result ℕ Refusal
 unfolding sizes_ok joined group_in threes
 built_answer s r =
     cond (sizes_ok s r)
     (room_for_both (length (groups_at s (cells_of s))) r.groups (length (triangles_at s (cells_of s))) r.t0)
-    (Refused Lengths)
+    (Err Lengths)
 
 -- what the four lists then hold
 abbrev pub groups_held : Source → Rooms → List ℕ

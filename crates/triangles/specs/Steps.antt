@@ -1,10 +1,9 @@
 -- What the private functions promise each other.
-use Rattle.std.specs.Prelude.{ℕ, ◌<◌, ◌≤◌, ◌≡◌, Bool, cond, List, length}
-use Rattle.lists.specs.declared.Listed.{Listed}
-use Rattle.lists.specs.declared.Listed.TheVariants.{Count, Refused}
+use Rattle.std.specs.Prelude.{ℕ, ◌<◌, ◌≤◌, ◌≡◌, Bool, cond, List, length, Ok, Err, Result}
 use Rattle.refusals.specs.declared.Refusal.TheVariants.{Lengths}
 use Rattle.triangles.specs.Building.{Source, groups_at, triangles_at, room_for_both}
 use Rattle.triangles.specs.declared.Filled.{Filled}
+use Rattle.refusals.specs.declared.Refusal.{Refusal}
 
 -- the first n keys can be worked through, and the three lists are equally long where there is one
 pub record Ready (keys : List ℕ) (n : ℕ) (x y z : List ℕ) : Type 0 where
@@ -18,10 +17,10 @@ abbrev pub filled_with : Source → List ℕ → Filled
 filled_with s cells = record { groups = length (groups_at s cells); triangles = length (triangles_at s cells) }
 
 -- the answer to lengths that were tested and to what was filled
-abbrev pub answer_for : Bool → Filled → ℕ → ℕ → Listed
-answer_for ok f room place = cond ok (room_for_both f.groups room f.triangles place) (Refused Lengths)
+abbrev pub answer_for : Bool → Filled → ℕ → ℕ → Result ℕ Refusal
+answer_for ok f room place = cond ok (room_for_both f.groups room f.triangles place) (Err Lengths)
 
 -- n where an answer counts, 0 where it refuses
-abbrev pub kept_of : Listed → ℕ → ℕ
-kept_of (Count m) n = n
-kept_of (Refused why) n = 0
+abbrev pub kept_of : Result ℕ Refusal → ℕ → ℕ
+kept_of (Ok m) n = n
+kept_of (Err why) n = 0

@@ -7,7 +7,7 @@ ghost use Rattle.lists.specs.Threes.{threes, threes_of, column0, column1, column
 ghost use Rattle.triangles.specs.Building.{source, rooms, groups_at, triangles_at, lengths_ok, built_answer, groups_held, held0, held1, held2};
 ghost use Rattle.triangles.specs.Steps.{Ready, filled_with, answer_for, kept_of};
 
-use lists::{LONGEST_LIST, Listed};
+use lists::LONGEST_LIST;
 use refusals::Refusal;
 use table::LONGEST_TABLE;
 
@@ -34,14 +34,12 @@ fn put_numbers(group: &[u32], groups: &mut [u32], at: usize)
     ensures { groups.new ≡ sets groups.old at group.now }
 {
     let mut end = at;
-    let mut i = 0;
-    while i < group.len() {
+    for i in 0..group.len() {
         if groups.len() <= end {
             break;
         }
         groups[end] = group[i];
         end += 1;
-        i += 1;
     }
 }
 
@@ -53,12 +51,9 @@ fn put_threes(group: &[u32], t0: &mut [u32], t1: &mut [u32], t2: &mut [u32], at:
     ensures t2_after { t2.new ≡ sets t2.old at (column2 (threes group.now)) }
 {
     let mut end = at;
-    let mut i = 0;
-    'cell: while i < group.len() {
-        let mut j = i + 1;
-        while j < group.len() {
-            let mut k = j + 1;
-            while k < group.len() {
+    'cell: for i in 0..group.len() {
+        for j in i + 1..group.len() {
+            for k in j + 1..group.len() {
                 if t0.len() <= end {
                     break 'cell;
                 }
@@ -66,11 +61,8 @@ fn put_threes(group: &[u32], t0: &mut [u32], t1: &mut [u32], t2: &mut [u32], at:
                 t1[end] = group[j];
                 t2[end] = group[k];
                 end += 1;
-                k += 1;
             }
-            j += 1;
         }
-        i += 1;
     }
 }
 
@@ -103,8 +95,7 @@ fn fill(
 {
     let mut numbers_end = 0;
     let mut triangles_end = 0;
-    let mut row = 0;
-    while row < n {
+    for row in 0..n {
         let cell = keys[row];
         let group = groups::near_group(first, second, edges, cell);
         let numbers = group.numbers;
@@ -113,7 +104,6 @@ fn fill(
         put_threes(&numbers[..count], t0, t1, t2, triangles_end);
         numbers_end += count;
         triangles_end += threes_of(count);
-        row += 1;
     }
     Filled {
         groups: numbers_end,
@@ -148,25 +138,25 @@ fn rows_taken(ok: bool, rows: usize) -> usize
 }
 
 // The answer to lengths that were tested and to what was filled.
-fn answer(ok: bool, filled: Filled, room: usize, place: usize) -> Listed
+fn answer(ok: bool, filled: Filled, room: usize, place: usize) -> Result<usize, Refusal>
     ensures { result ≡ answer_for ok filled room place }
 {
     if !ok {
-        return Listed::Refused(Refusal::Lengths);
+        return Err(Refusal::Lengths);
     }
     if room < filled.groups {
-        return Listed::Refused(Refusal::NoPlace);
+        return Err(Refusal::NoPlace);
     }
     lists::room_for(filled.triangles, place)
 }
 
 // How many of `n` places are kept: none where the answer refuses.
-fn kept(listed: Listed, n: usize) -> usize
+fn kept(listed: Result<usize, Refusal>, n: usize) -> usize
     ensures { result ≡ kept_of listed n }
 {
     match listed {
-        Listed::Count(_) => n,
-        Listed::Refused(_) => 0,
+        Ok(_) => n,
+        Err(_) => 0,
     }
 }
 
@@ -181,7 +171,7 @@ pub fn build_triangles(
     t0: &mut [u32],
     t1: &mut [u32],
     t2: &mut [u32],
-) -> Listed
+) -> Result<usize, Refusal>
     ensures value { result ≡ built_answer (source keys.now rows first.now second.now edges)
         (rooms (length groups.old) (length t0.old) (length t1.old)
         (length t2.old)) }

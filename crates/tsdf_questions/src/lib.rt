@@ -9,31 +9,8 @@ ghost use Rattle.tsdf_questions.specs.Steps.{Accepted};
 
 use floats::{Metres, is_finite, size};
 use refusals::Refusal;
-use search::{Found, find_row};
-use table::{Checked, Settings, check_table};
-
-// A cell's distance.
-#[derive(Clone, Copy)]
-pub enum Distance {
-    Of(Metres),
-    Absent,
-    Refused(Refusal),
-}
-
-// A cell's weight.
-#[derive(Clone, Copy)]
-pub enum Weight {
-    Of(f32),
-    Absent,
-    Refused(Refusal),
-}
-
-// Whether a cell is near the surface.
-#[derive(Clone, Copy)]
-pub enum Surface {
-    Answer(bool),
-    Refused(Refusal),
-}
+use search::find_row;
+use table::{Settings, check_table};
 
 // A cell's row.
 #[derive(Clone, Copy)]
@@ -51,7 +28,7 @@ fn row_of(keys: &[u64], distances: &[f32], weights: &[f32], count: usize, key: u
     if !ids::is_on_lattice(key) {
         return Looked::Refused(Refusal::OffLattice);
     }
-    let Found::At(i) = find_row(keys, count, key) else {
+    let Some(i) = find_row(keys, count, key) else {
         return Looked::Absent;
     };
     Looked::Row {
@@ -72,8 +49,8 @@ fn look_up(
     ensures { result ≡ looked_up settings (table keys.now distances.now weights.now count) key }
 {
     match check_table(settings, keys, distances, weights, count) {
-        Checked::Refused(why) => Looked::Refused(why),
-        Checked::Passed => row_of(keys, distances, weights, count, key),
+        Err(why) => Looked::Refused(why),
+        Ok(()) => row_of(keys, distances, weights, count, key),
     }
 }
 
@@ -85,16 +62,16 @@ pub fn get_distance(
     weights: &[f32],
     count: usize,
     key: u64,
-) -> Distance
+) -> Result<Option<Metres>, Refusal>
     ensures { result ≡ distance_of (looked_up settings (table keys.now distances.now weights.now count) key) }
 {
     match look_up(settings, keys, distances, weights, count, key) {
         Looked::Row {
             distance,
             weight: _,
-        } => Distance::Of(Metres(distance)),
-        Looked::Absent => Distance::Absent,
-        Looked::Refused(why) => Distance::Refused(why),
+        } => Ok(Some(Metres(distance))),
+        Looked::Absent => Ok(None),
+        Looked::Refused(why) => Err(why),
     }
 }
 
@@ -106,32 +83,32 @@ pub fn get_weight(
     weights: &[f32],
     count: usize,
     key: u64,
-) -> Weight
+) -> Result<Option<f32>, Refusal>
     ensures { result ≡ weight_of (looked_up settings (table keys.now distances.now weights.now count) key) }
 {
     match look_up(settings, keys, distances, weights, count, key) {
         Looked::Row {
             distance: _,
             weight,
-        } => Weight::Of(weight),
-        Looked::Absent => Weight::Absent,
-        Looked::Refused(why) => Weight::Refused(why),
+        } => Ok(Some(weight)),
+        Looked::Absent => Ok(None),
+        Looked::Refused(why) => Err(why),
     }
 }
 
 // An answer by a threshold, which is tested first.
-fn surface_if(threshold: f32, near: bool) -> Surface
+fn surface_if(threshold: f32, near: bool) -> Result<bool, Refusal>
     ensures { result ≡ surface_if (is_finite threshold) near }
 {
     if is_finite(threshold) {
-        Surface::Answer(near)
+        Ok(near)
     } else {
-        Surface::Refused(Refusal::BadReading)
+        Err(Refusal::BadReading)
     }
 }
 
 // Whether a row is near the surface.
-fn near_surface(threshold: f32, looked: Looked) -> Surface
+fn near_surface(threshold: f32, looked: Looked) -> Result<bool, Refusal>
     ensures { result ≡ surface_of threshold looked }
 {
     match looked {
@@ -140,7 +117,7 @@ fn near_surface(threshold: f32, looked: Looked) -> Surface
             weight: _,
         } => surface_if(threshold, size(distance) < threshold),
         Looked::Absent => surface_if(threshold, false),
-        Looked::Refused(why) => Surface::Refused(why),
+        Looked::Refused(why) => Err(why),
     }
 }
 
@@ -153,7 +130,7 @@ pub fn is_surface_voxel(
     count: usize,
     key: u64,
     threshold: Metres,
-) -> Surface
+) -> Result<bool, Refusal>
     ensures { result ≡ surface_of threshold.0 (looked_up settings (table keys.now distances.now weights.now count) key) }
 {
     let looked = look_up(settings, keys, distances, weights, count, key);

@@ -6,6 +6,7 @@ use batching::{Batched, Counts};
 use floats::Metres;
 use fusing::Fused;
 use table::{Settings, settings_of};
+use refusals::Refusal;
 
 fn line(word: &[u8]) {
     io::write_all(1, word);
@@ -18,12 +19,12 @@ fn numbered(word: &[u8], n: u64) {
     io::write_all(1, b"\n");
 }
 
-fn say(fused: Fused) {
+fn say(fused: Result<Fused, Refusal>) {
     match fused {
-        Fused::New => line(b"new"),
-        Fused::Changed => line(b"changed"),
-        Fused::Far => line(b"far"),
-        Fused::Refused(why) => numbered(b"refused ", refusals::number(why) as u64),
+        Ok(Fused::New) => line(b"new"),
+        Ok(Fused::Changed) => line(b"changed"),
+        Ok(Fused::Far) => line(b"far"),
+        Err(why) => numbered(b"refused ", refusals::number(why) as u64),
     }
 }
 

@@ -1,5 +1,6 @@
 -- Three rows, of weights 1, 2 and 0: what each question answers, its refusals, and the statistics of them and of the empty table. By computation.
 -- Assumes nothing.
+use Rattle.std.specs.Prelude.{Ok, Err, Some, None, Option, Result}
 use Prim.Native.Nat.{ℕ}
 use mathlib.Core.Path.{◌≡◌, refl}
 use mathlib.Core.Bool.{cond}
@@ -14,15 +15,12 @@ use Rattle.lists.specs.Lists.{kept}
 use Rattle.table.specs.declared.Settings.{Settings}
 use Rattle.search.specs.Keys.{rises_from, ascending, next, find}
 use Rattle.table.specs.Table.{Table, table, settings_of, rows, rows_ok, need, check_with}
-use Rattle.tsdf_questions.specs.declared.Distance.{Distance}
-use Rattle.tsdf_questions.specs.declared.Distance.TheVariants as distance
-use Rattle.tsdf_questions.specs.declared.Surface.{Surface}
-use Rattle.tsdf_questions.specs.declared.Surface.TheVariants as surface
-use Rattle.tsdf_surveys.specs.declared.Statistics.{Statistics}
 use Rattle.tsdf_questions.specs.Lookups.{row_at, row_if, row_of, looked_if, looked_up, distance_of, surface_if, surface_of, distance_number, surface_number}
 use Rattle.tsdf_surveys.specs.Surface.{surface_keys}
 use Rattle.tsdf_surveys.specs.Statistics.{tallied, tallied_all, stats_of, statistics_if, statistics_of}
-use Rattle.tsdf_surveys.specs.declared.Statistics.TheVariants as statistics
+use Rattle.refusals.specs.declared.Refusal.{Refusal}
+use Rattle.floats.specs.declared.Metres.{Metres}
+use Rattle.tsdf_surveys.specs.declared.TsdfStats.{TsdfStats}
 
 -- truncation 1, maximum weight 100, size 1
 abbrev pub settings : Settings
@@ -34,22 +32,22 @@ three =
     table (7 ∷ 8 ∷ 15 ∷ 0 ∷ []) (f32 0x3E80_0000 ∷ f32 0xBF00_0000 ∷ f32 0x3E00_0000 ∷ f32 0 ∷ []) (f32 0x3F80_0000 ∷ f32 0x4000_0000 ∷ f32 0 ∷ f32 0 ∷ []) 3
 
 -- the distance's bits, or the answer's number
-unfoldable pub distance_bits : Distance → ℕ
-distance_bits (distance.Of d) = to_bits binary32 d.0
-distance_bits distance.Absent = 101
-distance_bits (distance.Refused why) = distance_number (distance.Refused why)
+unfoldable pub distance_bits : Result (Option Metres) Refusal → ℕ
+distance_bits (Ok (Some d)) = to_bits binary32 d.0
+distance_bits (Ok None) = 101
+distance_bits (Err why) = distance_number (Err why)
 
 -- 1 for yes, 0 for no, or the refusal's number
-unfoldable pub surface_bit : Surface → ℕ
-surface_bit (surface.Answer near) = cond near 1 0
-surface_bit (surface.Refused why) = surface_number (surface.Refused why)
+unfoldable pub surface_bit : Result Bool Refusal → ℕ
+surface_bit (Ok near) = cond near 1 0
+surface_bit (Err why) = surface_number (Err why)
 
 -- all numbers of the statistics, floats as bits
-unfoldable pub numbers : Statistics → List ℕ
-numbers (statistics.Of s) =
+unfoldable pub numbers : Result TsdfStats Refusal → List ℕ
+numbers (Ok s) =
     s.voxel_count ∷ s.surface_voxel_count ∷ to_bits binary32 s.min_distance.0
     ∷ to_bits binary32 s.max_distance.0 ∷ to_bits binary32 s.average_weight ∷ []
-numbers (statistics.Refused why) = []
+numbers (Err why) = []
 
 abbrev pub asked : List (List ℕ)
 asked =

@@ -1,17 +1,14 @@
 -- Statistics of the table.
-use Rattle.std.specs.Prelude.{ℕ, ◌+◌, cond, List, [], ◌∷◌, eqb, pos, Float}
+use Rattle.std.specs.Prelude.{ℕ, ◌+◌, cond, List, [], ◌∷◌, eqb, pos, Float, Ok, Err, Result}
 use Rattle.std.specs.Float.{binary32}
 use Rattle.std.specs.Float.Ieee.{add, div, neg, lt, eq, of_int}
 use Rattle.floats.specs.Floats.{zero32, largest, size_of, smaller_of, larger_of}
 use Rattle.refusals.specs.Refusals.{number_of}
 use Rattle.table.specs.declared.Settings.{Settings}
-use Rattle.table.specs.declared.Checked.{Checked}
-use Rattle.table.specs.declared.Checked.TheVariants as checked
 use Rattle.table.specs.Table.{Row, Table, rows, table_check}
 use Rattle.tsdf_surveys.specs.declared.Tally.{Tally}
 use Rattle.tsdf_surveys.specs.declared.TsdfStats.{TsdfStats}
-use Rattle.tsdf_surveys.specs.declared.Statistics.{Statistics}
-use Rattle.tsdf_surveys.specs.declared.Statistics.TheVariants as statistics
+use Rattle.refusals.specs.declared.Refusal.{Refusal}
 
 -- before the first row: the lowest starts at the largest float, the highest at its negative, the weights at +0
 abbrev pub no_tally : Tally
@@ -54,16 +51,16 @@ stats_of n t =
     }
 
 -- what the tests of the table refuse stays refused
-unfoldable pub statistics_if : Checked → TsdfStats → Statistics
-statistics_if checked.Passed s = statistics.Of s
-statistics_if (checked.Refused why) s = statistics.Refused why
+unfoldable pub statistics_if : Result (Unit {0}) Refusal → TsdfStats → Result TsdfStats Refusal
+statistics_if (Ok tt) s = Ok s
+statistics_if (Err why) s = Err why
 
 -- rows ascending, after refusals 1, 2 and 3
-unfoldable pub statistics_of : Settings → Table → Statistics
+unfoldable pub statistics_of : Settings → Table → Result TsdfStats Refusal
 unfolding statistics_if stats_of tallied_all
 statistics_of s t = statistics_if (table_check s t) (stats_of t.count (tallied_all s.voxel_size.0 no_tally (rows t)))
 
 -- document 01's number of an answer, 0 where it is no refusal
-abbrev pub statistics_number : Statistics → ℕ
-statistics_number (statistics.Of s) = 0
-statistics_number (statistics.Refused why) = number_of why
+abbrev pub statistics_number : Result TsdfStats Refusal → ℕ
+statistics_number (Ok s) = 0
+statistics_number (Err why) = number_of why

@@ -1,7 +1,7 @@
 // The cells of the table near its surface, and its statistics (src/layers/tsdf.rs: get_surface_voxels, stats).
 #![tactic(auto)]
 
-ghost use Rattle.std.specs.Prelude.{◌≡◌, cond, ◌+◌, ◌≤◌, ◌<◌, length, set};
+ghost use Rattle.std.specs.Prelude.{◌≡◌, cond, ◌+◌, ◌≤◌, ◌<◌, length, set, Ok};
 ghost use Rattle.std.proofs.lemmas.List.Edits.{sets};
 ghost use Rattle.lists.specs.Listing.{count_of, held_for};
 ghost use Rattle.lists.specs.Places.{cleared_from};
@@ -11,9 +11,9 @@ ghost use Rattle.tsdf_surveys.specs.Statistics.{no_tally, tallied, tallied_all, 
 ghost use Rattle.tsdf_questions.specs.Steps.{Accepted};
 
 use floats::{Metres, is_finite, larger, size, smaller};
-use lists::{LONGEST_LIST, Listed, clear_from_u64, count_of, room_for};
+use lists::{LONGEST_LIST, clear_from_u64, count_of, room_for};
 use refusals::Refusal;
-use table::{Checked, Settings, check_table, check_with, then_test};
+use table::{Settings, check_table, check_with, then_test};
 
 // How many rows there are and lie near the surface, the ends of their distances, and their mean weight.
 #[derive(Clone, Copy)]
@@ -23,12 +23,6 @@ pub struct TsdfStats {
     pub min_distance: Metres,
     pub max_distance: Metres,
     pub average_weight: f32,
-}
-
-#[derive(Clone, Copy)]
-pub enum Statistics {
-    Of(TsdfStats),
-    Refused(Refusal),
 }
 
 // What is counted over rows.
@@ -93,7 +87,7 @@ fn check_list(
     count: usize,
     threshold: f32,
     room: usize,
-) -> Checked
+) -> Result<(), Refusal>
     ensures { result ≡ list_check settings (table keys.now distances.now weights.now count) threshold room }
 {
     let verdict = check_with(
@@ -109,15 +103,15 @@ fn check_list(
 
 // The surface's cells, where the tests passed; the places past them are left to be cleared.
 fn list_checked(
-    verdict: Checked,
+    verdict: Result<(), Refusal>,
     threshold: f32,
     keys: &[u64],
     distances: &[f32],
     weights: &[f32],
     count: usize,
     out: &mut [u64],
-) -> Listed
-    requires { verdict ≡ Checked.Passed → Accepted keys.now distances.now weights.now count }
+) -> Result<usize, Refusal>
+    requires { verdict ≡ (Ok tt) → Accepted keys.now distances.now weights.now count }
     ensures value { result ≡ listed_if verdict
         (surface_keys threshold (rows_of keys.now distances.now weights.now count))
         (length out.old) }
@@ -125,8 +119,8 @@ fn list_checked(
         ≡ held_for 0 result (length out.old)
         (surface_keys threshold (rows_of keys.now distances.now weights.now count)) }
 {
-    if let Checked::Refused(why) = verdict {
-        return Listed::Refused(why);
+    if let Err(why) = verdict {
+        return Err(why);
     }
     let n = list_surface(threshold, keys, distances, weights, count, out);
     room_for(n, out.len())
@@ -141,7 +135,7 @@ pub fn get_surface_voxels(
     count: usize,
     threshold: Metres,
     out: &mut [u64],
-) -> Listed
+) -> Result<usize, Refusal>
     ensures value { result ≡ surface_listed settings
         (table keys.now distances.now weights.now count) threshold.0
         (length out.old) }
@@ -192,10 +186,8 @@ fn tally_rows(near: f32, keys: &[u64], distances: &[f32], weights: &[f32], count
         high: -3.40282347e38,
         weight: 0.0,
     };
-    let mut i = 0;
-    while i < count {
+    for i in 0..count {
         sum = add_row(near, sum, distances[i], weights[i]);
-        i += 1;
     }
     sum
 }
@@ -226,14 +218,14 @@ pub fn stats(
     distances: &[f32],
     weights: &[f32],
     count: usize,
-) -> Statistics
+) -> Result<TsdfStats, Refusal>
     ensures { result ≡ statistics_of settings (table keys.now distances.now weights.now count) }
 {
     match check_table(settings, keys, distances, weights, count) {
-        Checked::Refused(why) => Statistics::Refused(why),
-        Checked::Passed => {
+        Err(why) => Err(why),
+        Ok(()) => {
             let sum = tally_rows(settings.voxel_size.0, keys, distances, weights, count);
-            Statistics::Of(TsdfStats {
+            Ok(TsdfStats {
                 voxel_count: count,
                 surface_voxel_count: sum.near,
                 min_distance: Metres(unless_start(3.40282347e38, sum.low)),

@@ -1,5 +1,6 @@
 -- From the closed mesh to the turned one: the lists that the closed call leaves are ready to be turned, and turned they are the turned mesh's.
 -- Assumes nothing.
+use Rattle.std.specs.Prelude.{Ok, Err, Result}
 use Prim.Native.Nat.{ℕ, ◌-◌, ◌≤◌}
 use native.Mathlib.Omega.{arith}
 use mathlib.Core.Path.{◌≡◌, refl, sym, ap, ap₂, ◌∙◌}
@@ -16,7 +17,6 @@ use Rattle.lists.proofs.Bools.{and_first, and_second}
 use Rattle.lists.proofs.PaddingLaws.{padded_length}
 use Rattle.table.specs.Table.{Table, table, rows}
 use Rattle.table.specs.declared.Settings.{Settings}
-use Rattle.table.specs.declared.Checked.TheVariants.{Passed}
 use Rattle.edges.specs.Edges.{Edge}
 use Rattle.edges.specs.Listing.{firsts, seconds}
 use Rattle.edges.specs.Steps.{Accepted}
@@ -25,8 +25,6 @@ use Rattle.tetrahedra.specs.ClosedEdges.{closed_edges}
 use Rattle.tetrahedra.specs.ClosedTriangles.{closed_triangles}
 use Rattle.winding.specs.Winding.{looks_in, turn_if, outwards, turned_triangles}
 use Rattle.mesh.specs.declared.Rooms.{Rooms}
-use Rattle.mesh.specs.declared.Meshed.{Meshed}
-use Rattle.mesh.specs.declared.Meshed.TheVariants.{Done, Refused}
 use Rattle.mesh.specs.Mesh.{mesh_check, have_room_on, mesh_answer_on, held_in, IsClosedMesh}
 use Rattle.mesh.proofs.MeshLaws.{acc as passed-mesh, rest_ok}
 use Rattle.mesh.proofs.Calls.{done_on}
@@ -34,6 +32,7 @@ use Rattle.mesh.proofs.ClosedCalls.{lists_padded, edges_held, triangles_held}
 use Rattle.turned_mesh.specs.Turned.{IsTurnedMesh}
 use Rattle.turning.specs.Steps.{Ready}
 use Rattle.turned_mesh.specs.Steps.{turned_for}
+use Rattle.refusals.specs.declared.Refusal.{Refusal}
 
 -- ---- columns
 
@@ -63,18 +62,18 @@ swapped_column old new l room j e p q =
     ∙ ap (λ (x : List ℕ). new ++ x) (drop_at old (replicate (room - length old) 0) j p)
     ∙ ap (λ (n : ℕ). new ++ replicate (room - n) 0) (p ∙ sym q)
 
-held_column : (a : Meshed) (old new l l' : List ℕ) (room : ℕ)
+held_column : (a : Result (ℕ × ℕ) Refusal) (old new l l' : List ℕ) (room : ℕ)
     → l ≡ held_in 0 a room old
-    → ((i j : ℕ) → a ≡ Done i j → (length old ≡ j) × (length new ≡ j))
+    → ((i j : ℕ) → a ≡ Ok (i, j) → (length old ≡ j) × (length new ≡ j))
     → l' ≡ turned_for a new l
     → l' ≡ held_in 0 a room new
 unfolding held_in
-held_column (Done i j) old new l l' room e n f = let c = n i j refl in f ∙ swapped_column old new l room j e c.0 c.1
-held_column (Refused why) old new l l' room e n f = f ∙ e
+held_column (Ok (i, j)) old new l l' room e n f = let c = n i j refl in f ∙ swapped_column old new l room j e c.0 c.1
+held_column (Err why) old new l l' room e n f = f ∙ e
 
 -- ---- of a call
 
-module _ (s : Settings) (ks : List ℕ) (ds ws : List Float) (cnt : ℕ) (r : Rooms) (a : Meshed) (as' bs : List ℕ)
+module _ (s : Settings) (ks : List ℕ) (ds ws : List Float) (cnt : ℕ) (r : Rooms) (a : Result (ℕ × ℕ) Refusal) (as' bs : List ℕ)
     (xs ys zs us vs ws' : List Float) (is js ls : List ℕ) (m : IsClosedMesh s (table ks ds ws cnt) r a as' bs xs ys zs us vs ws' is js ls) where
   abbrev t : Table
   t = table ks ds ws cnt
@@ -85,8 +84,8 @@ module _ (s : Settings) (ks : List ℕ) (ds ws : List Float) (cnt : ℕ) (r : Ro
   abbrev ts : List (Three ℕ)
   ts = closed_triangles (rows t)
 
-  module _ (i j : ℕ) (e : a ≡ Done i j) where
-    known : (mesh_check s t r ≡ Passed) × (have_room_on Closed t r ≡ true) × (i ≡ length es) × (j ≡ length ts)
+  module _ (i j : ℕ) (e : a ≡ Ok (i, j)) where
+    known : (mesh_check s t r ≡ (Ok tt)) × (have_room_on Closed t r ≡ true) × (i ≡ length es) × (j ≡ length ts)
     known = done_on Closed s t r i j (sym m.answer ∙ e)
 
     acc : Accepted ks ds ws cnt × (r.second ≡ r.first)
@@ -145,9 +144,9 @@ module _ (s : Settings) (ks : List ℕ) (ds ws : List Float) (cnt : ℕ) (r : Ro
       → l' ≡ held_in 0 (mesh_answer_on Closed s t r) room (map column (turned_triangles (rows t))) =
       λ column l l' room q f.
       held_column a (map column ts) (map column (turned_triangles (rows t))) l l' room
-      (q ∙ ap (λ (x : Meshed). held_in 0 x room (map column ts)) (sym m.answer))
+      (q ∙ ap (λ (x : Result (ℕ × ℕ) Refusal). held_in 0 x room (map column ts)) (sym m.answer))
       (λ i j e. counts i j e (map column (turned_triangles (rows t))) column (length-map (turned_triangles (rows t)) column)) f
-      ∙ ap (λ (x : Meshed). held_in 0 x room (map column (turned_triangles (rows t)))) m.answer in
+      ∙ ap (λ (x : Result (ℕ × ℕ) Refusal). held_in 0 x room (map column (turned_triangles (rows t)))) m.answer in
       record {
         answer = m.answer;
         first = m.first;

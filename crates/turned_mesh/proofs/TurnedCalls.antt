@@ -1,6 +1,7 @@
 -- What a caller of `extract_turned_mesh` has, by its answer: the lists hold the closed edges and the triangles turned outwards, which close, have one
 -- winding, and look outwards; refused, they are zeros. Which answer it is, is the closed mesh's (`closed_refused_for_room`, `closed_room_enough` of mesh).
 -- Assumes nothing.
+use Rattle.std.specs.Prelude.{Ok, Err, Result}
 use Prim.Native.Nat.{ℕ, ◌-◌}
 use mathlib.Core.Path.{◌≡◌, refl, sym, ap, ◌∙◌}
 use mathlib.Core.Bool.{true}
@@ -25,8 +26,6 @@ use Rattle.winding.specs.Winding.{turned_triangles, OneWindingBy, OutwardBy}
 use Rattle.winding.proofs.TurningLaws.{looks_outward}
 use Rattle.winding.proofs.WindingLaws.{one_winding, turned_closes}
 use Rattle.mesh.specs.declared.Rooms.{Rooms}
-use Rattle.mesh.specs.declared.Meshed.{Meshed}
-use Rattle.mesh.specs.declared.Meshed.TheVariants.{Done, Refused}
 use Rattle.mesh.specs.Mesh.{mesh_answer_on, held_in, IsClosedMesh}
 use Rattle.mesh.proofs.MeshLaws.{rise}
 use Rattle.mesh.proofs.Calls.{done_on}
@@ -34,7 +33,7 @@ use Rattle.mesh.proofs.ClosedCalls.{edges_held, lists_wiped}
 use Rattle.turned_mesh.specs.Turned.{IsTurnedMesh}
 use Rattle.turned_mesh.proofs.CallLaws.{turned_length}
 
-module _ (s : Settings) (ks : List ℕ) (ds ws : List Float) (cnt : ℕ) (r : Rooms) (a : Meshed) (as' bs : List ℕ)
+module _ (s : Settings) (ks : List ℕ) (ds ws : List Float) (cnt : ℕ) (r : Rooms) (a : Result (ℕ × ℕ) Refusal) (as' bs : List ℕ)
     (xs ys zs us vs ws' : List Float) (is js ls : List ℕ) (m : IsTurnedMesh s (table ks ds ws cnt) r a as' bs xs ys zs us vs ws' is js ls) where
   abbrev t : Table
   t = table ks ds ws cnt
@@ -65,8 +64,8 @@ module _ (s : Settings) (ks : List ℕ) (ds ws : List Float) (cnt : ℕ) (r : Ro
         t2 = refl;
       }
 
-  module _ (i j : ℕ) (e : a ≡ Done i j) where
-    answered : mesh_answer_on Closed s t r ≡ Done i j
+  module _ (i j : ℕ) (e : a ≡ Ok (i, j)) where
+    answered : mesh_answer_on Closed s t r ≡ Ok (i, j)
     answered = sym m.answer ∙ e
 
     up : ascending (keys_of (rows t)) ≡ true
@@ -74,7 +73,7 @@ module _ (s : Settings) (ks : List ℕ) (ds ws : List Float) (cnt : ℕ) (r : Ro
 
     held : (room : ℕ) (found l : List ℕ) → l ≡ held_in 0 (mesh_answer_on Closed s t r) room found → l ≡ padded 0 room found
     unfolding held_in
-    held room found l q = q ∙ ap (λ (w : Meshed). held_in 0 w room found) answered
+    held room found l q = q ∙ ap (λ (w : Result (ℕ × ℕ) Refusal). held_in 0 w room found) answered
 
     -- The edges and the triangles, read back by the counts handed back.
     pub turned_edges_held : edges_in as' bs i ≡ closed_edges (rows t)
@@ -106,10 +105,10 @@ module _ (s : Settings) (ks : List ℕ) (ds ws : List Float) (cnt : ℕ) (r : Ro
     turned_lists_close = rw (turned_edges_held, turned_triangles_held) (turned_closes (rows t) up)
 
   -- Refused, every place of every list is zero.
-  module _ (why : Refusal) (e : a ≡ Refused why) where
+  module _ (why : Refusal) (e : a ≡ Err why) where
     wiped : (room : ℕ) (found l : List ℕ) → l ≡ held_in 0 (mesh_answer_on Closed s t r) room found → l ≡ replicate room 0
     unfolding held_in
-    wiped room found l q = q ∙ ap (λ (w : Meshed). held_in 0 w room found) (sym m.answer ∙ e)
+    wiped room found l q = q ∙ ap (λ (w : Result (ℕ × ℕ) Refusal). held_in 0 w room found) (sym m.answer ∙ e)
 
     pub turned_lists_wiped : ((as' ≡ replicate r.first 0) × (bs ≡ replicate r.second 0))
         × (((xs ≡ replicate r.px zero32) × ((ys ≡ replicate r.py zero32) × (zs ≡ replicate r.pz zero32)))

@@ -1,5 +1,5 @@
 -- The closed mesh turned outwards, in eleven lent lists.
-use Rattle.std.specs.Prelude.{ℕ, ◌≡◌, List, [], Float}
+use Rattle.std.specs.Prelude.{ℕ, ◌≡◌, List, [], Float, Result}
 use Rattle.floats.specs.Floats.{zero32}
 use Rattle.lists.specs.Threes.{column0, column1, column2}
 use Rattle.table.specs.Table.{Table, rows}
@@ -9,12 +9,12 @@ use Rattle.edges.specs.declared.Surface.TheVariants.{Closed}
 use Rattle.slopes.specs.Vertices.{xs_of, ys_of, zs_of}
 use Rattle.slopes.specs.Normals.{parts_x, parts_y, parts_z}
 use Rattle.mesh.specs.declared.Rooms.{Rooms}
-use Rattle.mesh.specs.declared.Meshed.{Meshed}
 use Rattle.mesh.specs.Mesh.{surface_edges, vertices_on, normals_on, mesh_answer_on, held_in}
 use Rattle.winding.specs.Winding.{turned_triangles}
+use Rattle.refusals.specs.declared.Refusal.{Refusal}
 
 -- the answer, edges, vertices and normals of the closed mesh, no groups, and its triangles turned outwards
-pub record IsTurnedMesh (s : Settings) (t : Table) (r : Rooms) (a : Meshed) (as' bs : List ℕ)
+pub record IsTurnedMesh (s : Settings) (t : Table) (r : Rooms) (a : Result (ℕ × ℕ) Refusal) (as' bs : List ℕ)
     (xs ys zs us vs ws : List Float) (is js ks : List ℕ) : Type 0 where
   pub answer : a ≡ mesh_answer_on Closed s t r
   pub first : as' ≡ held_in 0 (mesh_answer_on Closed s t r) r.first (firsts (surface_edges Closed t))

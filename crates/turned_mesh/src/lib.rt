@@ -9,12 +9,12 @@ ghost use Rattle.winding.specs.Winding.{turned_triangles};
 ghost use Rattle.turned_mesh.specs.Turned.{IsTurnedMesh};
 ghost use Rattle.turned_mesh.specs.Steps.{ReadyIf, turned_for};
 
-use mesh::Meshed;
 use table::Settings;
+use refusals::Refusal;
 
 // The triangles turned, by the answer to the closed mesh: nothing where that is refused.
 fn turn_meshed(
-    meshed: Meshed,
+    meshed: Result<(usize, usize), Refusal>,
     keys: &[u64],
     distances: &[f32],
     weights: &[f32],
@@ -32,10 +32,10 @@ fn turn_meshed(
         (column2 (turned_triangles (rows_of keys.now distances.now weights.now count))) t2.old }
 {
     match meshed {
-        Meshed::Done(edges, triangles) => turning::turn_triangles(
+        Ok((edges, triangles)) => turning::turn_triangles(
             keys, distances, weights, count, first, second, edges, triangles, t0, t1, t2,
         ),
-        Meshed::Refused(_) => {}
+        Err(_) => {}
     }
 }
 
@@ -58,7 +58,7 @@ pub fn extract_turned_mesh(
     t0: &mut [u32],
     t1: &mut [u32],
     t2: &mut [u32],
-) -> Meshed
+) -> Result<(usize, usize), Refusal>
     ensures { IsTurnedMesh settings (table keys.now distances.now weights.now count)
         (rooms_of (length first.old) (length second.old) (length px.old)
         (length py.old) (length pz.old) (length nx.old) (length ny.old)

@@ -71,12 +71,10 @@ pub fn turn_triangles(
         ++ drop triangles t2.old }
 {
     let mut near = 0;
-    let mut i = 0;
-    while i < triangles {
+    for i in 0..triangles {
         let a = t0[i] as usize;
         near = search::place_near(keys, count, near, first[a]);
         let side = distances[near] < 0.0;
         turn_at(side, first, second, i, t0, t1, t2);
-        i += 1;
     }
 }

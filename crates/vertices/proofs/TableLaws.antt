@@ -1,5 +1,6 @@
 -- On an accepted table the search by halves finds the rows, so each edge of a list of its own has the vertex of its two rows.
 -- Assumes nothing.
+use Rattle.std.specs.Prelude.{Some, None, Option}
 use Prim.Native.Nat.{ℕ, ◌<◌, min, max}
 use native.Mathlib.Omega.{arith}
 use mathlib.Core.Path.{◌≡◌, refl, ap, fun_ext, ◌∙◌}
@@ -19,8 +20,6 @@ use Rattle.floats.proofs.Order.{within_finite}
 use Rattle.floats.proofs.Values.{le_or_lt}
 use Rattle.search.specs.Keys.{ascending, find_by}
 use Rattle.table.specs.Table.{Row, rows_of, row_ok, rows_ok}
-use Rattle.search.specs.declared.Found.{Found}
-use Rattle.search.specs.declared.Found.TheVariants as found
 use Rattle.table.specs.Rows.{keys_of, stored}
 use Rattle.neighbors.specs.Neighbors.{neighbours}
 use Rattle.edges.specs.Edges.{Edge, edge, edges}
@@ -42,12 +41,12 @@ use Rattle.vertices.specs.EdgeVertices.{EdgeVertex}
 -- ---- the lookup by halves is the lookup among the rows
 
 module _ (ks : List ℕ) (ds ws : List Float) (n : ℕ) (acc : Accepted ks ds ws n) where
-  by_found : (key : ℕ) (f : Found) → f ≡ find_by key (take n ks) → distance_at ds f ≡ distance_in (rows_of ks ds ws n) key
+  by_found : (key : ℕ) (f : Option ℕ) → f ≡ find_by key (take n ks) → distance_at ds f ≡ distance_in (rows_of ks ds ws n) key
   unfolding distance_at distance_of
-  by_found key (found.At i) e =
-      let h : i < length ds = omega (arith, place_below ks ds ws n acc key (found.At i) e i refl, acc.fits, acc.distances) in
-      rw (lt-ltb i (length ds) h, one_stored ks ds ws n acc key (found.At i) e i refl)
-  by_found key found.Absent e = rw (none_stored ks ds ws n acc key found.Absent e refl)
+  by_found key (Some i) e =
+      let h : i < length ds = omega (arith, place_below ks ds ws n acc key (Some i) e i refl, acc.fits, acc.distances) in
+      rw (lt-ltb i (length ds) h, one_stored ks ds ws n acc key (Some i) e i refl)
+  by_found key None e = rw (none_stored ks ds ws n acc key None e refl)
 
   pub distance_by_lem : distance_by ks ds n ≡ distance_in (rows_of ks ds ws n)
   distance_by_lem = fun_ext (λ key. by_found key (find_by key (take n ks)) refl)

@@ -1,16 +1,14 @@
 -- A cell's distance by the rows of a table.
-use Rattle.std.specs.Prelude.{List}
+use Rattle.std.specs.Prelude.{List, Some, None}
 use Rattle.std.proofs.Math.Option.{Option, none, some}
 use Rattle.table.specs.Table.{Row}
 use Rattle.table.specs.Rows.{stored}
 use Rattle.slopes.specs.Stored.{Lookup}
-use Rattle.slopes.specs.declared.Stored.{Stored}
-use Rattle.slopes.specs.declared.Stored.TheVariants.{Distance, Absent}
 
 -- the distance of a row
-unfoldable pub distance_of : Option Row → Stored
-distance_of none = Absent
-distance_of (some r) = Distance r.distance
+unfoldable pub distance_of : Option Row → Option Float
+distance_of none = None
+distance_of (some r) = Some r.distance
 
 -- the distance of the row with the key, where there is one
 abbrev pub distance_in : List Row → Lookup

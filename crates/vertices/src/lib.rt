@@ -50,13 +50,11 @@ fn list_places(
         (take edges first.now) (take edges second.now))) }
 {
     let n = least(edges, least(first.len(), second.len()));
-    let mut i = 0;
-    while i < n {
+    for i in 0..n {
         let v = vertex_at(keys, distances, count, voxel_size, first[i], second[i]);
         put(px, i, v.x.0);
         put(py, i, v.y.0);
         put(pz, i, v.z.0);
-        i += 1;
     }
 }
 
@@ -105,15 +103,13 @@ fn list_normals(
     let n = least(edges, first.len());
     let mut last = 0;
     let mut normal = compute_normal(keys, distances, count, voxel_size, last);
-    let mut i = 0;
-    while i < n {
+    for i in 0..n {
         let key = first[i];
         normal = next_normal(keys, distances, count, voxel_size, last, normal, key);
         last = key;
         put(nx, i, normal.x);
         put(ny, i, normal.y);
         put(nz, i, normal.z);
-        i += 1;
     }
 }
 

@@ -14,10 +14,8 @@ pub fn write_zeros(list: &mut [u8], at: usize, count: usize)
     requires { at + count ≤ length list.old }
     ensures { list.new ≡ sets list.old at (zeros count) }
 {
-    let mut i = 0;
-    while i < count {
+    for i in 0..count {
         list[at + i] = 0;
-        i += 1;
     }
 }
 

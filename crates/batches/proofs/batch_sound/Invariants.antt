@@ -1,17 +1,17 @@
 -- `batches::batch_sound` meets its contract: what is left of the batch ends as the whole does, and the far readings before it are counted.
 -- Assumes nothing.
+use Rattle.std.specs.Prelude.{Ok}
 use mathlib.Core.Path.{◌≡◌}
 use Prim.Native.Nat.{◌≤◌, ◌-◌}
 use lib.ListN.{length, drop}
 use Rattle.table.specs.Table.{table, table_check}
-use Rattle.table.specs.declared.Checked.TheVariants.{Passed}
 use Rattle.batching.specs.Batches.{entries, batch_from}
 use Rattle.batching.specs.Steps.{far_up_to}
 use Rattle.batches.proofs.batch_sound.Given as goal
 
 abbrev pub invariant-loop-i : goal.invariant-loop-i
 invariant-loop-i l = (l.i ≤ length l.batch_keys)
-    × (table_check l.settings (table l.keys l.distances l.weights l.count) ≡ Passed)
+    × (table_check l.settings (table l.keys l.distances l.weights l.count) ≡ (Ok tt))
     × (batch_from l.settings 0 (table l.initial.keys l.initial.distances l.initial.weights l.initial.count)
     (entries l.batch_keys l.batch_distances l.batch_confidences)
     ≡ batch_from l.settings l.i (table l.keys l.distances l.weights l.count)

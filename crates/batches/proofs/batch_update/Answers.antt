@@ -23,36 +23,36 @@ answered {m = m} p q r = rw (p, q) (ap (λ (b : BatchEnd). answer_of b m) r)
 
 pub batch_sound-went-requires : goal.batch_sound-went-requires
 batch_sound-went-requires c =
-    let p = with_passed _ _ _ (sym c.check_with.ensures ∙ c.in-Passed.is) in
+    let p = with_passed _ _ _ (sym c.check_with.ensures ∙ c.in-Ok.is) in
     let k = lengths_known _ _ _ _ (sym c.lengths_ok-fits.ensures ∙ p.0) in
     record { count_value = p.1; batch_distances_len = (k.1, k.2) }
 
 pub counts_of-counts-requires : goal.counts_of-counts-requires
 counts_of-counts-requires c =
-    let p = with_passed _ _ _ (sym c.check_with.ensures ∙ c.in-Passed.is) in
+    let p = with_passed _ _ _ (sym c.check_with.ensures ∙ c.in-Ok.is) in
     let k = lengths_known _ _ _ _ (sym c.lengths_ok-fits.ensures ∙ p.0) in
     let n =
     counts_known _ _ _ _ _ _ _ _ p.1 c.batch_sound-went.ensures.count_after (by_length entry _ _ _ k.1 k.2) c.readings_taken-taken.ensures
     c.batch_sound-went.ensures.far_value in
     (n.0, n.1)
 
-pub returns-in-Refused : goal.returns-in-Refused
+pub returns-in-Err : goal.returns-in-Err
 unfolding batch batch_if
-returns-in-Refused c =
+returns-in-Err c =
     rw (
       ← c.lengths_ok-fits.ensures,
       ← c.check_with.ensures,
-      c.in-Refused.is,
+      c.in-Err.is,
       c.counts_of.ensures,
     )
 
-pub returns-in-Passed : goal.returns-in-Passed
+pub returns-in-Ok : goal.returns-in-Ok
 unfolding batch batch_if
-returns-in-Passed c =
-    let p = with_passed _ _ _ (sym c.check_with.ensures ∙ c.in-Passed.is) in
+returns-in-Ok c =
+    let p = with_passed _ _ _ (sym c.check_with.ensures ∙ c.in-Ok.is) in
     let k = lengths_known _ _ _ _ (sym c.lengths_ok-fits.ensures ∙ p.0) in
     let n =
     counts_known _ _ _ _ _ _ _ _ p.1 c.batch_sound-went.ensures.count_after (by_length entry _ _ _ k.1 k.2) c.readings_taken-taken.ensures
     c.batch_sound-went.ensures.far_value in
-    rw (← c.lengths_ok-fits.ensures, ← c.check_with.ensures, c.in-Passed.is)
+    rw (← c.lengths_ok-fits.ensures, ← c.check_with.ensures, c.in-Ok.is)
     (answered c.batched_of.ensures (c.counts_of-counts.ensures ∙ n.2) c.batch_sound-went.ensures.count_after)

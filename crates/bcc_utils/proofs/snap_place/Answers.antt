@@ -7,49 +7,49 @@ use mir.Val.{to_z, of_z}
 use borrow.Author.Rules.{rules}
 use Rattle.bcc_utils.proofs.snap_place.Goals as goal
 
-pub returns-in-Refused : goal.returns-in-Refused
+pub returns-in-Err : goal.returns-in-Err
 unfolding place_snapped
-returns-in-Refused c = rw (← c.cells_of.ensures, c.in-Refused.is)
+returns-in-Err c = rw (← c.cells_of.ensures, c.in-Err.is)
 
-pub returns-in-Refused-cells_of : goal.returns-in-Refused-cells_of
+pub returns-in-Err-cells_of : goal.returns-in-Err-cells_of
 unfolding place_snapped
-returns-in-Refused-cells_of c =
+returns-in-Err-cells_of c =
     rw (
       ← c.cells_of.ensures,
-      c.in-Whole.is,
-      ← c.cells_of-in-Whole.ensures,
-      c.in-Refused-cells_of.is,
+      c.in-Ok.is,
+      ← c.cells_of-in-Ok.ensures,
+      c.in-Err-cells_of.is,
     )
 
-pub returns-in-Refused-cells_of-2 : goal.returns-in-Refused-cells_of-2
+pub returns-in-Err-cells_of-2 : goal.returns-in-Err-cells_of-2
 unfolding place_snapped
-returns-in-Refused-cells_of-2 c =
+returns-in-Err-cells_of-2 c =
     rw (
       ← c.cells_of.ensures,
-      c.in-Whole.is,
-      ← c.cells_of-in-Whole.ensures,
-      c.in-Whole-cells_of.is,
-      ← c.cells_of-in-Whole-cells_of.ensures,
-      c.in-Refused-cells_of-2.is,
+      c.in-Ok.is,
+      ← c.cells_of-in-Ok.ensures,
+      c.in-Ok-cells_of.is,
+      ← c.cells_of-in-Ok-cells_of.ensures,
+      c.in-Err-cells_of-2.is,
     )
 
-pub returns-in-Whole-cells_of-2 : goal.returns-in-Whole-cells_of-2
+pub returns-in-Ok-cells_of-2 : goal.returns-in-Ok-cells_of-2
 unfolding place_snapped
-returns-in-Whole-cells_of-2 c =
-    let a = c.in-Whole.a in
-    let b = c.in-Whole-cells_of.b in
-    let d = c.in-Whole-cells_of-2.c in
+returns-in-Ok-cells_of-2 c =
+    let a = c.in-Ok.a in
+    let b = c.in-Ok-cells_of.b in
+    let d = c.in-Ok-cells_of-2.c in
     let ha : to_z w32 (of_z w32 a) ≡ a = search rules in
     let hb : to_z w32 (of_z w32 b) ≡ b = search rules in
     let hd : to_z w32 (of_z w32 d) ≡ d = search rules in
     rw (
       c.snap_to_nearest_bcc.ensures,
       ← c.cells_of.ensures,
-      c.in-Whole.is,
-      ← c.cells_of-in-Whole.ensures,
-      c.in-Whole-cells_of.is,
-      ← c.cells_of-in-Whole-cells_of.ensures,
-      c.in-Whole-cells_of-2.is,
+      c.in-Ok.is,
+      ← c.cells_of-in-Ok.ensures,
+      c.in-Ok-cells_of.is,
+      ← c.cells_of-in-Ok-cells_of.ensures,
+      c.in-Ok-cells_of-2.is,
       ha,
       hb,
       hd,

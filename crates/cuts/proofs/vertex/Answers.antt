@@ -7,13 +7,13 @@ use Rattle.cuts.proofs.vertex.Goals as goal
 
 pub overflow_cast-result : goal.overflow_cast-result
 overflow_cast-result c =
-    let small = below_at 1048576 _ _ c.in-At.is c.number_between.ensures.below in
+    let small = below_at 1048576 _ _ c.in-Some.is c.number_between.ensures.below in
     omega arith
 
-pub returns-in-At : goal.returns-in-At
+pub returns-in-Some : goal.returns-in-Some
 unfolding vertex_by
-returns-in-At c = rw (← c.number_between.ensures.value, c.in-At.is)
+returns-in-Some c = rw (← c.number_between.ensures.value, c.in-Some.is)
 
-pub returns-in-Absent : goal.returns-in-Absent
+pub returns-in-None : goal.returns-in-None
 unfolding vertex_by
-returns-in-Absent c = rw (← c.number_between.ensures.value, c.in-Absent.is) c.past_last.ensures
+returns-in-None c = rw (← c.number_between.ensures.value, c.in-None.is) c.past_last.ensures

@@ -5,12 +5,12 @@ use Rattle.cutting.proofs.ClosedLaws.{refused_cut}
 use Rattle.cutting.proofs.cut_checked.Goals as goal
 
 pub cut_listed-requires : goal.cut_listed-requires
-cut_listed-requires c = c.requires _ c.in-Count.is
+cut_listed-requires c = c.requires _ c.in-Ok.is
 
-pub returns-in-Count : goal.returns-in-Count
-returns-in-Count c =
-    let told = c.in-Count.is in
+pub returns-in-Ok : goal.returns-in-Ok
+returns-in-Ok c =
+    let told = c.in-Ok.is in
     rw told c.cut_listed.ensures
 
-pub returns-in-Refused : goal.returns-in-Refused
-returns-in-Refused c = refused_cut _ _ _ _ _ _ (rw c.in-Refused.is refl)
+pub returns-in-Err : goal.returns-in-Err
+returns-in-Err c = refused_cut _ _ _ _ _ _ (rw c.in-Err.is refl)

@@ -15,7 +15,7 @@ returns-in_default c = not_stored _ _ _ _ c.requires.0 _ _ _ c.if-key-keys.false
 
 pub crosses_at-requires : goal.crosses_at-requires
 crosses_at-requires c =
-    (c.requires.0, c.requires.1, place_below _ _ _ _ c.requires.0 _ _ c.find_beside.ensures _ c.in-At.is)
+    (c.requires.0, c.requires.1, place_below _ _ _ _ c.requires.0 _ _ c.find_beside.ensures _ c.in-Some.is)
 
 pub returns : goal.returns
-returns c = c.crosses_at.ensures ∙ both_stored _ _ _ _ c.requires.0 _ _ _ c.if-key-keys.false _ c.find_beside.ensures _ c.in-At.is
+returns c = c.crosses_at.ensures ∙ both_stored _ _ _ _ c.requires.0 _ _ _ c.if-key-keys.false _ c.find_beside.ensures _ c.in-Some.is

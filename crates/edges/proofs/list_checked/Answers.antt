@@ -8,13 +8,13 @@ use Rattle.lists.proofs.Held.{refused_held}
 use Rattle.edges.proofs.AnswerLaws.{outputs_same, answer_room, firsts_held, seconds_held}
 use Rattle.edges.proofs.list_checked.Goals as goal
 
-pub returns-in-Refused : goal.returns-in-Refused
+pub returns-in-Err : goal.returns-in-Err
 unfolding answer_if
-returns-in-Refused c =
+returns-in-Err c =
     let a = c.args in
     let es = edges_on a.surface (rows_of a.keys.now a.distances.now a.weights.now a.count) in
     record {
-      value = rw c.in-Refused.is refl;
+      value = rw c.in-Err.is refl;
       first_after = refused_held 0 _ a.first.now (firsts es);
       second_after = refused_held 0 _ a.second.now (seconds es);
     }

@@ -8,19 +8,19 @@ use Rattle.esdf.proofs.Answering.{answered}
 use Rattle.esdf.proofs.march_if.Goals as goal
 
 pub march-requires : goal.march-requires
-march-requires c = c.requires c.in-Passed.is
+march-requires c = c.requires c.in-Ok.is
 
-pub returns-in-Refused : goal.returns-in-Refused
-returns-in-Refused c = refused_first _ _ _ _ _ _ c.in-Refused.is
+pub returns-in-Err : goal.returns-in-Err
+returns-in-Err c = refused_first _ _ _ _ _ _ c.in-Err.is
 
-pub returns-in-Passed : goal.returns-in-Passed
-returns-in-Passed c =
+pub returns-in-Ok : goal.returns-in-Ok
+returns-in-Ok c =
     let a = c.args in
     let d = c.march in
     let g =
     march_from a.course.size a.course.most (rooms_of a.keys.now a.cells.now) a.threshold
     (rows_of a.fused_keys.now a.fused_distances.now a.fused_weights.now a.fused_count) in
     passed_first a.verdict g d.new.keys d.new.distances
-    d.new.estimates d.new.cells c.marched_of.result c.in-Passed.is
+    d.new.estimates d.new.cells c.marched_of.result c.in-Ok.is
     (answered g d.result c.marched_of.result d.new.keys d.new.distances
     d.new.estimates d.new.cells c.marched_of.ensures d.ensures)

@@ -2,8 +2,8 @@
 -- Assumes nothing.
 use Rattle.esdf.proofs.marched_of.Goals as goal
 
-pub returns-in-Done : goal.returns-in-Done
-returns-in-Done c = rw c.in-Done.is
+pub returns-in-Ok : goal.returns-in-Ok
+returns-in-Ok c = rw c.in-Ok.is
 
-pub returns-in-Not : goal.returns-in-Not
-returns-in-Not c = rw (c.in-Not.is, c.refusal_of.ensures)
+pub returns-in-Err : goal.returns-in-Err
+returns-in-Err c = rw (c.in-Err.is, c.refusal_of.ensures)

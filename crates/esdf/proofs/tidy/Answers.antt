@@ -3,18 +3,18 @@
 use Rattle.esdf.proofs.Computing.{stays, wiped}
 use Rattle.esdf.proofs.tidy.Goals as goal
 
-pub returns-in-Done : goal.returns-in-Done
-returns-in-Done c =
+pub returns-in-Ok : goal.returns-in-Ok
+returns-in-Ok c =
     record {
-      keys_after = stays _ _ _ c.in-Done.is;
-      distances_after = stays _ _ _ c.in-Done.is;
-      estimates_after = stays _ _ _ c.in-Done.is;
-      cells_after = stays _ _ _ c.in-Done.is;
+      keys_after = stays _ _ _ c.in-Ok.is;
+      distances_after = stays _ _ _ c.in-Ok.is;
+      estimates_after = stays _ _ _ c.in-Ok.is;
+      cells_after = stays _ _ _ c.in-Ok.is;
     }
 
-pub returns-in-Refused : goal.returns-in-Refused
-returns-in-Refused c =
-    let w = c.in-Refused.is in
+pub returns-in-Err : goal.returns-in-Err
+returns-in-Err c =
+    let w = c.in-Err.is in
     let e = c.clear.ensures in
     record {
       keys_after = wiped _ _ _ _ w e.keys_after;

@@ -8,24 +8,24 @@ use Rattle.esdf_questions.proofs.get_distance.Goals as goal
 pub stored_at-requires : goal.stored_at-requires
 stored_at-requires c =
     let a = c.args in
-    accepted a.keys.now a.distances.now a.count _ _ c.check_key.ensures c.in-Passed.is
+    accepted a.keys.now a.distances.now a.count _ _ c.check_key.ensures c.in-Ok.is
 
-pub returns-in-Refused : goal.returns-in-Refused
-returns-in-Refused c =
+pub returns-in-Err : goal.returns-in-Err
+returns-in-Err c =
     let a = c.args in
     distance_refused (marched_table a.keys.now a.distances.now a.count) a.key _
-    c.check_key.ensures c.in-Refused.is
+    c.check_key.ensures c.in-Err.is
 
-pub returns-in-At : goal.returns-in-At
-returns-in-At c =
+pub returns-in-Some : goal.returns-in-Some
+returns-in-Some c =
     let a = c.args in
     distance_of_lem (marched_table a.keys.now a.distances.now a.count) a.key _
-    c.check_key.ensures c.in-Passed.is _
-    c.stored_at.ensures c.in-At.is
+    c.check_key.ensures c.in-Ok.is _
+    c.stored_at.ensures c.in-Some.is
 
-pub returns-in-Absent : goal.returns-in-Absent
-returns-in-Absent c =
+pub returns-in-Ok-None : goal.returns-in-Ok-None
+returns-in-Ok-None c =
     let a = c.args in
     distance_absent (marched_table a.keys.now a.distances.now a.count) a.key _
-    c.check_key.ensures c.in-Passed.is _
-    c.stored_at.ensures c.in-Absent.is
+    c.check_key.ensures c.in-Ok.is _
+    c.stored_at.ensures c.in-Ok-None.is

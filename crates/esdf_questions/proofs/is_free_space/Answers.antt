@@ -8,24 +8,24 @@ use Rattle.esdf_questions.proofs.is_free_space.Goals as goal
 pub stored_at-requires : goal.stored_at-requires
 stored_at-requires c =
     let a = c.args in
-    accepted a.keys.now a.distances.now a.count _ _ c.check_free.ensures c.in-Passed.is
+    accepted a.keys.now a.distances.now a.count _ _ c.check_free.ensures c.in-Ok.is
 
-pub returns-in-Refused : goal.returns-in-Refused
-returns-in-Refused c =
+pub returns-in-Err : goal.returns-in-Err
+returns-in-Err c =
     let a = c.args in
     free_refused (marched_table a.keys.now a.distances.now a.count) a.key a.threshold _
-    c.check_free.ensures c.in-Refused.is
+    c.check_free.ensures c.in-Err.is
 
-pub returns-in-At : goal.returns-in-At
-returns-in-At c =
+pub returns-in-Some : goal.returns-in-Some
+returns-in-Some c =
     let a = c.args in
     free_of (marched_table a.keys.now a.distances.now a.count) a.key a.threshold _
-    c.check_free.ensures c.in-Passed.is _
-    c.stored_at.ensures c.in-At.is
+    c.check_free.ensures c.in-Ok.is _
+    c.stored_at.ensures c.in-Some.is
 
-pub returns-in-Absent : goal.returns-in-Absent
-returns-in-Absent c =
+pub returns-in-None : goal.returns-in-None
+returns-in-None c =
     let a = c.args in
     free_absent (marched_table a.keys.now a.distances.now a.count) a.key a.threshold _
-    c.check_free.ensures c.in-Passed.is
-    _ c.stored_at.ensures c.in-Absent.is
+    c.check_free.ensures c.in-Ok.is
+    _ c.stored_at.ensures c.in-None.is

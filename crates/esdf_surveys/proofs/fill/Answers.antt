@@ -7,19 +7,19 @@ use Rattle.esdf_surveys.proofs.fill.Goals as goal
 
 pub put_within-n-requires : goal.put_within-n-requires
 put_within-n-requires c =
-    let p = c.requires c.in-Passed.is in
+    let p = c.requires c.in-Ok.is in
     (p.0, p.1)
 
-pub returns-in-Refused : goal.returns-in-Refused
-returns-in-Refused c =
+pub returns-in-Err : goal.returns-in-Err
+returns-in-Err c =
     let a = c.args in
     fill_refused _ (cells_within a.threshold (marched_rows_of a.keys.now a.distances.now a.count))
-    a.out_keys.now a.out_distances.now c.in-Refused.is
+    a.out_keys.now a.out_distances.now c.in-Err.is
 
-pub returns-in-Passed : goal.returns-in-Passed
-returns-in-Passed c =
+pub returns-in-Ok : goal.returns-in-Ok
+returns-in-Ok c =
     let a = c.args in
-    let v = c.in-Passed.is in
+    let v = c.in-Ok.is in
     fill_passed _ (cells_within a.threshold (marched_rows_of a.keys.now a.distances.now a.count))
     a.out_keys.now a.out_distances.now _ _ _ _ _ v (c.requires v).2
     c.put_within-n.auto.out_keys

@@ -8,20 +8,20 @@ pub tally_all-requires : goal.tally_all-requires
 tally_all-requires c =
     let a = c.args in (
       accepted a.keys.now a.distances.now a.count _ _ c.check.ensures
-          c.in-Passed.is,
+          c.in-Ok.is,
       short a.keys.now a.distances.now a.count _ _ c.check.ensures
-          c.in-Passed.is,
+          c.in-Ok.is,
     )
 
-pub returns-in-Refused : goal.returns-in-Refused
-returns-in-Refused c =
+pub returns-in-Err : goal.returns-in-Err
+returns-in-Err c =
     let a = c.args in
-    stats_refused a.keys.now a.distances.now a.count _ c.check.ensures c.in-Refused.is
+    stats_refused a.keys.now a.distances.now a.count _ c.check.ensures c.in-Err.is
 
-pub returns-in-Passed : goal.returns-in-Passed
-returns-in-Passed c =
+pub returns-in-Ok : goal.returns-in-Ok
+returns-in-Ok c =
     let a = c.args in
     stats_known a.keys.now a.distances.now a.count _ c.check.ensures _ _
-    c.in-Passed.is
+    c.in-Ok.is
     (accepted a.keys.now a.distances.now a.count _ _ c.check.ensures
-    c.in-Passed.is) c.tally_all.ensures c.stats_of.ensures
+    c.in-Ok.is) c.tally_all.ensures c.stats_of.ensures

@@ -1,9 +1,9 @@
 -- `floats::with_sign` meets its contract. A signed number is read back from its bits by `to_z-of_z`, since it fits. Assumes nothing.
+use Rattle.std.specs.Prelude.{Ok}
 use Rattle.std.proofs.Common.{◌≡◌, ℕ, zero, suc, ◌^◌, ◌≤◌, ℤ, pos, ◌-ℤ◌, neg_ℤ, sym, ap, ◌∙◌, subst, arith, w32, w64, SFits, to_z, of_z, le-leb}
 use lib.IntN.{+ℤ_idl}
 use mir.ValLaws.{to_z-of_z, to_z_pos}
 use borrow.Author.Tests.{lt-leb}
-use Rattle.floats.specs.declared.Nearest.TheVariants.{Whole}
 use Rattle.floats.proofs.with_sign.Goals as goal
 
 -- 0 - w, and that it fits
@@ -30,8 +30,8 @@ overflow_cast-result-then-w-le2147483648 c = let w = c.args.w in subst (SFits w3
 pub returns-then-w-le2147483648 : goal.returns-then-w-le2147483648
 returns-then-w-le2147483648 c =
     let w = c.args.w in
-    ap (λ (z : ℤ). Whole (to_z w32 (of_z w32 z))) (minus_read w c.if-w-le2147483648.true)
-    ∙ ap Whole (to_z-of_z w32 (neg_ℤ (pos w)) (minus_fits32 w c.if-w-le2147483648.true))
+    ap (λ (z : ℤ). Ok (to_z w32 (of_z w32 z))) (minus_read w c.if-w-le2147483648.true)
+    ∙ ap Ok (to_z-of_z w32 (neg_ℤ (pos w)) (minus_fits32 w c.if-w-le2147483648.true))
     ∙ sym (simp (c.if-below.true, le-leb w (2 ^ 31) c.if-w-le2147483648.true))
 
 pub returns-else-w-le2147483648 : goal.returns-else-w-le2147483648
@@ -40,7 +40,7 @@ returns-else-w-le2147483648 c = simp (c.if-below.true, lt-leb _ _ c.if-w-le21474
 pub returns-then-w-le2147483647 : goal.returns-then-w-le2147483647
 returns-then-w-le2147483647 c =
     let w = c.args.w in
-    ap Whole (to_z_pos w32 w (omega arith)) ∙ sym (simp (c.if-below.false, le-leb w 0x7fff_ffff c.if-w-le2147483647.true))
+    ap Ok (to_z_pos w32 w (omega arith)) ∙ sym (simp (c.if-below.false, le-leb w 0x7fff_ffff c.if-w-le2147483647.true))
 
 pub returns-else-w-le2147483647 : goal.returns-else-w-le2147483647
 returns-else-w-le2147483647 c = simp (c.if-below.false, lt-leb _ _ c.if-w-le2147483647.false)

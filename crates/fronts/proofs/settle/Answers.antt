@@ -22,8 +22,8 @@ spread-requires c =
       key_value = p.key_value.0;
     }
 
-pub returns-in-Not : goal.returns-in-Not
-returns-in-Not c =
+pub returns-in-Err : goal.returns-in-Err
+returns-in-Err c =
     let a = c.args in
     let x = c.settled-distance in
     let r = c.store in
@@ -33,10 +33,10 @@ returns-in-Not c =
     (seed_in a.threshold (rows_of a.fused_keys.now a.fused_distances.now a.fused_weights.now a.fused_count))
     a.key a.count a.keys.now a.distances.now a.waiting a.estimates.now a.cells.now s h told room x.result
     (x.ensures s.stored (marking_also a.lean a.key s.waiting) h.marked) r.result r.new.keys r.new.distances r.auto.keys
-    r.ensures _ c.in-Not.is
+    r.ensures _ c.in-Err.is
 
-pub returns-in-Not-spread : goal.returns-in-Not-spread
-returns-in-Not-spread c =
+pub returns-in-Err-spread : goal.returns-in-Err-spread
+returns-in-Err-spread c =
     let a = c.args in
     let x = c.settled-distance in
     let r = c.store in
@@ -47,12 +47,12 @@ returns-in-Not-spread c =
     (seed_in a.threshold (rows_of a.fused_keys.now a.fused_distances.now a.fused_weights.now a.fused_count))
     a.key a.count a.keys.now a.distances.now a.waiting a.estimates.now a.cells.now s h told room x.result
     (x.ensures s.stored (marking_also a.lean a.key s.waiting) h.marked) r.result r.new.keys r.new.distances r.auto.keys
-    r.ensures _ c.in-Now.is d.result
+    r.ensures _ c.in-Ok.is d.result
     d.new.keys d.new.distances
-    d.new.estimates d.new.cells d.ensures _ c.in-Not-spread.is
+    d.new.estimates d.new.cells d.ensures _ c.in-Err-spread.is
 
-pub returns-in-Now-spread : goal.returns-in-Now-spread
-returns-in-Now-spread c =
+pub returns-in-Ok-spread : goal.returns-in-Ok-spread
+returns-in-Ok-spread c =
     let a = c.args in
     let x = c.settled-distance in
     let r = c.store in
@@ -63,6 +63,6 @@ returns-in-Now-spread c =
     (seed_in a.threshold (rows_of a.fused_keys.now a.fused_distances.now a.fused_weights.now a.fused_count))
     a.key a.count a.keys.now a.distances.now a.waiting a.estimates.now a.cells.now s h told room x.result
     (x.ensures s.stored (marking_also a.lean a.key s.waiting) h.marked) r.result r.new.keys r.new.distances r.auto.keys
-    r.ensures _ c.in-Now.is d.result
+    r.ensures _ c.in-Ok.is d.result
     d.new.keys d.new.distances
-    d.new.estimates d.new.cells d.ensures _ c.in-Now-spread.is
+    d.new.estimates d.new.cells d.ensures _ c.in-Ok-spread.is

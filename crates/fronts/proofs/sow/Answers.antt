@@ -19,18 +19,18 @@ wait_around-requires c =
       key_value = (p.key_value.0, rw c.size.ensures (seed_number c.args.distance p.key_value.1));
     }
 
-pub returns-in-Not : goal.returns-in-Not
-returns-in-Not c =
+pub returns-in-Err : goal.returns-in-Err
+returns-in-Err c =
     let a = c.args in
     let r = c.store in
     λ s h o told room.
     sow_no_row
     a.course a.lean (seed_in a.threshold (rows_of a.fused_keys.now a.fused_distances.now a.fused_weights.now a.fused_count))
     a.key a.count a.keys.now a.distances.now a.waiting a.estimates.now a.cells.now s h o told room a.distance c.requires.key_value.1
-    r.result r.new.keys r.new.distances r.auto.keys r.ensures _ c.in-Not.is
+    r.result r.new.keys r.new.distances r.auto.keys r.ensures _ c.in-Err.is
 
-pub returns-in-Not-wait_around : goal.returns-in-Not-wait_around
-returns-in-Not-wait_around c =
+pub returns-in-Err-wait_around : goal.returns-in-Err-wait_around
+returns-in-Err-wait_around c =
     let a = c.args in
     let r = c.store in
     let d = c.wait_around in
@@ -38,12 +38,12 @@ returns-in-Not-wait_around c =
     sow_no_cell
     a.course a.lean (seed_in a.threshold (rows_of a.fused_keys.now a.fused_distances.now a.fused_weights.now a.fused_count))
     a.key a.count a.keys.now a.distances.now a.waiting a.estimates.now a.cells.now s h o told room a.distance c.requires.key_value.1
-    r.result r.new.keys r.new.distances r.auto.keys r.ensures _ c.in-Now.is c.size.result c.size.ensures d.result
+    r.result r.new.keys r.new.distances r.auto.keys r.ensures _ c.in-Ok.is c.size.result c.size.ensures d.result
     d.new.keys d.new.distances
-    d.new.estimates d.new.cells d.ensures _ c.in-Not-wait_around.is
+    d.new.estimates d.new.cells d.ensures _ c.in-Err-wait_around.is
 
-pub returns-in-Now-wait_around : goal.returns-in-Now-wait_around
-returns-in-Now-wait_around c =
+pub returns-in-Ok-wait_around : goal.returns-in-Ok-wait_around
+returns-in-Ok-wait_around c =
     let a = c.args in
     let r = c.store in
     let d = c.wait_around in
@@ -51,6 +51,6 @@ returns-in-Now-wait_around c =
     sow_done
     a.course a.lean (seed_in a.threshold (rows_of a.fused_keys.now a.fused_distances.now a.fused_weights.now a.fused_count))
     a.key a.count a.keys.now a.distances.now a.waiting a.estimates.now a.cells.now s h o told room a.distance c.requires.key_value.1
-    r.result r.new.keys r.new.distances r.auto.keys r.ensures _ c.in-Now.is c.size.result c.size.ensures d.result
+    r.result r.new.keys r.new.distances r.auto.keys r.ensures _ c.in-Ok.is c.size.result c.size.ensures d.result
     d.new.keys d.new.distances
-    d.new.estimates d.new.cells d.ensures _ c.in-Now-wait_around.is
+    d.new.estimates d.new.cells d.ensures _ c.in-Ok-wait_around.is

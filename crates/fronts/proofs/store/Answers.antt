@@ -13,28 +13,28 @@ returns-then-keys-count c =
     λ s ws vs h same room f n o. store_full a.key p.1 a.distance f s ws vs a.count a.keys.now a.distances.now h same n o c.if-keys-count.true
 
 pub offset_bounds-distances-place : goal.offset_bounds-distances-place
-offset_bounds-distances-place c = omega (arith, place_in _ _ _ (sym c.find.ensures ∙ c.in-At.is), c.requires.0)
+offset_bounds-distances-place c = omega (arith, place_in _ _ _ (sym c.find.ensures ∙ c.in-Ok.is), c.requires.0)
 
 pub bounds-distances-place : goal.bounds-distances-place
-bounds-distances-place c = omega (arith, place_in _ _ _ (sym c.find.ensures ∙ c.in-At.is), c.requires.0)
+bounds-distances-place c = omega (arith, place_in _ _ _ (sym c.find.ensures ∙ c.in-Ok.is), c.requires.0)
 
 pub enter-requires : goal.enter-requires
 enter-requires c = c.requires.0
 
-pub returns-in-At : goal.returns-in-At
-returns-in-At c =
+pub returns-in-Ok : goal.returns-in-Ok
+returns-in-Ok c =
     let a = c.args in
     let p = c.requires in
     λ s ws vs h same room f n o.
     store_at a.key p.1 a.distance f s ws vs a.count a.keys.now a.distances.now h same n o c.if-keys-count.false _
-    (sym c.find.ensures ∙ c.in-At.is)
+    (sym c.find.ensures ∙ c.in-Ok.is)
 
-pub returns-in-Absent : goal.returns-in-Absent
-returns-in-Absent c =
+pub returns-in-Err : goal.returns-in-Err
+returns-in-Err c =
     let a = c.args in
     let p = c.requires in
     let l = c.if-keys-count.false in
     λ s ws vs h same room f n o.
     store_put a.key p.1 a.distance f s ws vs a.count a.keys.now a.distances.now h same n o l _ _
     (entered_by s.stored ws _ _ _ _ _ _ _ c.enter.ensures h (room (omega (arith, l, n)))
-    (sym c.find.ensures ∙ c.in-Absent.is))
+    (sym c.find.ensures ∙ c.in-Err.is))

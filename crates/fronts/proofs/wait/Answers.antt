@@ -22,14 +22,14 @@ pub wait_lean-requires : goal.wait_lean-requires
 wait_lean-requires c =
     record {
       lent = c.requires.lent;
-      keys_value = (sym c.find.ensures ∙ c.in-Absent.is, c.requires.key_value);
+      keys_value = (sym c.find.ensures ∙ c.in-Err.is, c.requires.key_value);
     }
 
 pub wait_marked-requires : goal.wait_marked-requires
 wait_marked-requires c =
     record {
       paired = c.requires.lent.1;
-      keys_value = (sym c.find.ensures ∙ c.in-Absent.is, c.requires.key_value);
+      keys_value = (sym c.find.ensures ∙ c.in-Err.is, c.requires.key_value);
     }
 
 pub returns-then-lean : goal.returns-then-lean

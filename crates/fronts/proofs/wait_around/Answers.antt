@@ -37,8 +37,8 @@ wait-requires c =
       key_value = (near_lattice c.args.key p.key_value.0 _ i.0 _ (omega (arith, c.loop-i-test.true, i.1)), p.key_value.1);
     }
 
-pub returns-in-Not : goal.returns-in-Not
-returns-in-Not c =
+pub returns-in-Err : goal.returns-in-Err
+returns-in-Err c =
     let d = c.wait in
     let a = c.args in
     rest_stop a.lean (seed_in a.threshold (rows_of a.fused_keys.now a.fused_distances.now a.fused_weights.now a.fused_count))
@@ -49,7 +49,7 @@ returns-in-Not c =
     c.loop-i.estimates c.loop-i.cells c.loop-i.invariant.8 c.loop-i.invariant.7
     (omega (arith, c.loop-i-test.true, c.loop-i.invariant.1)) d.result
     d.new.keys d.new.distances
-    d.new.estimates d.new.cells d.ensures _ c.in-Not.is
+    d.new.estimates d.new.cells d.ensures _ c.in-Err.is
 
 pub loop-i-preserved : goal.loop-i-preserved
 loop-i-preserved c =
@@ -74,7 +74,7 @@ loop-i-preserved c =
           (omega (arith, c.loop-i-test.true, i.1)) d.result
           d.new.keys d.new.distances
           d.new.estimates d.new.cells d.ensures k.keys _
-          c.in-Now.is,
+          c.in-Ok.is,
     )
 
 pub returns : goal.returns

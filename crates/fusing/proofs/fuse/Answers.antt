@@ -5,12 +5,12 @@ use Rattle.fusing.specs.Fusing.{fuse, fuse_if, effect_of, answered}
 use Rattle.fusing.proofs.fuse.Goals as goal
 
 pub fuse_sound-step-requires : goal.fuse_sound-step-requires
-fuse_sound-step-requires c = sym c.check_table.ensures ∙ c.in-Passed.is
+fuse_sound-step-requires c = sym c.check_table.ensures ∙ c.in-Ok.is
 
-pub returns-in-Refused : goal.returns-in-Refused
+pub returns-in-Err : goal.returns-in-Err
 unfolding fuse effect_of fuse_if
-returns-in-Refused c = rw (← c.check_table.ensures, c.in-Refused.is)
+returns-in-Err c = rw (← c.check_table.ensures, c.in-Err.is)
 
-pub returns-in-Passed : goal.returns-in-Passed
+pub returns-in-Ok : goal.returns-in-Ok
 unfolding fuse
-returns-in-Passed c = rw c.fused_of.ensures (ap answered c.fuse_sound-step.ensures)
+returns-in-Ok c = rw c.fused_of.ensures (ap answered c.fuse_sound-step.ensures)

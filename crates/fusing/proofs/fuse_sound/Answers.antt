@@ -14,16 +14,16 @@ fuse_near-requires c =
       keys_value = k.order;
     }
 
-pub returns-in-No : goal.returns-in-No
+pub returns-in-Err : goal.returns-in-Err
 unfolding effect_of fuse_if fused_if
-returns-in-No c = rw (c.requires, ← c.admit.ensures, c.in-No.is)
+returns-in-Err c = rw (c.requires, ← c.admit.ensures, c.in-Err.is)
 
-pub returns-in-Far : goal.returns-in-Far
+pub returns-in-Ok-Far : goal.returns-in-Ok-Far
 unfolding effect_of fuse_if fused_if
-returns-in-Far c = rw (c.requires, ← c.admit.ensures, c.in-Far.is)
+returns-in-Ok-Far c = rw (c.requires, ← c.admit.ensures, c.in-Ok-Far.is)
 
-pub returns-in-Near : goal.returns-in-Near
+pub returns-in-Ok-Some : goal.returns-in-Ok-Some
 unfolding effect_of fuse_if fused_if
-returns-in-Near c =
-    rw (c.requires, ← c.admit.ensures, c.in-Near.is, ← c.averaging_of.ensures)
+returns-in-Ok-Some c =
+    rw (c.requires, ← c.admit.ensures, c.in-Ok-Some.is, ← c.averaging_of.ensures)
     c.fuse_near.ensures

@@ -2,5 +2,5 @@
 -- Assumes nothing.
 use Rattle.fusing.proofs.fused_of.Goals as goal
 
-pub returns-in-Refused : goal.returns-in-Refused
-returns-in-Refused c = rw c.in-Refused.is
+pub returns-in-Err : goal.returns-in-Err
+returns-in-Err c = rw c.in-Err.is

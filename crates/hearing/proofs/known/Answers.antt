@@ -15,10 +15,10 @@ unfolding of_bits
 returns-in_default c = λ rs ws h. known_absent rs ws _ _ h _ c.requires.1 _ (sym c.find.ensures ∙ c.in_default.is)
 
 pub offset_bounds-distances-i : goal.offset_bounds-distances-i
-offset_bounds-distances-i c = omega (arith, place_in _ _ _ (sym c.find.ensures ∙ c.in-At.is), c.requires.0)
+offset_bounds-distances-i c = omega (arith, place_in _ _ _ (sym c.find.ensures ∙ c.in-Ok.is), c.requires.0)
 
 pub bounds-distances-i : goal.bounds-distances-i
-bounds-distances-i c = omega (arith, place_in _ _ _ (sym c.find.ensures ∙ c.in-At.is), c.requires.0)
+bounds-distances-i c = omega (arith, place_in _ _ _ (sym c.find.ensures ∙ c.in-Ok.is), c.requires.0)
 
 pub returns : goal.returns
-returns c = λ rs ws h. known_at rs ws _ _ h _ c.requires.1 _ (sym c.find.ensures ∙ c.in-At.is)
+returns c = λ rs ws h. known_at rs ws _ _ h _ c.requires.1 _ (sym c.find.ensures ∙ c.in-Ok.is)

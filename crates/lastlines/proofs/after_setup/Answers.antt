@@ -3,8 +3,8 @@
 use Rattle.lastlines.proofs.LineLaws.{setup_ready, setup_refused}
 use Rattle.lastlines.proofs.after_setup.Goals as goal
 
-pub returns-in-Ready : goal.returns-in-Ready
-returns-in-Ready c = setup_ready _ _ _ c.in-Ready.is
+pub returns-in-Ok : goal.returns-in-Ok
+returns-in-Ok c = setup_ready _ _ _ c.in-Ok.is
 
-pub returns-in-Refused : goal.returns-in-Refused
-returns-in-Refused c = setup_refused _ _ c.in-Refused.is c.refuse.ensures
+pub returns-in-Err : goal.returns-in-Err
+returns-in-Err c = setup_refused _ _ c.in-Err.is c.refuse.ensures

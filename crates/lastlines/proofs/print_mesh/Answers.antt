@@ -6,7 +6,7 @@ use Rattle.lastlines.proofs.print_mesh.Goals as goal
 
 pub vertex_lines-requires : goal.vertex_lines-requires
 vertex_lines-requires c =
-    let few = edges_few c.in-Done.is c.requires.0 in
+    let few = edges_few c.in-Ok.is c.requires.0 in
     let fit = counts_fit _ _ _ c.counts_line-at.ensures.value in
     let long = c.requires in
     record {
@@ -16,23 +16,23 @@ vertex_lines-requires c =
 
 pub overflow_mul-result : goal.overflow_mul-result
 overflow_mul-result c =
-    let few = edges_few c.in-Done.is c.requires.0 in
+    let few = edges_few c.in-Ok.is c.requires.0 in
     let fit = counts_fit _ _ _ c.counts_line-at.ensures.value in
     omega arith
 
 pub overflow_add-result : goal.overflow_add-result
 overflow_add-result c =
-    let few = edges_few c.in-Done.is c.requires.0 in
+    let few = edges_few c.in-Ok.is c.requires.0 in
     let fit = counts_fit _ _ _ c.counts_line-at.ensures.value in
     omega arith
 
-pub returns-in-Done : goal.returns-in-Done
-returns-in-Done c =
+pub returns-in-Ok : goal.returns-in-Ok
+returns-in-Ok c =
     λ t.
-    print_done _ _ t _ _ _ _ _ _ _ c.in-Done.is
+    print_done _ _ t _ _ _ _ _ _ _ c.in-Ok.is
     c.counts_line-at.ensures.value
     c.counts_line-at.ensures.out_after
     c.vertex_lines.ensures
 
-pub returns-in-Refused : goal.returns-in-Refused
-returns-in-Refused c = λ t. print_refused _ _ t _ _ _ _ _ c.in-Refused.is (c.refuse.ensures t)
+pub returns-in-Err : goal.returns-in-Err
+returns-in-Err c = λ t. print_refused _ _ t _ _ _ _ _ c.in-Err.is (c.refuse.ensures t)

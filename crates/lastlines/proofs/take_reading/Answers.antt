@@ -4,10 +4,10 @@ use mathlib.Core.Path.{sym, ◌∙◌}
 use Rattle.lastlines.proofs.LineLaws.{reading_refused, reading_direct}
 use Rattle.lastlines.proofs.take_reading.Goals as goal
 
-pub returns-in-Refused : goal.returns-in-Refused
-returns-in-Refused c = sym (reading_refused _ _ _ _ _ _ _ c.read_cell.ensures _ c.in-Refused.is)
+pub returns-in-Err : goal.returns-in-Err
+returns-in-Err c = sym (reading_refused _ _ _ _ _ _ _ c.read_cell.ensures _ c.in-Err.is)
 
-pub returns-in-Direct : goal.returns-in-Direct
-returns-in-Direct c =
+pub returns-in-Ok : goal.returns-in-Ok
+returns-in-Ok c =
     c.update_from_depth.ensures
-    ∙ sym (reading_direct _ _ _ _ _ _ _ c.read_cell.ensures _ _ _ c.in-Direct.is)
+    ∙ sym (reading_direct _ _ _ _ _ _ _ c.read_cell.ensures _ _ _ c.in-Ok.is)

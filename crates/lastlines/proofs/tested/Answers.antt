@@ -1,22 +1,22 @@
 -- `lastlines::tested` meets its contract.
 -- Assumes nothing.
+use Rattle.std.specs.Prelude.{Ok, Err}
 use mathlib.Core.Path.{◌≡◌, sym, subst, ◌∙◌}
 use mathlib.Core.Bool.{true, false}
 use Rattle.refusals.specs.declared.Refusal.TheVariants.{Setting}
 use Rattle.table.specs.declared.Settings.{Settings}
 use Rattle.table.specs.Table.{settings_ok}
-use Rattle.lastlines.specs.declared.Setup.TheVariants.{Ready, Refused}
 use Rattle.lastlines.specs.Lastcheck.{tested_as, settings_from}
 use Rattle.lastlines.proofs.tested.Goals as goal
 
 -- settings s, which were made as x
-ready : (x s : Settings) → s ≡ x → settings_ok s ≡ true → Ready s ≡ tested_as (settings_ok x) x
+ready : (x s : Settings) → s ≡ x → settings_ok s ≡ true → Ok s ≡ tested_as (settings_ok x) x
 unfolding tested_as
-ready x s e t = subst (λ (y : Settings). Ready s ≡ tested_as (settings_ok y) y) e (rw t)
+ready x s e t = subst (λ (y : Settings). Ok s ≡ tested_as (settings_ok y) y) e (rw t)
 
-refused : (x s : Settings) → s ≡ x → settings_ok s ≡ false → Refused Setting ≡ tested_as (settings_ok x) x
+refused : (x s : Settings) → s ≡ x → settings_ok s ≡ false → Err Setting ≡ tested_as (settings_ok x) x
 unfolding tested_as
-refused x s e t = subst (λ (y : Settings). Refused Setting ≡ tested_as (settings_ok y) y) e (rw t)
+refused x s e t = subst (λ (y : Settings). Err Setting ≡ tested_as (settings_ok y) y) e (rw t)
 
 pub returns-then-settings_ok : goal.returns-then-settings_ok
 unfolding settings_from

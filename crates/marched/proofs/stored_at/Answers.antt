@@ -14,15 +14,15 @@ offset_bounds-distances-at c =
     omega (
       arith,
       in_distances c.args.keys.now c.args.distances.now c.args.count c.requires c.args.key _
-          c.find_row.ensures _ c.in-At.is,
+          c.find_row.ensures _ c.in-Some.is,
     )
 
 pub bounds-distances-at : goal.bounds-distances-at
 bounds-distances-at c =
     in_distances c.args.keys.now c.args.distances.now c.args.count c.requires c.args.key _
-    c.find_row.ensures _ c.in-At.is
+    c.find_row.ensures _ c.in-Some.is
 
 pub returns : goal.returns
 returns c =
     is_stored c.args.keys.now c.args.distances.now c.args.count c.requires c.args.key _
-    c.find_row.ensures _ c.in-At.is
+    c.find_row.ensures _ c.in-Some.is

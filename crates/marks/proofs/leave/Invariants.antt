@@ -1,9 +1,9 @@
 -- `marks::leave` meets its contract: the table is in order but for one place, and the way around ends.
 -- Assumes nothing.
+use Rattle.std.specs.Prelude.{Ok}
 use Prim.Native.Nat.{ℕ, ◌+◌, ◌-◌, ◌<◌}
 use mathlib.Core.Path.{◌≡◌}
 use lib.ListN.{length}
-use Rattle.marks.specs.declared.Spot.TheVariants.{At}
 use Rattle.marks.specs.Marks.{label, along, spot_of, MayLeave}
 use Rattle.marks.proofs.Circling.{Around}
 use Rattle.marks.proofs.Leaving.{Leaving}
@@ -13,7 +13,7 @@ abbrev pub invariant-loop-keys : goal.invariant-loop-keys
 invariant-loop-keys l = Around l.place l.initial.keys l.i l.keys l.values
     × ((l.hole < length l.keys)
     × ((k : ℕ)
-    → spot_of k l.initial.keys ≡ At l.place
+    → spot_of k l.initial.keys ≡ Ok l.place
     → MayLeave l.initial.keys l.initial.values
     → Leaving (label k) l.place l.initial.keys l.initial.values l.hole l.i l.keys l.values))
 

@@ -4,8 +4,8 @@ use mathlib.Core.Path.{sym, ap}
 use Rattle.mesh.specs.Steps.{with_built}
 use Rattle.mesh.proofs.with_built.Goals as goal
 
-pub returns-in-Count : goal.returns-in-Count
-returns-in-Count c = sym (ap (with_built c.args.n) c.in-Count.is)
+pub returns-in-Ok : goal.returns-in-Ok
+returns-in-Ok c = sym (ap (with_built c.args.n) c.in-Ok.is)
 
-pub returns-in-Refused : goal.returns-in-Refused
-returns-in-Refused c = sym (ap (with_built c.args.n) c.in-Refused.is)
+pub returns-in-Err : goal.returns-in-Err
+returns-in-Err c = sym (ap (with_built c.args.n) c.in-Err.is)

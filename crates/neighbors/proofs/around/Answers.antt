@@ -6,7 +6,7 @@ use Rattle.lists.specs.Padding.{padded}
 use Rattle.neighbors.specs.Neighbors.{offset_at, reached, neighbours_by}
 use Rattle.neighbors.proofs.NeighborLaws.{first_all, keys_one, count_one, keys_none, count_none}
 use Rattle.neighbors.proofs.StepLaws.{cell_reached}
-use Rattle.neighbors.proofs.around.Goals.{in-At, in_default}
+use Rattle.neighbors.proofs.around.Goals.{in-Some, in_default}
 use Rattle.neighbors.proofs.around.Goals as goal
 
 pub loop-place-init : goal.loop-place-init
@@ -22,8 +22,8 @@ loop-place-preserved c =
     let ks = c.loop-place.invariant.1 in
     let cs = c.loop-place.invariant.2 in
     elim c.match-n.branch [
-      | in-At w ↦
-          let f = w.in-At.is in
+      | in-Some w ↦
+          let f = w.in-Some.is in
           (omega arith, w.keys-is ∙ keys_one k n t e _ _ ks cs f, w.count-is ∙ count_one k n t e _ _ ks cs f, omega (arith, w.count-is))
       | in_default w ↦
           let f = w.in_default.is in

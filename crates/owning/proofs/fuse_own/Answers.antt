@@ -22,28 +22,28 @@ fuse_place-requires c =
     let f = lengths_known (length s.own_keys.now) (length s.own_distances.now) (length s.own_weights.now) s.own c.requires.own_value in
     (omega (arith, (numbered_place s.own_keys.now s.own s.key s.slot f.0 c.requires.numbered).1, f), omega (arith, f))
 
-pub returns-in-No : goal.returns-in-No
-returns-in-No c =
-    let n = sym c.admit.ensures ∙ c.in-No.is in
+pub returns-in-Err : goal.returns-in-Err
+returns-in-Err c =
+    let n = sym c.admit.ensures ∙ c.in-Err.is in
     record {
       stepped = (λ t added ready room. no_left _ _ _ _ _ _ _ ready _ _ n);
       result_value = no_tells _ _ _ n;
     }
 
-pub returns-in-Far : goal.returns-in-Far
-returns-in-Far c =
-    let n = sym c.admit.ensures ∙ c.in-Far.is in
+pub returns-in-Ok-None : goal.returns-in-Ok-None
+returns-in-Ok-None c =
+    let n = sym c.admit.ensures ∙ c.in-Ok-None.is in
     record {
       stepped = (λ t added ready room. far_left _ _ _ _ _ _ _ ready _ n);
       result_value = far_tells _ _ n;
     }
 
-pub returns-in-Near : goal.returns-in-Near
-returns-in-Near c =
+pub returns-in-Ok-Some : goal.returns-in-Ok-Some
+returns-in-Ok-Some c =
     let s = c.args in
     let f = lengths_known (length s.own_keys.now) (length s.own_distances.now) (length s.own_weights.now) s.own c.requires.own_value in
     let o = numbered_place s.own_keys.now s.own s.key s.slot f.0 c.requires.numbered in
-    let n = sym c.admit.ensures ∙ c.in-Near.is in
+    let n = sym c.admit.ensures ∙ c.in-Ok-Some.is in
     let r = entry s.key s.distance s.confidence in
     let did = rw c.averaging_of.ensures at c.fuse_place.ensures in record {
       stepped = λ t added ready room.

@@ -1,12 +1,13 @@
 -- `racing::leads_to` meets its contract, by the step.
 -- Assumes nothing.
+use Rattle.std.specs.Prelude.{Result}
 use mathlib.Core.Path.{sym, ap}
-use Rattle.fronts.specs.declared.Step.{Step}
 use Rattle.racing.specs.Racing.{went_of}
 use Rattle.racing.proofs.leads_to.Goals as goal
+use Rattle.fronts.specs.declared.Stop.{Stop}
 
-pub returns-in-Not : goal.returns-in-Not
-returns-in-Not c = sym (ap (λ (s : Step). went_of s c.args.lean) c.in-Not.is)
+pub returns-in-Err : goal.returns-in-Err
+returns-in-Err c = sym (ap (λ (s : Result (ℕ × ℕ) Stop). went_of s c.args.lean) c.in-Err.is)
 
-pub returns-in-On : goal.returns-in-On
-returns-in-On c = sym (ap (λ (s : Step). went_of s c.args.lean) c.in-On.is)
+pub returns-in-Ok : goal.returns-in-Ok
+returns-in-Ok c = sym (ap (λ (s : Result (ℕ × ℕ) Stop). went_of s c.args.lean) c.in-Ok.is)

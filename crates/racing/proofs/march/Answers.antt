@@ -21,7 +21,7 @@ take_all-requires c =
     d.new.distances d.new.estimates
     d.new.cells d.ensures
     (rows_ascend _ _ _ _ c.requires.0.0.lent)
-    d.auto.keys d.auto.cells _ _ _ c.in-On.is in
+    d.auto.keys d.auto.cells _ _ _ c.in-Ok.is in
     record {
       tabled = c.requires.0;
       sown = (x.0, x.1.1);
@@ -40,18 +40,18 @@ sort_rows-requires c =
     (◌∙◌ {b = length d.keys} (sym k.keys)
     (sym {b = length d.keys} m.keys))))
 
-pub returns-in-Not : goal.returns-in-Not
-returns-in-Not c =
+pub returns-in-Err : goal.returns-in-Err
+returns-in-Err c =
     let a = c.args in
     let d = c.sow_all in
     march_stopped a.course a.threshold (rows_of a.fused_keys.now a.fused_distances.now a.fused_weights.now a.fused_count)
     a.keys.now
     a.cells.now d.result d.new.keys
     d.new.distances d.new.estimates
-    d.new.cells d.ensures _ c.in-Not.is _ _ _ _
+    d.new.cells d.ensures _ c.in-Err.is _ _ _ _
 
-pub returns-in-Not-take_all : goal.returns-in-Not-take_all
-returns-in-Not-take_all c =
+pub returns-in-Err-take_all : goal.returns-in-Err-take_all
+returns-in-Err-take_all c =
     let a = c.args in
     let d = c.sow_all in
     let m = c.take_all in
@@ -61,12 +61,12 @@ returns-in-Not-take_all c =
     d.new.distances d.new.estimates
     d.new.cells d.ensures
     (rows_ascend _ _ _ _ c.requires.0.0.lent)
-    d.auto.keys d.auto.cells _ _ _ c.in-On.is m.result m.new.keys
+    d.auto.keys d.auto.cells _ _ _ c.in-Ok.is m.result m.new.keys
     m.new.distances m.new.estimates
-    m.new.cells m.ensures _ c.in-Not-take_all.is
+    m.new.cells m.ensures _ c.in-Err-take_all.is
 
-pub returns-in-Done : goal.returns-in-Done
-returns-in-Done c =
+pub returns-in-Ok : goal.returns-in-Ok
+returns-in-Ok c =
     let a = c.args in
     let d = c.sow_all in
     let m = c.take_all in
@@ -76,8 +76,8 @@ returns-in-Done c =
     d.new.distances d.new.estimates
     d.new.cells d.ensures
     (rows_ascend _ _ _ _ c.requires.0.0.lent)
-    d.auto.keys d.auto.cells _ _ _ c.in-On.is m.result m.new.keys
+    d.auto.keys d.auto.cells _ _ _ c.in-Ok.is m.result m.new.keys
     m.new.distances m.new.estimates
     m.new.cells m.ensures
-    (rows_lattice _ _ _ _ c.requires.0.0) _ _ c.in-Done.is _ _ _
+    (rows_lattice _ _ _ _ c.requires.0.0) _ _ c.in-Ok.is _ _ _
     (c.unlabel.auto.keys ∙ c.sort_rows.auto.keys) c.sort_rows.ensures c.unlabel.ensures

@@ -57,8 +57,8 @@ sow_if-requires c =
       key_value = (p.0.lattice _ l, (p.0.finite _ l, i.5.ready.held.front.heap.fits));
     }
 
-pub returns-in-Not : goal.returns-in-Not
-returns-in-Not c =
+pub returns-in-Err : goal.returns-in-Err
+returns-in-Err c =
     let a = c.args in
     let p = c.requires.0.lent in
     let l = c.loop-i in
@@ -74,7 +74,7 @@ returns-in-Not c =
     here l.invariant.1 l.invariant.4 d.result d.new.keys
     d.new.distances d.new.estimates
     d.new.cells
-    d.ensures _ c.in-Not.is
+    d.ensures _ c.in-Err.is
 
 pub overflow_add-i : goal.overflow_add-i
 overflow_add-i c = omega (arith, c.loop-i-test.true, c.ranges.fused_count.fits)
@@ -106,7 +106,7 @@ loop-i-preserved c =
           here i.1 i.4 d.result d.new.keys
           d.new.distances d.new.estimates
           d.new.cells
-          d.ensures _ _ _ c.in-On.is,
+          d.ensures _ _ _ c.in-Ok.is,
     )
 
 pub returns : goal.returns

@@ -64,9 +64,9 @@ take_next-requires c =
       waiting_nonzero = (l, (h.front.heap.fits, (p.tabled.1, first_on_lattice _ _ _ _ _ _ _ _ h l)));
     }
 
-pub returns-in-Not : goal.returns-in-Not
+pub returns-in-Err : goal.returns-in-Err
 unfolding Emptied
-returns-in-Not c =
+returns-in-Err c =
     let a = c.args in
     let l = c.loop-held in
     let d = c.take_next in
@@ -76,7 +76,7 @@ returns-in-Not c =
     l.keys l.distances l.held l.estimates l.cells (l.invariant.4 s h)
     l.invariant.0 l.invariant.3 c.loop-held-test.true d.result d.new.keys
     d.new.distances d.new.estimates
-    d.new.cells d.ensures _ c.in-Not.is
+    d.new.cells d.ensures _ c.in-Err.is
 
 pub overflow_add-takings : goal.overflow_add-takings
 overflow_add-takings c =
@@ -121,7 +121,7 @@ loop-held-preserved c =
           l.keys l.distances l.held l.estimates l.cells (i.4 s h)
           i.0 i.3 c.loop-held-test.true d.result d.new.keys
           d.new.distances d.new.estimates
-          d.new.cells d.ensures _ _ _ c.in-On.is,
+          d.new.cells d.ensures _ _ _ c.in-Ok.is,
     )
 
 pub returns : goal.returns

@@ -7,7 +7,7 @@ pub returns-in_default : goal.returns-in_default
 returns-in_default c = nowhere _ _ _ c.find_near.ensures c.in_default.is
 
 pub returns-then-place-weights : goal.returns-then-place-weights
-returns-then-place-weights c = here _ _ _ c.find_near.ensures _ c.in-At.is c.if-place-weights.true
+returns-then-place-weights c = here _ _ _ c.find_near.ensures _ c.in-Some.is c.if-place-weights.true
 
 pub returns-else-place-weights : goal.returns-else-place-weights
-returns-else-place-weights c = past _ _ _ c.find_near.ensures _ c.in-At.is c.if-place-weights.false
+returns-else-place-weights c = past _ _ _ c.find_near.ensures _ c.in-Some.is c.if-place-weights.false

@@ -36,4 +36,4 @@ returns c =
     let v = c.loop-i.invariant in
     let a = c.args in
     let all : length (neighbours a.key) ≤ c.loop-i.i = omega (arith, v.1) in
-    c.mean_of.ensures ∙ normal_some _ _ _ _ c.distance_of.ensures _ _ c.in-Distance.is (v.5 ∙ slopes_done _ _ _ _ _ _ v.0 _ _ all)
+    c.mean_of.ensures ∙ normal_some _ _ _ _ c.distance_of.ensures _ _ c.in-Some.is (v.5 ∙ slopes_done _ _ _ _ _ _ v.0 _ _ all)

@@ -4,10 +4,10 @@ use Rattle.slopes.specs.Normals.{length_of}
 use Rattle.slopes.proofs.Working.{has_root, has_no_root}
 use Rattle.slopes.proofs.length.Goals as goal
 
-pub returns-in-Root : goal.returns-in-Root
+pub returns-in-Ok : goal.returns-in-Ok
 unfolding length_of
-returns-in-Root c = has_root _ _ c.root.ensures _ c.in-Root.is
+returns-in-Ok c = has_root _ _ c.root.ensures _ c.in-Ok.is
 
-pub returns-in-Refused : goal.returns-in-Refused
+pub returns-in-Err : goal.returns-in-Err
 unfolding length_of
-returns-in-Refused c = has_no_root _ _ c.root.ensures _ c.in-Refused.is
+returns-in-Err c = has_no_root _ _ c.root.ensures _ c.in-Err.is

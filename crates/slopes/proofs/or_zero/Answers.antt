@@ -3,10 +3,10 @@ use lib.Ieee.{of_bits}
 use Rattle.slopes.specs.Stored.{or_zero}
 use Rattle.slopes.proofs.or_zero.Goals as goal
 
-pub returns-in-Distance : goal.returns-in-Distance
+pub returns-in-Some : goal.returns-in-Some
 unfolding or_zero
-returns-in-Distance c = rw c.in-Distance.is
+returns-in-Some c = rw c.in-Some.is
 
-pub returns-in-Absent : goal.returns-in-Absent
+pub returns-in-None : goal.returns-in-None
 unfolding or_zero of_bits
-returns-in-Absent c = rw c.in-Absent.is
+returns-in-None c = rw c.in-None.is

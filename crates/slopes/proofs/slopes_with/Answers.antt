@@ -6,7 +6,7 @@ use Rattle.slopes.proofs.slopes_with.Goals as goal
 
 pub returns : goal.returns
 returns c =
-    slopes_stored _ _ _ _ _ _ _ _ _ _ _ _ c.in-Distance.is
+    slopes_stored _ _ _ _ _ _ _ _ _ _ _ _ c.in-Some.is
     c.morton_decode-c1.ensures c.morton_decode-c2.ensures
     c.step_of.ensures c.step_of-2.ensures c.step_of-3.ensures
 

@@ -1,12 +1,12 @@
 -- `stl::export_mesh_stl` meets its contract: the file is written where the answer counts, and the rest is cleared.
 -- Assumes nothing.
+use Rattle.std.specs.Prelude.{Ok}
 use Prim.Native.Nat.{ℕ}
 use native.Mathlib.Omega.{arith}
 use mathlib.Core.Path.{◌≡◌, refl, ap, ◌∙◌}
 use lib.ListN.{length}
 use lib.Seq.{sets}
 use Rattle.lists.specs.Listing.{count_of}
-use Rattle.lists.specs.declared.Listed.TheVariants.{Count}
 use Rattle.stl.specs.Files.{file_of}
 use Rattle.stl.specs.Calls.{facets_lent, export_answer}
 use Rattle.stl.proofs.AnswerLaws.{counted_writable, none_counted, export_few, export_held}
@@ -35,7 +35,7 @@ returns c =
     let answered = c.answer-answer.ensures in
     let n = c.count_of-n.ensures ∙ ap count_of answered in
     let written : (k : ℕ)
-    → export_answer a.px.now a.py.now a.pz.now a.vertices a.t0.now a.t1.now a.t2.now a.triangles (length a.file.now) ≡ Count k
+    → export_answer a.px.now a.py.now a.pz.now a.vertices a.t0.now a.t1.now a.t2.now a.triangles (length a.file.now) ≡ Ok k
     → c.if-n-gt0.file ≡ sets a.file.now 0 (file_of (facets_lent a.px.now a.py.now a.pz.now a.vertices a.t0.now a.t1.now a.t2.now a.triangles)) =
     elim c.if-n-gt0.branch [
       | then-n-gt0 w ↦ λ k g. w.file-is ∙ w.write_file.ensures

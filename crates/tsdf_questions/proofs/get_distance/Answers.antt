@@ -5,8 +5,8 @@ use Rattle.tsdf_questions.proofs.get_distance.Goals as goal
 pub returns-in-Row : goal.returns-in-Row
 returns-in-Row c = rw (← c.look_up.ensures, c.in-Row.is)
 
-pub returns-in-Absent : goal.returns-in-Absent
-returns-in-Absent c = rw (← c.look_up.ensures, c.in-Absent.is)
+pub returns-in-Ok-None : goal.returns-in-Ok-None
+returns-in-Ok-None c = rw (← c.look_up.ensures, c.in-Ok-None.is)
 
-pub returns-in-Refused : goal.returns-in-Refused
-returns-in-Refused c = rw (← c.look_up.ensures, c.in-Refused.is)
+pub returns-in-Err : goal.returns-in-Err
+returns-in-Err c = rw (← c.look_up.ensures, c.in-Err.is)

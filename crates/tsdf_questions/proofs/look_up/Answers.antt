@@ -6,12 +6,12 @@ use Rattle.tsdf_questions.proofs.Answers.{accepted}
 use Rattle.tsdf_questions.proofs.look_up.Goals as goal
 
 pub row_of-requires : goal.row_of-requires
-row_of-requires c = accepted _ _ _ _ _ (sym c.check_table.ensures ∙ c.in-Passed.is)
+row_of-requires c = accepted _ _ _ _ _ (sym c.check_table.ensures ∙ c.in-Ok.is)
 
-pub returns-in-Refused : goal.returns-in-Refused
+pub returns-in-Err : goal.returns-in-Err
 unfolding looked_up looked_if
-returns-in-Refused c = rw (← c.check_table.ensures, c.in-Refused.is)
+returns-in-Err c = rw (← c.check_table.ensures, c.in-Err.is)
 
-pub returns-in-Passed : goal.returns-in-Passed
+pub returns-in-Ok : goal.returns-in-Ok
 unfolding looked_up looked_if
-returns-in-Passed c = rw (← c.check_table.ensures, c.in-Passed.is) c.row_of.ensures
+returns-in-Ok c = rw (← c.check_table.ensures, c.in-Ok.is) c.row_of.ensures

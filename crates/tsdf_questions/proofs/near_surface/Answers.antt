@@ -11,6 +11,6 @@ pub returns-in-Absent : goal.returns-in-Absent
 unfolding surface_of
 returns-in-Absent c = rw c.in-Absent.is c.surface_if-in-Absent.ensures
 
-pub returns-in-Refused : goal.returns-in-Refused
+pub returns-in-Err : goal.returns-in-Err
 unfolding surface_of
-returns-in-Refused c = rw c.in-Refused.is
+returns-in-Err c = rw c.in-Err.is

@@ -8,11 +8,11 @@ use Rattle.lists.proofs.Held.{refused_held}
 use Rattle.tsdf_surveys.proofs.Answers.{answer_room, keys_held}
 use Rattle.tsdf_surveys.proofs.list_checked.Goals as goal
 
-pub returns-in-Refused : goal.returns-in-Refused
+pub returns-in-Err : goal.returns-in-Err
 unfolding listed_if
-returns-in-Refused c =
+returns-in-Err c =
     let a = c.args in record {
-      value = rw c.in-Refused.is refl;
+      value = rw c.in-Err.is refl;
       out_after = refused_held 0 _ a.out.now
           (surface_keys a.threshold (rows_of a.keys.now a.distances.now a.weights.now a.count));
     }

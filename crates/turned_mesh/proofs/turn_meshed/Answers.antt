@@ -3,12 +3,12 @@
 use Rattle.turned_mesh.proofs.turn_meshed.Goals as goal
 
 pub turn_triangles-requires : goal.turn_triangles-requires
-turn_triangles-requires c = c.requires _ _ c.in-Done.is
+turn_triangles-requires c = c.requires _ _ c.in-Ok.is
 
-pub returns-in-Done : goal.returns-in-Done
-returns-in-Done c =
+pub returns-in-Ok : goal.returns-in-Ok
+returns-in-Ok c =
     let turned = c.turn_triangles.ensures in
-    let told = c.in-Done.is in
+    let told = c.in-Ok.is in
     record {
       t1_after = rw told turned.t1_after;
       t2_after = rw told turned.t2_after;

@@ -6,11 +6,11 @@ use Rattle.bcc_utils.specs.Snapping.{snapped_place}
 use borrow.Author.Rules.{rules}
 use Rattle.answers.proofs.keys.x_snapped.Goals as goal
 
-pub returns-in-At : goal.returns-in-At
-returns-in-At c =
-    let z = c.in-At.x.0 in
+pub returns-in-Ok : goal.returns-in-Ok
+returns-in-Ok c =
+    let z = c.in-Ok.x.0 in
     let back : to_z w32 (of_z w32 z) ≡ z = search rules in
-    back ∙ ap (λ s. (snapped_place s).0) (sym c.in-At.is)
+    back ∙ ap (λ s. (snapped_place s).0) (sym c.in-Ok.is)
 
-pub returns-in-Refused : goal.returns-in-Refused
-returns-in-Refused c = ap (λ s. (snapped_place s).0) (sym c.in-Refused.is)
+pub returns-in-Err : goal.returns-in-Err
+returns-in-Err c = ap (λ s. (snapped_place s).0) (sym c.in-Err.is)

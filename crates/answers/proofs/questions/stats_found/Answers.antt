@@ -3,5 +3,5 @@ use mathlib.Core.Path.{ap, sym}
 use Rattle.answers.specs.Questions.{stats_found}
 use Rattle.answers.proofs.questions.stats_found.Goals as goal
 
-pub returns-in-Refused : goal.returns-in-Refused
-returns-in-Refused c = ap stats_found (sym c.in-Refused.is)
+pub returns-in-Err : goal.returns-in-Err
+returns-in-Err c = ap stats_found (sym c.in-Err.is)

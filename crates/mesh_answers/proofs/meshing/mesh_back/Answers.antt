@@ -2,7 +2,7 @@
 use mathlib.Core.Path.{refl}
 use Rattle.mesh_answers.proofs.meshing.mesh_back.Goals as goal
 
-pub returns-in-Refused : goal.returns-in-Refused
-returns-in-Refused c =
-    let told = c.in-Refused.is in
+pub returns-in-Err : goal.returns-in-Err
+returns-in-Err c =
+    let told = c.in-Err.is in
     record { number_value = rw told c.number.ensures; first_value = rw told refl; second_value = rw told refl }

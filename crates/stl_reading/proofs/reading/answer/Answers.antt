@@ -13,15 +13,15 @@ pub returns-then-not-passed : goal.returns-then-not-passed
 unfolding read_answer
 returns-then-not-passed c =
     let p = c.args.passed in
-    rw (c.in-Count.is, no {a = p} {t = p} refl (ap not c.if-not-passed.true))
+    rw (c.in-Ok.is, no {a = p} {t = p} refl (ap not c.if-not-passed.true))
 
 pub returns-then-count-room : goal.returns-then-count-room
 unfolding read_answer
 returns-then-count-room c =
     let a = c.args in
-    let n = c.in-Count.count in
+    let n = c.in-Ok.count in
     rw (
-      c.in-Count.is,
+      c.in-Ok.is,
       yes {a = a.passed} {t = a.passed} refl (ap not c.if-not-passed.false),
       le-leb (3 * n) a.room (omega (arith, c.if-count-room.true)),
     )
@@ -30,13 +30,13 @@ pub returns-else-count-room : goal.returns-else-count-room
 unfolding read_answer
 returns-else-count-room c =
     let a = c.args in
-    let n = c.in-Count.count in
+    let n = c.in-Ok.count in
     rw (
-      c.in-Count.is,
+      c.in-Ok.is,
       yes {a = a.passed} {t = a.passed} refl (ap not c.if-not-passed.false),
       lt-leb (3 * n) a.room (omega (arith, c.if-count-room.false)),
     )
 
-pub returns-in-Refused : goal.returns-in-Refused
+pub returns-in-Err : goal.returns-in-Err
 unfolding read_answer
-returns-in-Refused c = rw c.in-Refused.is
+returns-in-Err c = rw c.in-Err.is
