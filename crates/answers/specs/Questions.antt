@@ -1,5 +1,5 @@
 -- What questions about a table hand back: nothing, which is 0, unless the answer is 0.
-use Rattle.std.specs.Prelude.{ℕ, Float, Ok, Err, Some, None, Option, Result}
+use Rattle.std.specs.Prelude.{ℕ, Float, Ok, Err, Some, None, Option, Result, Bool}
 use Rattle.floats.specs.Floats.{zero32}
 use Rattle.tsdf_surveys.specs.declared.TsdfStats.{TsdfStats}
 use Rattle.answers.specs.Keys.{nothing, one_if}

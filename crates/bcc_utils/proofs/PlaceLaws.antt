@@ -61,7 +61,7 @@ module _ (x y z size : Float) where
       go (Ok w) p e = h w e
       go (Err s) p e = refusal_of e ∙ rounding_refuses (div binary32 v size) s p
         where
-          refusal_of : Err s ≡ Err r → r ≡ s
+          refusal_of : ◌≡◌ {A = Result (WideCells × WideCells × WideCells) Refusal} (Err s) (Err r) → r ≡ s
           refusal_of e = cc
 
   pub place_refuses : (r : Refusal) → place_snapped x y z size ≡ Err r → r ≡ OutOfRange

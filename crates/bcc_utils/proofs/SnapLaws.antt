@@ -1,7 +1,7 @@
 -- What snapping is known by: the answer is on the lattice, no coordinate moves by more than one, no candidate and no lattice
 -- point is nearer, a lattice point stays, and 9 is given exactly as document 01 says. Each follows from the nearest
 -- candidate's place, which is the point itself on the lattice. Assumes nothing.
-use Rattle.std.specs.Prelude.{Ok, Err}
+use Rattle.std.specs.Prelude.{Ok, Err, Result}
 use Prim.Native.Nat.{ℕ, zero, suc, ◌%◌, ◌≤◌}
 use native.Mathlib.Omega.{arith}
 use mathlib.Core.Path.{◌≡◌, refl, sym, ap, ◌∙◌, subst}
@@ -60,7 +60,7 @@ odd_stays : (z : ℤ) → even z ≡ false → odd_up z ≡ z
 unfolding odd_up
 odd_stays z e = ap (λ (b : Bool). cond b (suc_ℤ z) z) e
 
-at_not_refused : {a b c : WideCells} {r : Refusal} → Ok (a, b, c) ≡ Err r → ⊥
+at_not_refused : {a b c : WideCells} {r : Refusal} → ◌≡◌ {A = Result (WideCells × WideCells × WideCells) Refusal} (Ok (a, b, c)) (Err r) → ⊥
 at_not_refused e = let z : ◌≡◌ {A = ℕ} 0 1 = cc in omega arith
 
 module _ (x y z : ℤ) where

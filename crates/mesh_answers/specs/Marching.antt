@@ -1,5 +1,5 @@
 -- What the march and questions about a marched table hand back: nothing, which is 0, unless the answer is 0.
-use Rattle.std.specs.Prelude.{ℕ, List, Float, Ok, Err, Some, None, Option, Result}
+use Rattle.std.specs.Prelude.{ℕ, List, Float, Ok, Err, Some, None, Option, Result, Bool}
 use Rattle.floats.specs.Floats.{zero32}
 use Rattle.esdf.specs.Compute.{Outcome, marched_number, rows_marched, takings_marched}
 use Rattle.esdf_surveys.specs.declared.EsdfStats.{EsdfStats}

@@ -1,7 +1,7 @@
 -- Document 01's cases marked P, and those of document 02's requests: what the definitions give beside what the documents say, one list and one
 -- statement. Floats stand as their bits, whole numbers below 0 as 32 bits.
 -- Assumes nothing.
-use Rattle.std.specs.Prelude.{Ok, Err, Result}
+use Rattle.std.specs.Prelude.{Ok, Err, Result, Float}
 use Prim.Native.Nat.{ℕ, ◌+◌, ◌-◌}
 use mathlib.Core.Path.{◌≡◌, refl}
 use mathlib.Core.Bool.{cond}

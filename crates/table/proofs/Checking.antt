@@ -60,7 +60,7 @@ went_on (Err why) rest e = let z : ◌≡◌ {A = ℕ} 0 1 = cc in absurd (omega
 
 -- ---- no test answers 6
 
-pub not_passed : (why : Refusal) → Err why ≡ (Ok tt) → ⊥
+pub not_passed : (why : Refusal) → ◌≡◌ {A = Result (Unit {0}) Refusal} (Err why) (Ok tt) → ⊥
 not_passed why e = let z : ◌≡◌ {A = ℕ} 0 1 = cc in omega arith
 
 other_refusal : (b : Bool) (why : Refusal) (rest : Result (Unit {0}) Refusal) → (why ≡ NoPlace → ⊥) → (rest ≡ Err NoPlace → ⊥) → need b why rest ≡ Err NoPlace → ⊥

@@ -1,6 +1,6 @@
 -- Three rows, of weights 1, 2 and 0: what each question answers, its refusals, and the statistics of them and of the empty table. By computation.
 -- Assumes nothing.
-use Rattle.std.specs.Prelude.{Ok, Err, Some, None, Option, Result}
+use Rattle.std.specs.Prelude.{Ok, Err, Some, None, Option, Result, Bool}
 use Prim.Native.Nat.{ℕ}
 use mathlib.Core.Path.{◌≡◌, refl}
 use mathlib.Core.Bool.{cond}

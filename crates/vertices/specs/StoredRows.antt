@@ -1,5 +1,5 @@
 -- A cell's distance by the rows of a table.
-use Rattle.std.specs.Prelude.{List, Some, None}
+use Rattle.std.specs.Prelude.{List, Some, None, Float}
 use Rattle.std.proofs.Math.Option.{Option, none, some}
 use Rattle.table.specs.Table.{Row}
 use Rattle.table.specs.Rows.{stored}

@@ -1,6 +1,6 @@
 -- `mesh::with_edges` meets its contract.
 -- Assumes nothing.
-use Rattle.std.specs.Prelude.{Result}
+use Rattle.std.specs.Prelude.{Result, ℕ}
 use mathlib.Core.Path.{sym, ap, ◌∙◌}
 use Rattle.mesh.specs.Steps.{with_edges}
 use Rattle.mesh.proofs.with_edges.Goals as goal

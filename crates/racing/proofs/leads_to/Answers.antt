@@ -1,6 +1,6 @@
 -- `racing::leads_to` meets its contract, by the step.
 -- Assumes nothing.
-use Rattle.std.specs.Prelude.{Result}
+use Rattle.std.specs.Prelude.{Result, ℕ}
 use mathlib.Core.Path.{sym, ap}
 use Rattle.racing.specs.Racing.{went_of}
 use Rattle.racing.proofs.leads_to.Goals as goal

@@ -1,5 +1,5 @@
 -- `root_c::root_or` meets its contract: each arm is the case that the answer is. Assumes nothing.
-use Rattle.std.specs.Prelude.{Result}
+use Rattle.std.specs.Prelude.{Result, Float}
 use mathlib.Core.Path.{sym, ap, ◌∙◌}
 use Rattle.root_c.specs.Answers.{root_or}
 use Rattle.root_c.proofs.root_or.Goals as goal
