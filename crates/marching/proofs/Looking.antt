@@ -1,5 +1,5 @@
 -- Looking a cell up among rows is looking its key up among theirs: the place that is found is the row's. Assumes nothing.
-use Rattle.std.specs.Prelude.{Some, None}
+use Rattle.std.specs.Prelude.{Option as Found, Some, None}
 use mathlib.Core.Path.{◌≡◌, refl, sym, ◌∙◌}
 use mathlib.Core.Bool.{Bool, true, false, cond, ◌||◌}
 use mathlib.Core.List.{List, [], ◌∷◌}
@@ -13,11 +13,11 @@ use Rattle.search.specs.Keys.{member, find, next}
 use Rattle.marching.specs.March.{MarchedRow, keys_of, distances_of, distance_of}
 
 -- whether something was found
-unfoldable pub stands : Option ℕ → Bool
+unfoldable pub stands : Found ℕ → Bool
 stands (Some i) = true
 stands None = false
 
-stands_next : (f : Option ℕ) → stands (next f) ≡ stands f
+stands_next : (f : Found ℕ) → stands (next f) ≡ stands f
 unfolding next stands
 stands_next (Some i) = refl
 stands_next None = refl
@@ -30,11 +30,11 @@ member_find k (l ∷ ls) =
     (λ e. refl) (λ e. member_find k ls ∙ sym (stands_next (find k ls)))
 
 -- the value at the place that was found
-unfoldable pub at : Option ℕ → List Float → Option Float
+unfoldable pub at : Found ℕ → List Float → Option Float
 at (Some i) ds = some (get_or ds i nan)
 at None ds = none
 
-at_next : (f : Option ℕ) (d : Float) (ds : List Float) → at (next f) (d ∷ ds) ≡ at f ds
+at_next : (f : Found ℕ) (d : Float) (ds : List Float) → at (next f) (d ∷ ds) ≡ at f ds
 unfolding next at
 at_next (Some i) d ds = refl
 at_next None d ds = refl
