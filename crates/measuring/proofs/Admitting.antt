@@ -24,7 +24,7 @@ admits false why rest m e = let z : ◌≡◌ {A = ℕ} 0 1 = cc in absurd (omeg
 
 near : (s : Settings) (x m : Measured) → near_or_far s x ≡ Ok (Some m) → x ≡ m
 near s x m e =
-    cases (λ (b : Bool). cond b (Ok None) (Ok (Some x)) ≡ Ok (Some m) → x ≡ m) (beyond s.truncation.0 x.distance)
+    cases (λ (b : Bool). cond {A = Result (Option Measured) Refusal} b (Ok None) (Ok (Some x)) ≡ Ok (Some m) → x ≡ m) (beyond s.truncation.0 x.distance)
     (λ t h. let z : ◌≡◌ {A = ℕ} 0 1 = cc in absurd (omega arith))
     (λ t h. cc)
     e
