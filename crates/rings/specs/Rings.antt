@@ -1,5 +1,5 @@
 -- Whether a tetrahedron of stored cells with weight above 0 lies around a pair of cells, by the neighbours of one of them.
-use Rattle.std.specs.Prelude.{ℕ, Bool, false, cond, ◌&&◌, ◌||◌, List, [], ◌∷◌, ltb, Float, length, get_or, take, Some, None}
+use Rattle.std.specs.Prelude.{ℕ, Bool, false, cond, ◌&&◌, ◌||◌, List, [], ◌∷◌, ltb, Float, length, get_or, take, Some, None, Option as Found}
 use Rattle.std.proofs.Math.Option.{Option, none, some}
 use Rattle.std.specs.Float.{nan}
 use Rattle.neighbors.specs.Neighbors.{neighbours, adjacent}
@@ -23,7 +23,7 @@ unfolding weighted stored
 weighted_at rows k = weighted_of (stored k rows)
 
 -- the weight at a place that was found is above 0
-unfoldable pub weighted_found : List Float → Option ℕ → Bool
+unfoldable pub weighted_found : List Float → Found ℕ → Bool
 weighted_found ws (Some place) = cond (ltb place (length ws)) (is_positive (get_or ws place nan)) false
 weighted_found ws None = false
 
