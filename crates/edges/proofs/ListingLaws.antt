@@ -1,6 +1,6 @@
 -- A neighbour is looked up by halves among the keys, and stored among the rows: on an accepted table these say the same.
 -- Assumes nothing.
-use Rattle.std.specs.Prelude.{Some, None}
+use Rattle.std.specs.Prelude.{Some, None, Option as Found}
 use Prim.Native.Nat.{ℕ, ◌≤◌, ◌<◌}
 use native.Mathlib.Omega.{arith}
 use mathlib.Core.Path.{◌≡◌, refl, sym, ap, ◌∙◌}
@@ -28,11 +28,11 @@ front [] = none
 front (r ∷ rs) = some r
 
 -- the row at the place that a search tells
-abbrev told : Option ℕ → List Row → Option Row
+abbrev told : Found ℕ → List Row → Option Row
 told (Some i) rows = front (drop i rows)
 told None rows = none
 
-told_next : (f : Option ℕ) (r : Row) (rs : List Row) → told (next f) (r ∷ rs) ≡ told f rs
+told_next : (f : Found ℕ) (r : Row) (rs : List Row) → told (next f) (r ∷ rs) ≡ told f rs
 unfolding next
 told_next (Some i) r rs = refl
 told_next None r rs = refl
@@ -58,9 +58,9 @@ module _ (ks : List ℕ) (ds ws : List Float) (n : ℕ) (acc : Accepted ks ds ws
   looked_up k =
       stored_told k (rows_of ks ds ws n)
       ∙ ap (λ (l : List ℕ). told (find k l) (rows_of ks ds ws n)) keys_of_rows
-      ∙ ap (λ (f : Option ℕ). told f (rows_of ks ds ws n)) (sym (find_by-find k (take n ks) acc.rising))
+      ∙ ap (λ (f : Found ℕ). told f (rows_of ks ds ws n)) (sym (find_by-find k (take n ks) acc.rising))
 
-  module _ (k : ℕ) (f : Option ℕ) (e : f ≡ find_by k (take n ks)) where
+  module _ (k : ℕ) (f : Found ℕ) (e : f ≡ find_by k (take n ks)) where
     -- a place that is found is that of a row
     pub place_below : (i : ℕ) → f ≡ Some i → i < n
     place_below i t =
@@ -68,11 +68,11 @@ module _ (ks : List ℕ) (ds ws : List Float) (n : ℕ) (acc : Accepted ks ds ws
         omega (arith, length-take n ks)
 
     pub none_stored : f ≡ None → stored k (rows_of ks ds ws n) ≡ none
-    none_stored t = looked_up k ∙ ap (λ (g : Option ℕ). told g (rows_of ks ds ws n)) (sym e ∙ t)
+    none_stored t = looked_up k ∙ ap (λ (g : Found ℕ). told g (rows_of ks ds ws n)) (sym e ∙ t)
 
     pub one_stored : (i : ℕ) → f ≡ Some i → stored k (rows_of ks ds ws n) ≡ some (row_at ks ds ws i)
     one_stored i t =
-        looked_up k ∙ ap (λ (g : Option ℕ). told g (rows_of ks ds ws n)) (sym e ∙ t)
+        looked_up k ∙ ap (λ (g : Found ℕ). told g (rows_of ks ds ws n)) (sym e ∙ t)
         ∙ ap front (row_at_lem ks ds ws n i acc.distances acc.weights (place_below i t) acc.fits)
 
   -- whether a row and a neighbour are listed
@@ -84,13 +84,13 @@ module _ (ks : List ℕ) (ds ws : List Float) (n : ℕ) (acc : Accepted ks ds ws
     unfolding listed
     not_smaller h = rw (le-ltb (get_or ks row 0) k h)
 
-    pub not_stored : get_or ks row 0 < k → (f : Option ℕ) → f ≡ find_by k (take n ks) → f ≡ None → Is false
+    pub not_stored : get_or ks row 0 < k → (f : Found ℕ) → f ≡ find_by k (take n ks) → f ≡ None → Is false
     unfolding listed
     not_stored h f e t = rw (lt-ltb (get_or ks row 0) k h, none_stored k f e t)
 
     pub both_stored :
         get_or ks row 0 < k
-        → (f : Option ℕ)
+        → (f : Found ℕ)
         → f ≡ find_by k (take n ks)
         → (i : ℕ)
         → f ≡ Some i
