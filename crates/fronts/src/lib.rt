@@ -9,7 +9,6 @@ ghost use Rattle.std.specs.Float.Ieee.{eq};
 ghost use Rattle.floats.specs.Floats.{is_finite};
 ghost use Rattle.ids.specs.Key.{on_lattice};
 ghost use Rattle.neighbors.specs.Neighbors.{neighbours};
-ghost use Rattle.marks.specs.declared.Spot.TheVariants.{Absent};
 ghost use Rattle.marks.specs.Marks.{spot_of};
 ghost use Rattle.search.specs.Keys.{member};
 ghost use Rattle.table.specs.Table.{rows_of};
