@@ -4,7 +4,7 @@
 // spread. Its steps take longer, and are taken where marks of waiting cells would outgrow the lists.
 #![tactic(auto)]
 
-ghost use Rattle.std.specs.Prelude.{◌≡◌, true, false, List, [], ◌∷◌, ℕ, ◌+◌, ◌≤◌, ◌<◌, length, get_or};
+ghost use Rattle.std.specs.Prelude.{◌≡◌, true, false, List, [], ◌∷◌, ℕ, ◌+◌, ◌≤◌, ◌<◌, length, get_or, Err};
 ghost use Rattle.std.specs.Float.Ieee.{eq};
 ghost use Rattle.floats.specs.Floats.{is_finite};
 ghost use Rattle.ids.specs.Key.{on_lattice};
@@ -42,7 +42,7 @@ fn wait_marked(
     key: u64,
 ) -> Result<usize, Stop>
     requires paired { Paired keys.old distances.old estimates.old cells.old }
-    requires keys_value { (spot_of key keys.old ≡ Absent place) × ((on_lattice key ≡ true) × (eq estimate estimate ≡ true)) }
+    requires keys_value { (spot_of key keys.old ≡ Err place) × ((on_lattice key ≡ true) × (eq estimate estimate ≡ true)) }
     ensures { (s : State)
         → Front false s keys.old distances.old waiting estimates.old cells.old
         → length s.stored + length s.waiting < length keys.old
@@ -78,7 +78,7 @@ fn wait_lean(
 ) -> Result<usize, Stop>
     requires lent { Lent fused_keys.now fused_distances.now fused_weights.now fused_count
         × Paired keys.now distances.now estimates.old cells.old }
-    requires keys_value { (spot_of key keys.now ≡ Absent place) × ((on_lattice key ≡ true) × (eq estimate estimate ≡ true)) }
+    requires keys_value { (spot_of key keys.now ≡ Err place) × ((on_lattice key ≡ true) × (eq estimate estimate ≡ true)) }
     ensures { DoesWait true (seed_in threshold
         (rows_of fused_keys.now fused_distances.now fused_weights.now fused_count)) (lattice_of course) from (key ∷ [])
         (wait (length cells.old) estimate key) keys.now distances.now waiting estimates.old cells.old result
