@@ -1,23 +1,31 @@
 -- The lines that `lastcheck` reads: bytes without the newline. Places are counted from 0; past the end stands 0, which no good line has.
 use Rattle.std.specs.Prelude.{ℕ, zero, suc, ◌+◌, ◌-◌, ◌*◌, cond, ◌&&◌, List, length, get_or, leb, ltb, eqb, Some, None, Option}
 use Rattle.lines.specs.declared.Line.{Line}
-use Rattle.lines.specs.declared.Line.TheVariants.{Settings, Reading, Mesh, Bad}
+use Rattle.lines.specs.declared.Line.TheVariants.{Settings, Reading, Mesh}
 use Rattle.lines.specs.declared.Digits.{Digits}
 
--- the value of `0` to `9`, 10 for any other byte
-unfoldable pub digit_value : ℕ → ℕ
-digit_value b = cond (leb 48 b && leb b 57) (b - 48) 10
+-- the value of `0` to `9`, then of `a` to `f`
+abbrev pub glyph_of : ℕ → Option ℕ
+glyph_of b = cond (leb 48 b && leb b 57) (Some (b - 48)) (cond (leb 97 b && leb b 102) (Some (b - 87)) None)
 
--- the value of `0` to `9` or `a` to `f`, 16 for any other byte
-unfoldable pub hex_value : ℕ → ℕ
-hex_value b = cond (leb 48 b && leb b 57) (b - 48) (cond (leb 97 b && leb b 102) (b - 87) 16)
+-- what is below a radix
+abbrev pub below : ℕ → Option ℕ → Option ℕ
+below radix (Some d) = cond (ltb d radix) (Some d) None
+below radix None = None
+
+-- the value of a digit below a radix
+unfoldable pub digit_of : ℕ → ℕ → Option ℕ
+digit_of radix b = below radix (glyph_of b)
+
+-- a digit more, or what is said where there is none
+abbrev pub with_digit : {A : Type 0} → Option ℕ → (ℕ → A) → A → A
+with_digit (Some d) more none = more d
+with_digit None more none = none
 
 -- n hex digits from a place on, after digits of value v
 unfoldable pub hex_from : ℕ → List ℕ → ℕ → ℕ → Option ℕ
 hex_from zero s at v = Some v
-hex_from (suc n) s at v =
-    let d = hex_value (get_or s at 0) in
-    cond (ltb d 16) (hex_from n s (suc at) (v * 16 + d)) None
+hex_from (suc n) s at v = with_digit (digit_of 16 (get_or s at 0)) (λ d. hex_from n s (suc at) (v * 16 + d)) None
 
 -- a space and eight hex digits: the bits of a float
 unfoldable pub word_at : List ℕ → ℕ → Option ℕ
@@ -27,8 +35,7 @@ word_at s at = cond (eqb (get_or s at 0) 32) (hex_from 8 s (at + 1) 0) None
 unfoldable pub digits_from : ℕ → List ℕ → ℕ → ℕ → Digits
 digits_from zero s at v = record { value = v; next = at }
 digits_from (suc n) s at v =
-    let d = digit_value (get_or s at 0) in
-    cond (ltb d 10) (digits_from n s (suc at) (v * 10 + d)) (record { value = v; next = at })
+    with_digit (digit_of 10 (get_or s at 0)) (λ d. digits_from n s (suc at) (v * 10 + d)) (record { value = v; next = at })
 
 -- at most 65,535
 abbrev pub coordinate : Digits → Option (ℕ × ℕ)
@@ -39,24 +46,24 @@ unfoldable pub number_at : List ℕ → ℕ → Option (ℕ × ℕ)
 number_at s at =
     cond (eqb (get_or s at 0) 32)
     (cond (eqb (get_or s (at + 1) 0) 48) (Some (0, at + 1 + 1))
-    (cond (ltb (digit_value (get_or s (at + 1) 0)) 10) (coordinate (digits_from 5 s (at + 1) 0)) None))
+    (with_digit (digit_of 10 (get_or s (at + 1) 0)) (λ d. coordinate (digits_from 5 s (at + 1) 0)) None))
     None
 
--- a line goes on after a word or a number, and is bad where it is missing
-abbrev pub with_word : Option ℕ → (ℕ → Line) → Line
+-- a line goes on after a word or a number, and is none where it is missing
+abbrev pub with_word : Option ℕ → (ℕ → Option Line) → Option Line
 with_word (Some v) rest = rest v
-with_word None rest = Bad
+with_word None rest = None
 
-abbrev pub with_number : Option (ℕ × ℕ) → (ℕ → ℕ → Line) → Line
+abbrev pub with_number : Option (ℕ × ℕ) → (ℕ → ℕ → Option Line) → Option Line
 with_number (Some (v, next)) rest = rest v next
-with_number None rest = Bad
+with_number None rest = None
 
 -- nothing after the place n
-abbrev pub ends_at : ℕ → List ℕ → Line → Line
-ends_at n s l = cond (eqb (length s) n) l Bad
+abbrev pub ends_at : ℕ → List ℕ → Line → Option Line
+ends_at n s l = cond (eqb (length s) n) (Some l) None
 
 -- `P`: truncation, maximum weight and size as bits
-unfoldable pub settings_line : List ℕ → Line
+unfoldable pub settings_line : List ℕ → Option Line
 settings_line s =
     with_word (word_at s 1) λ t.
     with_word (word_at s 10) λ w.
@@ -64,7 +71,7 @@ settings_line s =
     ends_at 28 s (Settings t w z)
 
 -- `D`: x, y, z in decimal, distance and confidence as bits
-unfoldable pub reading_line : List ℕ → Line
+unfoldable pub reading_line : List ℕ → Option Line
 reading_line s =
     with_number (number_at s 1) λ x p.
     with_number (number_at s p) λ y q.
@@ -73,9 +80,9 @@ reading_line s =
     with_word (word_at s (r + 9)) λ c.
     ends_at (r + 18) s (Reading x y z d c)
 
--- what a line is: by its first byte, `P`, `D` or `M`
-unfoldable pub line_of : List ℕ → Line
+-- what a line is, none where it is bad: by its first byte, `P`, `D` or `M`
+unfoldable pub line_of : List ℕ → Option Line
 line_of s =
     cond (eqb (get_or s 0 0) 80) (settings_line s)
     (cond (eqb (get_or s 0 0) 68) (reading_line s)
-    (cond (eqb (get_or s 0 0) 77) (ends_at 1 s Mesh) Bad))
+    (cond (eqb (get_or s 0 0) 77) (ends_at 1 s Mesh) None))
