@@ -1,9 +1,8 @@
 // The triangles of the closed mesh (document 02, No. 14): each tetrahedron is found at its smallest key, from that row's higher neighbours, and cut.
 #![tactic(auto)]
 
-ghost use Rattle.std.specs.Prelude.{◌≡◌, ◌+◌, ◌≤◌, ◌<◌, true, length, get_or, set, take, drop};
+ghost use Rattle.std.specs.Prelude.{◌≡◌, ◌+◌, ◌≤◌, ◌<◌, true, length, get_or, set, take, drop, Ok};
 ghost use Rattle.search.specs.Keys.{place_of};
-ghost use Rattle.lists.specs.declared.Listed.TheVariants.{Count};
 ghost use Rattle.lists.specs.Threes.{three, threes, with_two, with_third};
 ghost use Rattle.neighbors.specs.Neighbors.{adjacent};
 ghost use Rattle.table.specs.Table.{table, rows_of};
@@ -374,7 +373,7 @@ fn cut_listed(
     t2: &mut [u32],
 ) -> Result<usize, Refusal>
     requires { Own keys.now distances.now weights.now count first.now second.now edges }
-    ensures { IsCut (Count edges) (rows_of keys.now distances.now weights.now count)
+    ensures { IsCut (Ok edges) (rows_of keys.now distances.now weights.now count)
         t0.old t1.old t2.old result t0.new t1.new t2.new }
 {
     if !three_ok(t0.len(), t1.len(), t2.len()) {

@@ -20,14 +20,6 @@ bounds-first-i c = omega (arith, c.loop-i.invariant.0)
 pub next_normal-normal-requires : goal.next_normal-normal-requires
 next_normal-normal-requires c = c.loop-i.invariant.1
 
-pub overflow_add-i : goal.overflow_add-i
-overflow_add-i c =
-    let bound = c.loop-i.invariant.0 in
-    omega (arith, bound)
-
-pub loop-i-smaller : goal.loop-i-smaller
-loop-i-smaller c = omega arith
-
 pub loop-i-preserved : goal.loop-i-preserved
 loop-i-preserved c =
     let v = c.loop-i.invariant in

@@ -23,14 +23,6 @@ offset_bounds-second-i c = omega (arith, c.loop-i.invariant.0)
 pub bounds-second-i : goal.bounds-second-i
 bounds-second-i c = omega (arith, c.loop-i.invariant.0)
 
-pub overflow_add-i : goal.overflow_add-i
-overflow_add-i c =
-    let bound = c.loop-i.invariant.0 in
-    omega (arith, bound)
-
-pub loop-i-smaller : goal.loop-i-smaller
-loop-i-smaller c = omega arith
-
 pub loop-i-preserved : goal.loop-i-preserved
 loop-i-preserved c =
     let v = c.loop-i.invariant in
