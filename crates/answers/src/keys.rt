@@ -27,7 +27,7 @@ pub fn list_back(listed: Result<usize, Refusal>) -> CountBack
             count: n,
         },
         Err(why) => CountBack {
-            number: refusals::number(why),
+            number: u32::from(why),
             count: 0,
         },
     }
@@ -47,7 +47,7 @@ pub fn key_back(made: Result<u64, Refusal>) -> KeyBack
     match made {
         Ok(key) => KeyBack { number: DONE, key },
         Err(why) => KeyBack {
-            number: refusals::number(why),
+            number: u32::from(why),
             key: 0,
         },
     }
@@ -76,7 +76,7 @@ pub fn place_back(decoded: Result<(Cells, Cells, Cells), Refusal>) -> PlaceBack
             z: z.0,
         },
         Err(why) => PlaceBack {
-            number: refusals::number(why),
+            number: u32::from(why),
             x: 0,
             y: 0,
             z: 0,
@@ -94,7 +94,7 @@ pub fn root_back(rooted: Result<f32, Refusal>) -> LengthBack
             value: root,
         },
         Err(why) => LengthBack {
-            number: refusals::number(why),
+            number: u32::from(why),
             value: NOTHING,
         },
     }
@@ -105,7 +105,7 @@ pub fn snapped_number(snapped: Result<(WideCells, WideCells, WideCells), Refusal
 {
     match snapped {
         Ok((_, _, _)) => DONE,
-        Err(why) => refusals::number(why),
+        Err(why) => u32::from(why),
     }
 }
 

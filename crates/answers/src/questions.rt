@@ -24,7 +24,7 @@ pub fn distance_back(distance: Result<Option<Metres>, Refusal>) -> LengthBack
             value: NOTHING,
         },
         Err(why) => LengthBack {
-            number: refusals::number(why),
+            number: u32::from(why),
             value: NOTHING,
         },
     }
@@ -44,7 +44,7 @@ pub fn weight_back(weight: Result<Option<f32>, Refusal>) -> LengthBack
             value: NOTHING,
         },
         Err(why) => LengthBack {
-            number: refusals::number(why),
+            number: u32::from(why),
             value: NOTHING,
         },
     }
@@ -60,7 +60,7 @@ pub fn surface_back(surface: Result<bool, Refusal>) -> YesBack
             yes: one_if(near),
         },
         Err(why) => YesBack {
-            number: refusals::number(why),
+            number: u32::from(why),
             yes: 0,
         },
     }
@@ -71,7 +71,7 @@ pub fn stats_number(statistics: Result<TsdfStats, Refusal>) -> u32
 {
     match statistics {
         Ok(_) => DONE,
-        Err(why) => refusals::number(why),
+        Err(why) => u32::from(why),
     }
 }
 

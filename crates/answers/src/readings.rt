@@ -24,7 +24,7 @@ pub fn fused_number(fused: Result<Fused, Refusal>) -> u32
         Ok(Fused::New) => NEW,
         Ok(Fused::Changed) => CHANGED,
         Ok(Fused::Far) => FAR,
-        Err(why) => refusals::number(why),
+        Err(why) => u32::from(why),
     }
 }
 
@@ -41,7 +41,7 @@ pub fn batch_back(batched: Batched) -> ReadingsBack
             at: 0,
         },
         Batched::Refused(why, at, counts) => ReadingsBack {
-            number: refusals::number(why),
+            number: u32::from(why),
             counts,
             at,
         },

@@ -39,7 +39,7 @@ fn say(listed: Result<usize, Refusal>) {
         }
         Err(why) => {
             io::write_all(1, b"refused ");
-            io::print_decimal(1, refusals::number(why) as u64);
+            io::print_decimal(1, u32::from(why) as u64);
             io::write_all(1, b"\n");
         }
     }

@@ -47,7 +47,7 @@ fn say(marched: Result<(usize, usize), Refusal>) {
         }
         Err(why) => {
             io::write_all(1, b"refused ");
-            io::print_decimal(1, refusals::number(why) as u64);
+            io::print_decimal(1, u32::from(why) as u64);
             io::write_all(1, b"\n");
         }
     }

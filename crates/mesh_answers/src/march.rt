@@ -24,7 +24,7 @@ pub fn march_back(marched: Result<(usize, usize), Refusal>) -> CountsBack
             second: takings,
         },
         Err(why) => CountsBack {
-            number: refusals::number(why),
+            number: u32::from(why),
             first: 0,
             second: 0,
         },
@@ -45,7 +45,7 @@ pub fn distance_back(distance: Result<Option<f32>, Refusal>) -> LengthBack
             value: NOTHING,
         },
         Err(why) => LengthBack {
-            number: refusals::number(why),
+            number: u32::from(why),
             value: NOTHING,
         },
     }
@@ -61,7 +61,7 @@ pub fn free_back(free: Result<bool, Refusal>) -> YesBack
             yes: one_if(yes),
         },
         Err(why) => YesBack {
-            number: refusals::number(why),
+            number: u32::from(why),
             yes: 0,
         },
     }
@@ -96,7 +96,7 @@ pub fn slope_back(gradient: Result<Option<(f32, f32, f32)>, Refusal>) -> SlopeBa
             z: NOTHING,
         },
         Err(why) => SlopeBack {
-            number: refusals::number(why),
+            number: u32::from(why),
             x: NOTHING,
             y: NOTHING,
             z: NOTHING,
@@ -109,7 +109,7 @@ pub fn stats_number(statistics: Result<EsdfStats, Refusal>) -> u32
 {
     match statistics {
         Ok(_) => DONE,
-        Err(why) => refusals::number(why),
+        Err(why) => u32::from(why),
     }
 }
 

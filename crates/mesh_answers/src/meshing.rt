@@ -27,7 +27,7 @@ pub fn mesh_back(meshed: Result<(usize, usize), Refusal>) -> CountsBack
             second: triangles,
         },
         Err(why) => CountsBack {
-            number: refusals::number(why),
+            number: u32::from(why),
             first: 0,
             second: 0,
         },
@@ -60,7 +60,7 @@ pub fn area_back(area: Result<f32, Refusal>) -> LengthBack
             value: square,
         },
         Err(why) => LengthBack {
-            number: refusals::number(why),
+            number: u32::from(why),
             value: NOTHING,
         },
     }
@@ -72,7 +72,7 @@ pub fn box_number(bounds: Result<Option<(Vertex, Vertex)>, Refusal>) -> u32
     match bounds {
         Ok(Some((_, _))) => DONE,
         Ok(None) => ABSENT,
-        Err(why) => refusals::number(why),
+        Err(why) => u32::from(why),
     }
 }
 
@@ -116,7 +116,7 @@ pub fn normals_back(stats: Result<bool, Refusal>) -> YesBack
             yes: one_if(yes),
         },
         Err(why) => YesBack {
-            number: refusals::number(why),
+            number: u32::from(why),
             yes: 0,
         },
     }

@@ -4,7 +4,7 @@
 ghost use Rattle.std.specs.Prelude.{◌≡◌};
 ghost use Rattle.refusals.specs.Refusals.{number_of};
 
-#[derive(Clone, Copy)]
+#[derive(Clone, Copy, Debug, PartialEq, Eq)]
 pub enum Refusal {
     // 1: a setting is outside its range
     Setting,
@@ -31,20 +31,22 @@ pub enum Refusal {
 }
 
 // The refusal's number.
-pub fn number(refusal: Refusal) -> u32
-    ensures { result ≡ number_of refusal }
-{
-    match refusal {
-        Refusal::Setting => 1,
-        Refusal::Lengths => 2,
-        Refusal::BadRow => 3,
-        Refusal::OffLattice => 4,
-        Refusal::BadReading => 5,
-        Refusal::NoPlace => 6,
-        Refusal::TooLarge => 7,
-        Refusal::NoWaitingPlace => 8,
-        Refusal::OutOfRange => 9,
-        Refusal::BadVertex => 10,
-        Refusal::BadLength => 11,
+impl From<Refusal> for u32 {
+    ghost from_gives = { λ refusal n. n ≡ number_of refusal };
+
+    fn from(refusal: Refusal) -> u32 {
+        match refusal {
+            Refusal::Setting => 1,
+            Refusal::Lengths => 2,
+            Refusal::BadRow => 3,
+            Refusal::OffLattice => 4,
+            Refusal::BadReading => 5,
+            Refusal::NoPlace => 6,
+            Refusal::TooLarge => 7,
+            Refusal::NoWaitingPlace => 8,
+            Refusal::OutOfRange => 9,
+            Refusal::BadVertex => 10,
+            Refusal::BadLength => 11,
+        }
     }
 }

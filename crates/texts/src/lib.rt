@@ -112,7 +112,7 @@ pub fn refused_line(out: &mut [u8], why: Refusal) -> usize
     ensures out_after { out.new ≡ sets out.old 0 (refused_line why) }
 {
     let a0 = put_text(out, 0, b"refused ");
-    let a1 = put_decimal(out, a0, refusals::number(why) as u64);
+    let a1 = put_decimal(out, a0, u32::from(why) as u64);
     put(out, a1, b'\n')
 }
 

@@ -24,7 +24,7 @@ fn say(fused: Result<Fused, Refusal>) {
         Ok(Fused::New) => line(b"new"),
         Ok(Fused::Changed) => line(b"changed"),
         Ok(Fused::Far) => line(b"far"),
-        Err(why) => numbered(b"refused ", refusals::number(why) as u64),
+        Err(why) => numbered(b"refused ", u32::from(why) as u64),
     }
 }
 
@@ -41,7 +41,7 @@ fn say_batch(batched: Batched) {
             say_counts(counts);
         }
         Batched::Refused(why, at, counts) => {
-            numbered(b"refused ", refusals::number(why) as u64);
+            numbered(b"refused ", u32::from(why) as u64);
             numbered(b"at ", at as u64);
             say_counts(counts);
         }

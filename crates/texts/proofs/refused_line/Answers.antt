@@ -9,6 +9,6 @@ unfolding refused_line
 returns c =
     let line = whole (more c.put_text-a0.ensures (more c.put_decimal-a1.ensures.wrote c.put.ensures)) in
     record {
-      value = rw (← c.number.ensures) line.0;
-      out_after = rw (← c.number.ensures) line.1;
+      value = rw (← c.from.ensures) line.0;
+      out_after = rw (← c.from.ensures) line.1;
     }

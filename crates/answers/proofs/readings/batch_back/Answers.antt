@@ -13,7 +13,7 @@ returns-in-Done c =
 pub returns-in-Refused : goal.returns-in-Refused
 returns-in-Refused c =
     record {
-      number_value = rw c.in-Refused.is c.number.ensures;
+      number_value = rw c.in-Refused.is c.from.ensures;
       counts_value = rw c.in-Refused.is refl;
       at_value = rw c.in-Refused.is refl;
     }
