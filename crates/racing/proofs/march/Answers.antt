@@ -65,8 +65,8 @@ returns-in-Err-take_all c =
     m.new.distances m.new.estimates
     m.new.cells m.ensures _ c.in-Err-take_all.is
 
-pub returns-in-Ok : goal.returns-in-Ok
-returns-in-Ok c =
+pub returns-in-Ok-take_all : goal.returns-in-Ok-take_all
+returns-in-Ok-take_all c =
     let a = c.args in
     let d = c.sow_all in
     let m = c.take_all in
@@ -79,5 +79,5 @@ returns-in-Ok c =
     d.auto.keys d.auto.cells _ _ _ c.in-Ok.is m.result m.new.keys
     m.new.distances m.new.estimates
     m.new.cells m.ensures
-    (rows_lattice _ _ _ _ c.requires.0.0) _ _ c.in-Ok.is _ _ _
+    (rows_lattice _ _ _ _ c.requires.0.0) _ _ c.in-Ok-take_all.is _ _ _
     (c.unlabel.auto.keys ∙ c.sort_rows.auto.keys) c.sort_rows.ensures c.unlabel.ensures

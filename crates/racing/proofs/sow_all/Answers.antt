@@ -76,9 +76,6 @@ returns-in-Err c =
     d.new.cells
     d.ensures _ c.in-Err.is
 
-pub overflow_add-i : goal.overflow_add-i
-overflow_add-i c = omega (arith, c.loop-i-test.true, c.ranges.fused_count.fits)
-
 pub loop-i-smaller : goal.loop-i-smaller
 loop-i-smaller c = omega (arith, c.loop-i-test.true)
 

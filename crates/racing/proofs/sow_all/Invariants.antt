@@ -1,6 +1,6 @@
 -- `racing::sow_all` meets its contract: what is left to sow says what the whole does.
 -- Assumes nothing.
-use Prim.Native.Nat.{◌≤◌, ◌-◌}
+use Prim.Native.Nat.{◌≤◌}
 use mathlib.Core.Path.{◌≡◌}
 use lib.ListN.{length}
 use Rattle.table.specs.Table.{rows_of}
@@ -19,6 +19,3 @@ invariant-loop-i l = (l.i ≤ l.fused_count)
     × SowAt l.lean (seed_in l.threshold (rows_of l.fused_keys l.fused_distances l.fused_weights l.fused_count))
     (lattice_of l.course) l.threshold (rooms_of l.initial.keys l.initial.cells)
     (rows_of l.fused_keys l.fused_distances l.fused_weights l.fused_count) l.i l.rows l.keys l.distances l.held l.estimates l.cells
-
-abbrev pub decreases-loop-i : goal.decreases-loop-i
-decreases-loop-i l = l.fused_count - l.i
