@@ -1,6 +1,6 @@
 -- `surfaces::all_none` meets its contract: the entries that are left pass exactly when all do.
 -- Assumes nothing.
-use Prim.Native.Nat.{◌≤◌, ◌-◌}
+use Prim.Native.Nat.{◌≤◌}
 use mathlib.Core.Path.{◌≡◌}
 use lib.ListN.{drop}
 use Rattle.corners.specs.Corners.{every}
@@ -12,6 +12,3 @@ invariant-loop-i l =
     (l.i ≤ l.vertices)
     × (every (is_none) (normals_in l.nx l.ny l.nz l.vertices)
     ≡ every (is_none) (drop l.i (normals_in l.nx l.ny l.nz l.vertices)))
-
-abbrev pub decreases-loop-i : goal.decreases-loop-i
-decreases-loop-i l = l.vertices - l.i

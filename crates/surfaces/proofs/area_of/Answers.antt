@@ -65,9 +65,6 @@ vertex_at-v2-requires c =
     asked _ c.requires.lent
     (named _ _ _ _ c.requires.lent _ _ _ _ c.requires.lent_2 c.loop-i.i c.loop-i-test.true c.loop-i.invariant.1).2
 
-pub overflow_add-i : goal.overflow_add-i
-overflow_add-i c = omega (arith, c.loop-i-test.true, c.ranges.triangles)
-
 pub loop-i-preserved : goal.loop-i-preserved
 loop-i-preserved c =
     let h = c.loop-i-test.true in

@@ -1,6 +1,6 @@
 -- `surfaces::area_of` meets its contract: what is left of the triangles says what all of them say.
 -- Assumes nothing.
-use Prim.Native.Nat.{◌≤◌, ◌-◌}
+use Prim.Native.Nat.{◌≤◌}
 use mathlib.Core.Path.{◌≡◌}
 use mathlib.Core.Bool.{true}
 use lib.ListN.{drop}
@@ -13,6 +13,3 @@ abbrev pub invariant-loop-i : goal.invariant-loop-i
 invariant-loop-i l = let vs = vertices_in l.px l.py l.pz l.vertices in
     let ts = triangles_in l.t0 l.t1 l.t2 l.triangles in
     (l.i ≤ l.triangles) × (every (triangle_ok l.vertices) (drop l.i ts) ≡ true) × (area_from vs zero32 ts ≡ area_from vs l.area (drop l.i ts))
-
-abbrev pub decreases-loop-i : goal.decreases-loop-i
-decreases-loop-i l = l.triangles - l.i

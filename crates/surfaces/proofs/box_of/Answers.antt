@@ -16,9 +16,6 @@ loop-i-init c = (omega (arith, c.if-vertices-eq0.false), box_first _ _ _ _ c.req
 pub vertex_at-v-requires : goal.vertex_at-v-requires
 vertex_at-v-requires c = omega (arith, c.loop-i-test.true, c.requires.fits, c.requires.second, c.requires.third)
 
-pub overflow_add-i : goal.overflow_add-i
-overflow_add-i c = omega (arith, c.loop-i-test.true, c.ranges.vertices)
-
 pub loop-i-preserved : goal.loop-i-preserved
 loop-i-preserved c = (
   omega arith,

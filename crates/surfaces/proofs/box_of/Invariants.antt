@@ -1,6 +1,6 @@
 -- `surfaces::box_of` meets its contract: what is left of the vertices says what all of them say.
 -- Assumes nothing.
-use Prim.Native.Nat.{◌≤◌, ◌-◌}
+use Prim.Native.Nat.{◌≤◌}
 use mathlib.Core.Path.{◌≡◌}
 use lib.ListN.{drop}
 use Rattle.corners.specs.Corners.{vertices_in}
@@ -13,6 +13,3 @@ invariant-loop-i l =
     (l.i ≤ l.vertices)
     × (box_of (vertices_in l.px l.py l.pz l.vertices)
     ≡ corners_from l.low l.high (drop l.i (vertices_in l.px l.py l.pz l.vertices)))
-
-abbrev pub decreases-loop-i : goal.decreases-loop-i
-decreases-loop-i l = l.vertices - l.i

@@ -50,9 +50,6 @@ returns-then-not-passes c =
 pub put_three-requires-in-loop-i-2 : goal.put_three-requires-in-loop-i-2
 put_three-requires-in-loop-i-2 c = omega (arith, c.loop-i-test.true, c.requires.1)
 
-pub overflow_add-i : goal.overflow_add-i
-overflow_add-i c = omega (arith, c.loop-i-test.true, c.ranges.count)
-
 pub loop-i-preserved : goal.loop-i-preserved
 loop-i-preserved c =
     let a = c.args in

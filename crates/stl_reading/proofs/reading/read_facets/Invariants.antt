@@ -14,6 +14,3 @@ invariant-loop-i l = (l.i ≤ l.count)
     × ColumnReading l.file l.count l.i (λ (v : Vertex). v.x.0) l.initial.px l.px
     × ColumnReading l.file l.count l.i (λ (v : Vertex). v.y.0) l.initial.py l.py
     × ColumnReading l.file l.count l.i (λ (v : Vertex). v.z.0) l.initial.pz l.pz
-
-abbrev pub decreases-loop-i : goal.decreases-loop-i
-decreases-loop-i l = l.count - l.i

@@ -72,9 +72,6 @@ vertex_at-c-requires c =
 pub overflow_mul-i : goal.overflow_mul-i
 overflow_mul-i c = omega (arith, c.loop-i-test.true, c.requires.few)
 
-pub overflow_add-i : goal.overflow_add-i
-overflow_add-i c = omega (arith, c.loop-i-test.true, c.requires.few)
-
 pub write_facet-requires : goal.write_facet-requires
 write_facet-requires c =
     record {

@@ -16,6 +16,3 @@ invariant-loop-i l = let fs = facets_lent l.px l.py l.pz l.vertices l.t0 l.t1 l.
     (l.i ≤ l.triangles)
     × (every (triangle_ok l.vertices) (drop l.i (triangles_in l.t0 l.t1 l.t2 l.triangles)) ≡ true)
     × Written (joined facet_bytes fs) 84 l.initial.file (joined facet_bytes (drop l.i fs)) (84 + 50 * l.i) l.file
-
-abbrev pub decreases-loop-i : goal.decreases-loop-i
-decreases-loop-i l = l.triangles - l.i
