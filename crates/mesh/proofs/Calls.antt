@@ -37,10 +37,7 @@ use Rattle.triangles.proofs.Demand3.{zero_crossing_triangles}
 use Rattle.mesh.specs.declared.Rooms.{Rooms}
 use Rattle.mesh.specs.Mesh.{surface_edges, groups_on, triangles_on, edges_of, groups_of, triangles_of, rooms_ok, mesh_check, have_room_on, have_room, meshed_on, mesh_answer_on, mesh_answer, held_in}
 use Rattle.mesh.proofs.OpenLaws.{pairs}
-use Rattle.mesh.proofs.MeshLaws.{passing, rise, rest_ok, fit}
-
-never : (why : Refusal) (i j : ℕ) → Err why ≡ Ok (i, j) → ⊥
-never why i j e = let z : ◌≡◌ {A = ℕ} 0 1 = cc in omega arith
+use Rattle.mesh.proofs.MeshLaws.{never, parts, passing, rise, rest_ok, fit}
 
 -- ---- four rooms
 
@@ -87,9 +84,9 @@ module _ (o : Surface) (s : Settings) (t : Table) (r : Rooms) where
       go :
           (b : Bool)
           → have_room_on o t r ≡ b
-          → cond b (Ok (length (surface_edges o t), length (triangles_on o t))) (Err NoPlace) ≡ Ok (i, j)
-          → ((Ok tt) ≡ (Ok tt)) × (have_room_on o t r ≡ true) × (i ≡ length (surface_edges o t)) × (j ≡ length (triangles_on o t))
-      go true q f = let x : i ≡ length (surface_edges o t) = cc in let y : j ≡ length (triangles_on o t) = cc in (refl, q, x, y)
+          → cond {A = Result (ℕ × ℕ) Refusal} b (Ok (length (surface_edges o t), length (triangles_on o t))) (Err NoPlace) ≡ Ok (i, j)
+          → (◌≡◌ {A = Result (Unit {0}) Refusal} (Ok tt) (Ok tt)) × (have_room_on o t r ≡ true) × (i ≡ length (surface_edges o t)) × (j ≡ length (triangles_on o t))
+      go true q f = let h = parts _ _ i j f in (refl, q, sym h.0, sym h.1)
       go false q f = absurd (never NoPlace i j f)
   done (Err why) i j e = absurd (never why i j e)
 
@@ -110,7 +107,7 @@ module _ (o : Surface) (s : Settings) (t : Table) (r : Rooms) where
       go :
           (b : Bool)
           → have_room_on o t r ≡ b
-          → cond b (Ok (length (surface_edges o t), length (triangles_on o t))) (Err NoPlace) ≡ Err NoPlace
+          → cond {A = Result (ℕ × ℕ) Refusal} b (Ok (length (surface_edges o t), length (triangles_on o t))) (Err NoPlace) ≡ Err NoPlace
           → outgrown_on
       go true q e = absurd (never NoPlace (length (surface_edges o t)) (length (triangles_on o t)) (sym e))
       go false q e = small (length (surface_edges o t)) r.first r.px (length (groups_on o t)) r.groups (length (triangles_on o t)) r.t0 q
@@ -119,7 +116,7 @@ module _ (o : Surface) (s : Settings) (t : Table) (r : Rooms) where
           (b : Bool)
           → have_room_on o t r ≡ b
           → outgrown_on
-          → cond b (Ok (length (surface_edges o t), length (triangles_on o t))) (Err NoPlace) ≡ Err NoPlace
+          → cond {A = Result (ℕ × ℕ) Refusal} b (Ok (length (surface_edges o t), length (triangles_on o t))) (Err NoPlace) ≡ Err NoPlace
       back true q w =
           absurd
           (outgrown (length (surface_edges o t)) r.first r.px (length (groups_on o t)) r.groups (length (triangles_on o t)) r.t0 w q)

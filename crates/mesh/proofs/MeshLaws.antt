@@ -69,11 +69,15 @@ module _ {A : Type 0} (v : A) where
 
 -- ---- the answer is a mesh only where every part is
 
-never : (why : Refusal) (i j : ℕ) → Err why ≡ Ok (i, j) → ⊥
-never why i j e = let z : ◌≡◌ {A = ℕ} 0 1 = cc in omega arith
+pub never : (why : Refusal) (i j : ℕ) → ◌≡◌ {A = Result (ℕ × ℕ) Refusal} (Err why) (Ok (i, j)) → ⊥
+never why i j e = cc
+
+-- two meshes are the same only with the same numbers
+pub parts : (n m i j : ℕ) → ◌≡◌ {A = Result (ℕ × ℕ) Refusal} (Ok (n, m)) (Ok (i, j)) → (n ≡ i) × (m ≡ j)
+parts n m i j e = let pair : ◌≡◌ {A = ℕ × ℕ} (n, m) (i, j) = cc in (ap (λ (p : ℕ × ℕ). p.0) pair, ap (λ (p : ℕ × ℕ). p.1) pair)
 
 built_known : (n : ℕ) (b : Result ℕ Refusal) (i j : ℕ) → with_built n b ≡ Ok (i, j) → (n ≡ i) × (b ≡ Ok j)
-built_known n (Ok m) i j q = let x : n ≡ i = cc in let y : m ≡ j = cc in (x, ap Ok y)
+built_known n (Ok m) i j q = let h = parts n m i j q in (h.0, ap Ok h.1)
 built_known n (Err why) i j q = absurd (never why i j q)
 
 vertices_known : (n room : ℕ) (b : Result ℕ Refusal) (i j : ℕ) → with_vertices n room b ≡ Ok (i, j) → (n ≡ i) × (n ≤ room) × (b ≡ Ok j)
@@ -260,7 +264,7 @@ module _ {o : Surface} {s : Settings} {ks : List ℕ} {ds ws : List Float} {cnt 
     passes : mesh_check s t r ≡ (Ok tt)
     passes = sym run.tested ∙ known.0
 
-    counted : ((Ok tt) ≡ (Ok tt)) × (i ≡ length es) × (length es ≤ r.first)
+    counted : (◌≡◌ {A = Result (Unit {0}) Refusal} (Ok tt) (Ok tt)) × (i ≡ length es) × (length es ≤ r.first)
     unfolding answer_if
     counted = counted_only (Ok tt) es r.first i (sym (drawing passes).edges ∙ known.1)
 
