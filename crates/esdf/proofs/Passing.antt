@@ -1,6 +1,6 @@
 -- An answered march leaves two lists that every call on a marched table takes. Assumes nothing.
 use Rattle.std.specs.Prelude.{Ok, Err, Result}
-use mathlib.Core.Path.{◌≡◌, refl, subst}
+use mathlib.Core.Path.{◌≡◌, refl, subst, ap}
 use Prim.Native.Nat.{ℕ}
 use native.Mathlib.Omega.{arith}
 use borrow.Author.Tests.{leb-true, eqb-true}
@@ -34,7 +34,8 @@ module _ (p : Places) (n k : ℕ) where
       → marched_check (marched_table (keys_left p.keys (tested v g)) (distances_left p.distances (tested v g)) n) ≡ (Ok tt)
   unfolding tested answer_of keys_left distances_left
   answered_passes (Ok tt) (on s) h e =
-      let same : length s.stored ≡ n = cc in
+      let both : ◌≡◌ {A = ℕ × ℕ} (length s.stored, s.takings) (n, k) = cc in
+      let same = ap (λ (x : ℕ × ℕ). x.0) both in
       subst (λ (i : ℕ).
       marched_check (marched_table (padded 0 p.keys (keys_of s.stored)) (padded zero32 p.distances (distances_of s.stored)) i)
       ≡ (Ok tt)) same (h refl s refl)
