@@ -13,22 +13,20 @@ use refusals::Refusal;
 use search::{find_row, place_of};
 use table::{Settings, check_table};
 
-// What a fuse answers: a row is new, a stored one is changed, the reading is far, or why it is refused.
+// What a fuse that is not refused answers: a row is new, a stored one is changed, or the reading is far.
 #[derive(Clone, Copy)]
 pub enum Fused {
     New,
     Changed,
     Far,
-    Refused(Refusal),
 }
 
-// What a reading does to a table: nothing where it is far; a row is added or changed, at its place; or why it is refused.
+// What a reading that is not refused does to a table: nothing where it is far; a row is added or changed, at its place.
 #[derive(Clone, Copy)]
 pub enum Step {
     Far,
     Added(usize),
     Changed(usize),
-    Refused(Refusal),
 }
 
 // How readings are averaged: the most that a row weighs.
@@ -163,19 +161,18 @@ pub fn fuse_sound(
     ensures { effect result (table keys.new distances.new weights.new count.new)
         ≡ effect_of settings (table keys.old distances.old weights.old count.old) key reading }
 {
-    match admit(settings, key, reading) {
-        Err(why) => Err(why),
-        Ok(None) => Ok(Step::Far),
-        Ok(Some(near)) => fuse_near(
-            averaging_of(settings),
-            keys,
-            distances,
-            weights,
-            count,
-            key,
-            near,
-        ),
-    }
+    let Some(near) = admit(settings, key, reading)? else {
+        return Ok(Step::Far);
+    };
+    fuse_near(
+        averaging_of(settings),
+        keys,
+        distances,
+        weights,
+        count,
+        key,
+        near,
+    )
 }
 
 // What is answered to what a reading did.
@@ -203,13 +200,9 @@ pub fn fuse(
     ensures { outcome result (table keys.new distances.new weights.new count.new)
         ≡ fuse settings (table keys.old distances.old weights.old count.old) key reading }
 {
-    match check_table(settings, keys, distances, weights, *count) {
-        Err(why) => Err(why),
-        Ok(()) => {
-            let step = fuse_sound(settings, keys, distances, weights, count, key, reading);
-            fused_of(step)
-        }
-    }
+    check_table(settings, keys, distances, weights, *count)?;
+    let step = fuse_sound(settings, keys, distances, weights, count, key, reading);
+    fused_of(step)
 }
 
 // A direct reading.

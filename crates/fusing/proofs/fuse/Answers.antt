@@ -1,16 +1,19 @@
 -- `fusing::fuse` meets its contract: the check of the table, then `fuse_sound`.
 -- Assumes nothing.
+use Rattle.std.proofs.lemmas.Result.{err_from_is_err_and}
 use mathlib.Core.Path.{◌∙◌, ap, sym}
 use Rattle.fusing.specs.Fusing.{fuse, fuse_if, effect_of, answered}
 use Rattle.fusing.proofs.fuse.Goals as goal
 
 pub fuse_sound-step-requires : goal.fuse_sound-step-requires
-fuse_sound-step-requires c = sym c.check_table.ensures ∙ c.in-Ok.is
+fuse_sound-step-requires c = sym c.check_table.ensures ∙ c.in_ok-check_table.was
 
-pub returns-in-Err : goal.returns-in-Err
+pub returns-in_err-check_table : goal.returns-in_err-check_table
 unfolding fuse effect_of fuse_if
-returns-in-Err c = rw (← c.check_table.ensures, c.in-Err.is)
+returns-in_err-check_table c =
+    let p = err_from_is_err_and c.from_residual.result c.from_residual.ensures.1 in
+    rw (p.1, p.2, ← c.check_table.ensures, c.in_err-check_table.was)
 
-pub returns-in-Ok : goal.returns-in-Ok
+pub returns : goal.returns
 unfolding fuse
-returns-in-Ok c = rw c.fused_of.ensures (ap answered c.fuse_sound-step.ensures)
+returns c = rw c.fused_of.ensures (ap answered c.fuse_sound-step.ensures)

@@ -1,5 +1,6 @@
 -- `fusing::fuse_sound` meets its contract: the tests of `admit`, then `fuse_near`.
 -- Assumes nothing.
+use Rattle.std.proofs.lemmas.Result.{err_from_is_err_and}
 use Rattle.fusing.specs.Fusing.{effect_of, fuse_if, fused_if}
 use Rattle.table.proofs.Checking.{sound}
 use Rattle.fusing.proofs.fuse_sound.Goals as goal
@@ -14,16 +15,18 @@ fuse_near-requires c =
       keys_value = k.order;
     }
 
-pub returns-in-Err : goal.returns-in-Err
+pub returns-in_err-near : goal.returns-in_err-near
 unfolding effect_of fuse_if fused_if
-returns-in-Err c = rw (c.requires, ← c.admit.ensures, c.in-Err.is)
+returns-in_err-near c =
+    let p = err_from_is_err_and c.from_residual.result c.from_residual.ensures.1 in
+    rw (p.1, p.2, c.requires, ← c.admit.ensures, c.in_err-near.was)
 
-pub returns-in-Ok-Far : goal.returns-in-Ok-Far
+pub returns-in_default : goal.returns-in_default
 unfolding effect_of fuse_if fused_if
-returns-in-Ok-Far c = rw (c.requires, ← c.admit.ensures, c.in-Ok-Far.is)
+returns-in_default c = rw (c.requires, ← c.admit.ensures, c.in_ok-near.was, c.in_default.is)
 
-pub returns-in-Ok-Some : goal.returns-in-Ok-Some
+pub returns : goal.returns
 unfolding effect_of fuse_if fused_if
-returns-in-Ok-Some c =
-    rw (c.requires, ← c.admit.ensures, c.in-Ok-Some.is, ← c.averaging_of.ensures)
+returns c =
+    rw (c.requires, ← c.admit.ensures, c.in_ok-near.was, c.in-Some.is, ← c.averaging_of.ensures)
     c.fuse_near.ensures
