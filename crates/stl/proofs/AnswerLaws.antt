@@ -68,7 +68,7 @@ module _ {A : Type 0} (v : A) (l l' xs : List A) (long : length l' ≡ length l)
 
 -- ---- answers that count
 
-pub never : (why : Refusal) (n : ℕ) → Err why ≡ Ok n → ⊥
+pub never : (why : Refusal) (n : ℕ) → ◌≡◌ {A = Result ℕ Refusal} (Err why) (Ok n) → ⊥
 never why n e = let z : ◌≡◌ {A = ℕ} 0 1 = cc in omega arith
 
 pub passed_if : (b : Bool) (x : Result ℕ Refusal) (why : Refusal) (k : ℕ) → cond b x (Err why) ≡ Ok k → (b ≡ true) × (x ≡ Ok k)
@@ -79,7 +79,7 @@ pub passed_unless : (b : Bool) (x : Result ℕ Refusal) (why : Refusal) (k : ℕ
 passed_unless true x why k e = absurd (never why k e)
 passed_unless false x why k e = (refl, e)
 
-counts : (n k : ℕ) → Ok n ≡ Ok k → k ≡ n
+counts : (n k : ℕ) → ◌≡◌ {A = Result ℕ Refusal} (Ok n) (Ok k) → k ≡ n
 counts n k e = cc
 
 room_counted : (n room k : ℕ) → room_for n room ≡ Ok k → (n ≤ room) × (k ≡ n)

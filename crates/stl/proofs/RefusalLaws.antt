@@ -12,11 +12,10 @@ use borrow.Author.Tests.{leb-false, lt-leb, eqb-false, ltb-true}
 use lib.Dec.{leb, ltb, lit<}
 use lib.ListN.{length}
 use lib.Ieee.{Float}
-use Rattle.refusals.specs.Refusals.{number_of}
+use Rattle.refusals.specs.Refusals.{number_of, answer_number}
 use Rattle.refusals.specs.declared.Refusal.{Refusal}
 use Rattle.refusals.specs.declared.Refusal.TheVariants.{Lengths, NoPlace, BadVertex, BadLength}
 use Rattle.lists.specs.Lists.{◌∈◌}
-use Rattle.lists.specs.Listing.{listed_number}
 use Rattle.lists.proofs.Bools.{yes, no, cases, and_first, and_second, or_cases}
 use Rattle.floats.proofs.Values.{le_or_lt}
 use Rattle.corners.specs.Corners.{every, vertex_ok, vertices_in, triangle_ok, triangles_in}
@@ -72,8 +71,8 @@ fails_either f l g m (inr p) = rw (fails_not g m p) (and_none (every f l))
 
 -- ---- answers by their tests, in order
 
-other : (why why' : Refusal) → number_of why < number_of why' → Err why ≡ Err why' → ⊥
-other why why' h e = let same : number_of why ≡ number_of why' = ap listed_number e in omega arith
+other : (why why' : Refusal) → number_of why < number_of why' → ◌≡◌ {A = Result ℕ Refusal} (Err why) (Err why') → ⊥
+other why why' h e = let same : number_of why ≡ number_of why' = ap answer_number e in omega arith
 
 -- a mesh is tested for lengths, for vertices and for room
 abbrev mesh_ladder : Bool → Bool → Bool → ℕ → Result ℕ Refusal

@@ -1,6 +1,6 @@
 -- `stl::reading::read_facets` meets its contract: the triangles that are left pass exactly when all do, and their corners are put from where they go on.
 -- Assumes nothing.
-use Prim.Native.Nat.{◌-◌, ◌≤◌}
+use Prim.Native.Nat.{◌≤◌}
 use mathlib.Core.Path.{◌≡◌}
 use Rattle.slopes.specs.declared.Vertex.{Vertex}
 use Rattle.corners.specs.Corners.{every, vertex_ok}

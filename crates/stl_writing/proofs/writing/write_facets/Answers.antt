@@ -72,6 +72,9 @@ vertex_at-c-requires c =
 pub overflow_mul-i : goal.overflow_mul-i
 overflow_mul-i c = omega (arith, c.loop-i-test.true, c.requires.few)
 
+pub overflow_add-i : goal.overflow_add-i
+overflow_add-i c = omega (arith, c.loop-i-test.true, c.requires.few)
+
 pub write_facet-requires : goal.write_facet-requires
 write_facet-requires c =
     record {
@@ -79,9 +82,6 @@ write_facet-requires c =
       a_value = corners_ok _ _ _ _ _ _ _ _ _ c.requires c.loop-i.i c.loop-i-test.true c.loop-i.invariant.1 _ _ _
           c.vertex_at-a.ensures c.vertex_at-b.ensures c.vertex_at-c.ensures;
     }
-
-pub overflow_add-i-in-loop-i : goal.overflow_add-i-in-loop-i
-overflow_add-i-in-loop-i c = omega (arith, c.loop-i-test.true, c.ranges.triangles)
 
 pub loop-i-preserved : goal.loop-i-preserved
 loop-i-preserved c =
