@@ -1,7 +1,9 @@
 -- A line read byte by byte: at each place, what was read and what is left say what the whole says.
 -- Assumes nothing.
-use Rattle.std.proofs.Common.{◌≡◌, ℕ, ◌+◌, ◌<◌, ◌≤◌, true, false, eqb, List, [], ◌∷◌, length, get_or, drop, sym, refl, ◌∙◌, add-one, drop_of_length-le, drop-cons}
+use Rattle.std.proofs.Common.{◌≡◌, ℕ, ◌+◌, ◌*◌, ◌%◌, ◌^◌, ◌<◌, ◌≤◌, arith, true, false, eqb, List, [], ◌∷◌, length, get_or, drop, sym, refl, ◌∙◌, add-one, drop_of_length-le, drop-cons}
 use mathlib.Core.List.{foldl}
+use native.Mathlib.Nat.{mod-add-mod}
+use lib.Bits.{bit_or, or_shifted}
 use Rattle.vectors.specs.declared.Line.{Line}
 use Rattle.vectors.specs.declared.Taken.{Taken}
 use Rattle.vectors.specs.Vectors.{longer_line, first_line, after_line, taken_from}
@@ -35,3 +37,10 @@ module _ (bytes : List ℕ) (start : ℕ) (l : Line) (i : ℕ) (left : taken_aft
   -- at the end
   pub at_end : length bytes ≤ i → record { line = l; next = i } ≡ taken_from bytes start
   at_end h = sym (ended l i) ∙ (rw (drop_of_length-le bytes h) at left)
+
+-- a shift by four and an or are one hexadecimal digit more
+pub digit_more : (w d : ℕ) → d < 16 → bit_or (w * 2 ^ 4 % 2 ^ 64) d ≡ (w * 16 + d) % 2 ^ 64
+digit_more w d h =
+    let room : w * 2 ^ 4 % 2 ^ 64 ≡ w % 2 ^ 60 * 2 ^ 4 = omega arith in
+    let whole : w % 2 ^ 60 * 2 ^ 4 + d ≡ (w * 16 + d) % 2 ^ 64 = omega (arith, mod-add-mod (w * 2 ^ 4) (2 ^ 64) d) in
+    rw (room, or_shifted (w % 2 ^ 60) 4 d h) whole

@@ -1,8 +1,9 @@
 -- The lines of stored answers, what their words say, the field that they build and the score (compare/VECTORS.md). Bytes by their numbers.
-use Rattle.std.specs.Prelude.{ℕ, ◌+◌, ◌-◌, ◌*◌, ◌/◌, ◌%◌, ◌^◌, Bool, true, false, cond, not, ◌&&◌, ◌||◌, List, [], ◌∷◌, drop, replicate, ℤ, pos, neg_ℤ, ◌==◌, nat_le, nat_lt, slice_index, slice_set, Float}
+use Rattle.std.specs.Prelude.{ℕ, ◌+◌, ◌-◌, ◌*◌, ◌/◌, ◌%◌, ◌^◌, Bool, true, false, cond, not, ◌&&◌, ◌||◌, List, [], ◌∷◌, drop, replicate, ℤ, pos, neg_ℤ, ◌==◌, nat_le, nat_lt, slice_index, slice_set, unwrap_or, Float}
 use mathlib.Core.List.{foldl}
 use Rattle.std.specs.Float.Ieee.{eq}
 use Rattle.floats.specs.Floats.{f32, zero32, sign_of}
+use Rattle.lines.specs.Lines.{digit_of}
 use Rattle.table.specs.Table.{settings_of}
 use Rattle.vectors.specs.declared.Line.{Line}
 use Rattle.vectors.specs.declared.Taken.{Taken}
@@ -11,9 +12,9 @@ use Rattle.vectors.specs.declared.Score.{Score}
 
 -- ---- a line
 
--- the value of `0` to `9` or `a` to `f`; 0 for any other byte
-unfoldable pub digit_of : ℕ → ℕ
-digit_of b = cond (nat_le 48 b && nat_le b 57) (b - 48) (cond (nat_le 97 b && nat_le b 102) (b - 97 + 10) 0)
+-- the value of a hex digit; 0 for any other byte
+abbrev pub digit_value : ℕ → ℕ
+digit_value b = unwrap_or (digit_of 16 b) 0
 
 -- no letter, and no words in a room of 16
 abbrev pub blank_line : Line
@@ -35,7 +36,7 @@ with_digit l d =
 unfoldable pub longer_line : Line → ℕ → Line
 longer_line l b =
     cond (l.letter == 0) (record { letter = b; words = l.words; count = 0 })
-    (cond (b == 32) (with_word l) (with_digit l (digit_of b)))
+    (cond (b == 32) (with_word l) (with_digit l (digit_value b)))
 
 -- the letter and the words of a line's bytes
 abbrev pub line_of : List ℕ → Line

@@ -4,13 +4,15 @@
 
 ghost use Rattle.std.specs.Prelude.{◌≡◌, ◌<◌, ◌≤◌, false, length, pos, neg_ℤ};
 ghost use Rattle.floats.specs.Floats.{f32};
-ghost use Rattle.vectors.specs.Vectors.{digit_of, blank_line, with_word, with_digit, longer_line, taken_from};
-ghost use Rattle.vectors.specs.Vectors.{low16_of, signed_of, not_finite, float_of, same_float};
+ghost use Rattle.vectors.specs.Vectors.{digit_value, blank_line, with_word, with_digit, longer_line, taken_from};
+ghost use Rattle.vectors.specs.Vectors.{low16_of, low32_of, signed_of, not_finite, float_of, same_float};
 ghost use Rattle.vectors.specs.Vectors.{empty_field, with_row, field_after, no_score, counted_if, answered_score, scored_line};
 
+use std::fmt;
 use table::{Settings, settings_of};
 
-// A line as far as it was read: its letter, 0 before it, and its words.
+// A line as far as it was read: its letter, 0 before it, and its words. The definition `longer_line` takes a byte 0 for no letter, and the programs
+// read the words past the last as 0, so the letter is no Option and the words are an array.
 #[derive(Clone, Copy)]
 pub struct Line {
     pub letter: u8,
@@ -25,7 +27,7 @@ pub struct Taken {
     pub next: usize,
 }
 
-// A fused table or a marched one, under its settings.
+// A fused table or a marched one, under its settings. The calls on a table take whole lists and a count, so it has these.
 #[derive(Clone, Copy)]
 pub struct Field {
     pub settings: Settings,
@@ -58,80 +60,50 @@ fn blank() -> Line
 
 // A digit's value; 0 for another byte.
 fn digit(byte: u8) -> u64
-    ensures value { result ≡ digit_of byte }
+    ensures value { result ≡ digit_value byte }
     ensures upper_bound { result < 16 }
 {
-    if byte < b'0' {
-        return 0;
-    }
-    if byte <= b'9' {
-        return (byte - b'0') as u64;
-    }
-    if byte < b'a' {
-        return 0;
-    }
-    if byte <= b'f' {
-        (byte - b'a') as u64 + 10
-    } else {
-        0
-    }
+    lines::digit_of(16, byte).map_or(0, u64::from)
 }
 
-// The line with one word more, 0 so far.
-fn with_word(line: Line) -> Line
-    ensures { result ≡ with_word line }
-{
-    let mut words = line.words;
-    let count = line.count;
-    if count < 16 {
-        words[count] = 0;
-        return Line {
-            letter: line.letter,
-            words: words,
-            count: count + 1,
-        };
+impl Line {
+    // One word more, 0 so far; a full line stays as it is.
+    #[tactic(auto, using(std::proofs::lemmas::Bool::Decides::nat_tests), unfolding(crate::specs::Vectors::with_word))]
+    fn begin_word(&mut self)
+        ensures { self.new ≡ with_word self.old }
+    {
+        if self.count < self.words.len() {
+            self.words[self.count] = 0;
+            self.count += 1;
+        }
     }
-    line
-}
 
-// The line with one digit more in its last word.
-fn with_digit(line: Line, digit: u64) -> Line
-    requires { digit < 16 }
-    ensures { result ≡ with_digit line digit }
-{
-    let mut words = line.words;
-    let count = line.count;
-    if count == 0 {
-        return line;
+    // One digit more in the last word; a line without words stays as it is.
+    #[tactic(auto, using(std::proofs::lemmas::Bool::Decides::nat_tests, crate::proofs::LineLaws::digit_more), unfolding(crate::specs::Vectors::with_digit))]
+    fn push_digit(&mut self, digit: u64)
+        requires { digit < 16 }
+        ensures { self.new ≡ with_digit self.old digit }
+    {
+        if 0 < self.count && self.count <= self.words.len() {
+            let last = self.count - 1;
+            self.words[last] = (self.words[last] << 4) | digit;
+        }
     }
-    if 16 < count {
-        return line;
-    }
-    let at = count - 1;
-    words[at] = (words[at] << 4) | digit;
-    Line {
-        letter: line.letter,
-        words: words,
-        count: count,
-    }
-}
 
-// The line with one byte more: its letter, a space before a word, or a digit.
-fn longer(line: Line, byte: u8) -> Line
-    ensures { result ≡ longer_line line byte }
-{
-    let words = line.words;
-    if line.letter == 0 {
-        return Line {
-            letter: byte,
-            words: words,
-            count: 0,
-        };
+    // One byte more: the letter, a space before a word, or a digit.
+    #[tactic(auto, using(std::proofs::lemmas::Bool::Decides::nat_tests), unfolding(crate::specs::Vectors::longer_line))]
+    fn push(&mut self, byte: u8)
+        ensures { self.new ≡ longer_line self.old byte }
+    {
+        if self.letter == 0 {
+            self.letter = byte;
+            self.count = 0;
+        } else if byte == b' ' {
+            self.begin_word();
+        } else {
+            self.push_digit(digit(byte));
+        }
     }
-    if byte == b' ' {
-        return with_word(line);
-    }
-    with_digit(line, digit(byte))
 }
 
 // The line that begins at a place.
@@ -140,21 +112,16 @@ pub fn line_from(bytes: &[u8], start: usize) -> Taken
     ensures start_lt_next { start < length bytes.now → start < result.next }
 {
     let mut line = blank();
-    let mut i = start;
-    while i < bytes.len() {
+    for i in start..bytes.len() {
         let byte = bytes[i];
-        i += 1;
         if byte == b'\n' {
-            return Taken {
-                line: line,
-                next: i,
-            };
+            return Taken { line, next: i + 1 };
         }
-        line = longer(line, byte);
+        line.push(byte);
     }
     Taken {
-        line: line,
-        next: i,
+        line,
+        next: start.max(bytes.len()),
     }
 }
 
@@ -165,24 +132,19 @@ pub fn low16(word: u64) -> u16
     (word % 0x1_0000) as u16
 }
 
-// -size
-fn minus(size: u64) -> i32
-    requires { size ≤ 0x8000_0000 }
-    ensures { result ≡ neg_ℤ (pos size) }
+// The low 32 bits.
+fn low32(word: u64) -> u32
+    ensures { result ≡ low32_of word }
 {
-    (0 - (size as i64)) as i32
+    (word % 0x1_0000_0000) as u32
 }
 
 // The i32 of 32 bits.
+#[tactic(auto, using(std::proofs::lemmas::Bool::Decides::nat_tests), unfolding(crate::specs::Vectors::signed_of))]
 pub fn signed(word: u64) -> i32
     ensures { result ≡ signed_of word }
 {
-    let low = word % 0x1_0000_0000;
-    if low < 0x8000_0000 {
-        low as i32
-    } else {
-        minus(0x1_0000_0000 - low)
-    }
+    low32(word).cast_signed()
 }
 
 // The f32 of a pattern that is no NaN's.
@@ -194,10 +156,11 @@ fn float_of(bits: u32) -> f32
 }
 
 // The f32 of 32 bits; 0 for those of an infinity or a NaN, of which no vector has one.
+#[tactic(auto, using(std::proofs::lemmas::Bool::Decides::nat_tests), unfolding(crate::specs::Vectors::float_of))]
 pub fn float(word: u64) -> f32
     ensures { result ≡ float_of word }
 {
-    let bits = (word % 0x1_0000_0000) as u32;
+    let bits = low32(word);
     if bits % 0x8000_0000 / 0x80_0000 == 255 {
         0.0
     } else {
@@ -213,17 +176,17 @@ pub fn same(a: f32, b: f32) -> bool
 }
 
 // A field without rows, under the settings of a line.
+#[tactic(auto, unfolding(crate::specs::Vectors::empty_field))]
 pub fn empty(words: [u64; 16]) -> Field
     ensures { result ≡ empty_field words }
 {
-    let settings = settings_of(
-        float(words[0]),
-        float(words[1]),
-        float(words[2]),
-        float(words[3]),
-    );
     Field {
-        settings: settings,
+        settings: settings_of(
+            float(words[0]),
+            float(words[1]),
+            float(words[2]),
+            float(words[3]),
+        ),
         keys: [0; 32],
         distances: [0.0; 32],
         weights: [0.0; 32],
@@ -232,42 +195,30 @@ pub fn empty(words: [u64; 16]) -> Field
 }
 
 // One row more.
-fn with_row(field: Field, words: [u64; 16]) -> Field
+#[tactic(auto, using(std::proofs::lemmas::Bool::Decides::nat_tests), unfolding(crate::specs::Vectors::with_row))]
+fn with_row(mut field: Field, words: [u64; 16]) -> Field
     ensures { result ≡ with_row field words }
 {
-    let settings = field.settings;
-    let mut keys = field.keys;
-    let mut distances = field.distances;
-    let mut weights = field.weights;
-    let rows = field.rows;
-    if rows < 32 {
-        keys[rows] = words[0];
-        distances[rows] = float(words[1]);
-        weights[rows] = float(words[2]);
-        return Field {
-            settings: settings,
-            keys: keys,
-            distances: distances,
-            weights: weights,
-            rows: rows + 1,
-        };
+    let row = field.rows;
+    if row < field.keys.len() {
+        field.keys[row] = words[0];
+        field.distances[row] = float(words[1]);
+        field.weights[row] = float(words[2]);
+        field.rows += 1;
     }
     field
 }
 
 // The field after a line of settings or of a row; any other leaves it.
+#[tactic(auto, using(std::proofs::lemmas::Bool::Decides::nat_tests), unfolding(crate::specs::Vectors::field_after))]
 pub fn field_after(field: Field, line: Line) -> Field
     ensures { result ≡ field_after field line }
 {
-    let words = line.words;
-    let letter = line.letter;
-    if letter == b'S' {
-        return empty(words);
+    match line.letter {
+        b'S' => empty(line.words),
+        b'R' => with_row(field, line.words),
+        _ => field,
     }
-    if letter == b'R' {
-        return with_row(field, words);
-    }
-    field
 }
 
 // No answers yet.
@@ -284,55 +235,55 @@ pub fn unscored() -> Score
 }
 
 // A counter, one further if so.
+#[tactic(auto, unfolding(crate::specs::Vectors::counted_if))]
 fn counted(count: u64, so: bool) -> u64
     ensures { result ≡ counted_if so count }
 {
-    if so {
-        return std::num::wrapping_add_u64(count, 1);
-    }
-    count
+    count.wrapping_add(u64::from(so))
 }
 
 // One answer more.
+#[tactic(auto, unfolding(crate::specs::Vectors::answered_score))]
 fn answered(score: Score, good: bool) -> Score
     ensures { result ≡ answered_score score good }
 {
-    let mut next = score;
-    next.changes = false;
     if score.changes {
-        next.changed = counted(score.changed, true);
-        next.seen = counted(score.seen, !good);
-        return next;
+        Score {
+            changed: counted(score.changed, true),
+            seen: counted(score.seen, !good),
+            changes: false,
+            ..score
+        }
+    } else {
+        Score {
+            asked: counted(score.asked, true),
+            again: counted(score.again, good),
+            ..score
+        }
     }
-    next.asked = counted(score.asked, true);
-    next.again = counted(score.again, good);
-    next
 }
 
 // The score after a line: settings and rows ask for nothing, and ! says that the next answer is changed.
+#[tactic(auto, using(std::proofs::lemmas::Bool::Decides::nat_tests), unfolding(crate::specs::Vectors::scored_line))]
 pub fn scored(score: Score, letter: u8, good: bool) -> Score
     ensures { result ≡ scored_line score letter good }
 {
-    let mut next = score;
-    if (letter == b'S') | (letter == b'R') {
-        return next;
+    match letter {
+        b'S' | b'R' => score,
+        b'!' => Score {
+            changes: true,
+            ..score
+        },
+        _ => answered(score, good),
     }
-    if letter == b'!' {
-        next.changes = true;
-        return next;
-    }
-    answered(score, good)
 }
 
-// What a program prints.
-pub fn say(score: Score) {
-    io::write_all(1, b"answers of the Rust ");
-    io::print_decimal(1, score.asked);
-    io::write_all(1, b", given again ");
-    io::print_decimal(1, score.again);
-    io::write_all(1, b"; changed by a bit ");
-    io::print_decimal(1, score.changed);
-    io::write_all(1, b", seen ");
-    io::print_decimal(1, score.seen);
-    io::write_all(1, b"\n");
+impl fmt::Display for Score {
+    fn fmt<W: fmt::Write>(&self, f: &mut fmt::Formatter<W>) -> fmt::Result {
+        write!(
+            f,
+            "answers of the Rust {}, given again {}; changed by a bit {}, seen {}",
+            self.asked, self.again, self.changed, self.seen
+        )
+    }
 }
