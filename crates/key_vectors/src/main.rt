@@ -7,18 +7,15 @@ use vectors::Score;
 
 fn replayed(bytes: &[u8]) -> Score {
     let mut score = vectors::unscored();
-    let mut place = 0;
-    while place < bytes.len() {
-        let taken = vectors::line_from(bytes, place);
-        let line = taken.line;
+    for text in bytes.split_inclusive(|byte| *byte == b'\n') {
+        let line = vectors::line_from(text, 0).line;
         score = vectors::scored(score, line.letter, leaves::again(line));
-        place = taken.next;
     }
     score
 }
 
-fn main() {
+fn main(rt: HostRuntime) -> std::io::Result<()> {
     let mut buffer = io::large_buffer();
     let n = io::read_full(0, &mut buffer);
-    vectors::say(replayed(&buffer[..n]));
+    println!(rt; "{}", replayed(&buffer[..n]))
 }
