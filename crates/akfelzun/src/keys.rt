@@ -8,7 +8,10 @@ ghost use Rattle.bcc_utils.specs.Snapping.{on_lattice, snapped, snapped_number, 
 ghost use Rattle.bcc_utils.specs.Metres.{voxel_of};
 ghost use Rattle.answers.specs.Keys.{key_made, place_decoded, root_given, one_if};
 
-use answers::keys::{ key_back, list_back, one_if, place_back, root_back, snapped_number, x_snapped, y_snapped, z_snapped, };
+use answers::keys::{
+    key_back, list_back, one_if, place_back, root_back, snapped_number, x_snapped, y_snapped,
+    z_snapped,
+};
 use bcc_utils::WideCells;
 use floats::Metres;
 use ids::Cells;

@@ -11,8 +11,10 @@ ghost use Rattle.esdf_surveys.specs.Statistics.{get_stats, statistics_number};
 ghost use Rattle.mesh_answers.specs.Marching.{march_back, march_handed, marched_distance, free_found, slope_found, marched_stats};
 
 use answers::keys::list_back;
-use mesh_answers::march::{ distance_back, free_back, march_back, slope_back, stats_found, stats_number, };
-use table::settings_of;
+use mesh_answers::march::{
+    distance_back, free_back, march_back, slope_back, stats_found, stats_number,
+};
+use table::{Rows, settings_of};
 
 #[unsafe(no_mangle)]
 pub extern "C" fn akf_compute_from_tsdf(
@@ -43,10 +45,12 @@ pub extern "C" fn akf_compute_from_tsdf(
     let settings = settings_of(truncation, max_weight, voxel_size, max_distance);
     let marched = esdf::compute_from_tsdf(
         settings,
-        keys,
-        distances,
-        weights,
-        count,
+        &Rows {
+            keys,
+            distances,
+            weights,
+            count,
+        },
         threshold,
         marched_keys,
         marched_distances,

@@ -11,8 +11,11 @@ ghost use Rattle.surfaces.specs.Stats.{stats_answer, stats_number, stats_value};
 ghost use Rattle.answers.specs.Keys.{one_if};
 ghost use Rattle.mesh_answers.specs.Meshing.{MeshBackOn, TurnedBack, MeshBack, span_start, span_length, low_corner, high_corner};
 
-use mesh_answers::meshing::{ area_back, box_number, high_corner, low_corner, mesh_back, normals_back, span_length, span_start, };
-use table::settings_of;
+use mesh_answers::meshing::{
+    area_back, box_number, high_corner, low_corner, mesh_back, normals_back, span_length,
+    span_start,
+};
+use table::{Rows, settings_of};
 
 #[unsafe(no_mangle)]
 pub extern "C" fn akf_extract_mesh_from_tsdf(
@@ -51,8 +54,25 @@ pub extern "C" fn akf_extract_mesh_from_tsdf(
 {
     let settings = settings_of(truncation, max_weight, voxel_size, max_distance);
     let meshed = mesh::extract_mesh_from_tsdf(
-        settings, keys, distances, weights, count, first, second, px, py, pz, nx, ny, nz, groups,
-        t0, t1, t2,
+        settings,
+        &Rows {
+            keys,
+            distances,
+            weights,
+            count,
+        },
+        first,
+        second,
+        px,
+        py,
+        pz,
+        nx,
+        ny,
+        nz,
+        groups,
+        t0,
+        t1,
+        t2,
     );
     let back = mesh_back(meshed);
     *edges = back.first;
@@ -96,7 +116,23 @@ pub extern "C" fn akf_extract_closed_mesh(
 {
     let settings = settings_of(truncation, max_weight, voxel_size, max_distance);
     let meshed = mesh::extract_closed_mesh(
-        settings, keys, distances, weights, count, first, second, px, py, pz, nx, ny, nz, t0, t1,
+        settings,
+        &Rows {
+            keys,
+            distances,
+            weights,
+            count,
+        },
+        first,
+        second,
+        px,
+        py,
+        pz,
+        nx,
+        ny,
+        nz,
+        t0,
+        t1,
         t2,
     );
     let closed = mesh_back(meshed);
@@ -141,7 +177,23 @@ pub extern "C" fn akf_extract_turned_mesh(
 {
     let settings = settings_of(truncation, max_weight, voxel_size, max_distance);
     let meshed = turned_mesh::extract_turned_mesh(
-        settings, keys, distances, weights, count, first, second, px, py, pz, nx, ny, nz, t0, t1,
+        settings,
+        &Rows {
+            keys,
+            distances,
+            weights,
+            count,
+        },
+        first,
+        second,
+        px,
+        py,
+        pz,
+        nx,
+        ny,
+        nz,
+        t0,
+        t1,
         t2,
     );
     let turned = mesh_back(meshed);

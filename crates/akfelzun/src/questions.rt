@@ -11,7 +11,7 @@ ghost use Rattle.answers.specs.Questions.{distance_found, weight_found, surface_
 use answers::keys::list_back;
 use answers::questions::{distance_back, stats_found, stats_number, surface_back, weight_back};
 use floats::Metres;
-use table::settings_of;
+use table::{Rows, settings_of};
 
 #[unsafe(no_mangle)]
 pub extern "C" fn akf_tsdf_get_distance(
@@ -36,7 +36,16 @@ pub extern "C" fn akf_tsdf_get_distance(
         (table keys.now distances.now weights.now count) key)) }
 {
     let settings = settings_of(truncation, max_weight, voxel_size, max_distance);
-    let found = tsdf_questions::get_distance(settings, keys, distances, weights, count, key);
+    let found = tsdf_questions::get_distance(
+        settings,
+        &Rows {
+            keys,
+            distances,
+            weights,
+            count,
+        },
+        key,
+    );
     let back = distance_back(found);
     *distance = back.value;
     back.number
@@ -63,7 +72,16 @@ pub extern "C" fn akf_tsdf_get_weight(
         (table keys.now distances.now weights.now count) key)) }
 {
     let settings = settings_of(truncation, max_weight, voxel_size, max_distance);
-    let found = tsdf_questions::get_weight(settings, keys, distances, weights, count, key);
+    let found = tsdf_questions::get_weight(
+        settings,
+        &Rows {
+            keys,
+            distances,
+            weights,
+            count,
+        },
+        key,
+    );
     let back = weight_back(found);
     *weight = back.value;
     back.number
@@ -95,10 +113,12 @@ pub extern "C" fn akf_is_surface_voxel(
     let settings = settings_of(truncation, max_weight, voxel_size, max_distance);
     let found = tsdf_questions::is_surface_voxel(
         settings,
-        keys,
-        distances,
-        weights,
-        count,
+        &Rows {
+            keys,
+            distances,
+            weights,
+            count,
+        },
         key,
         Metres(threshold),
     );
@@ -143,7 +163,15 @@ pub extern "C" fn akf_tsdf_stats(
         (table keys.now distances.now weights.now count))).average_weight }
 {
     let settings = settings_of(truncation, max_weight, voxel_size, max_distance);
-    let statistics = tsdf_surveys::stats(settings, keys, distances, weights, count);
+    let statistics = tsdf_surveys::stats(
+        settings,
+        &Rows {
+            keys,
+            distances,
+            weights,
+            count,
+        },
+    );
     let found = stats_found(statistics);
     *voxel_count = found.voxel_count;
     *surface_voxel_count = found.surface_voxel_count;
@@ -182,10 +210,12 @@ pub extern "C" fn akf_get_surface_voxels(
     let settings = settings_of(truncation, max_weight, voxel_size, max_distance);
     let answer = tsdf_surveys::get_surface_voxels(
         settings,
-        keys,
-        distances,
-        weights,
-        count,
+        &Rows {
+            keys,
+            distances,
+            weights,
+            count,
+        },
         Metres(threshold),
         out,
     );
@@ -225,7 +255,15 @@ pub extern "C" fn akf_get_zero_crossing_edges(
 {
     let settings = settings_of(truncation, max_weight, voxel_size, max_distance);
     let answer = edges::get_zero_crossing_edges(
-        settings, keys, distances, weights, count, first, second,
+        settings,
+        &Rows {
+            keys,
+            distances,
+            weights,
+            count,
+        },
+        first,
+        second,
     );
     let back = list_back(answer);
     *listed = back.count;

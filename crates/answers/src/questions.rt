@@ -7,8 +7,8 @@ ghost use Rattle.answers.specs.Questions.{distance_found, weight_found, surface_
 use crate::keys::one_if;
 use crate::{ABSENT, DONE, LengthBack, NOTHING, YesBack};
 use floats::Metres;
-use tsdf_surveys::TsdfStats;
 use refusals::Refusal;
+use tsdf_surveys::TsdfStats;
 
 pub fn distance_back(distance: Result<Option<Metres>, Refusal>) -> LengthBack
     ensures number_value { result.number ≡ distance_number distance }

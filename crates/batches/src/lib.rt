@@ -12,7 +12,7 @@ use floats::Metres;
 use fusing::{Step, fuse_sound};
 use measuring::Reading;
 use owning::{Run, batch_run};
-use table::{Settings, check_with, lengths_ok};
+use table::{Rows, Settings, check_with, lengths_ok};
 
 // How the readings of a batch ended, and how many of those that were taken were far.
 #[derive(Clone, Copy)]
@@ -213,7 +213,16 @@ pub fn batch_update(
         batch_confidences.len(),
         0,
     );
-    match check_with(fits, settings, keys, distances, weights, *count) {
+    match check_with(
+        fits,
+        settings,
+        &Rows {
+            keys,
+            distances,
+            weights,
+            count: *count,
+        },
+    ) {
         Err(why) => Batched::Refused(why, 0, counts_of(0, 0, 0, 0)),
         Ok(()) => {
             let before = *count;

@@ -71,7 +71,11 @@ fn has_end(x: WideCells, y: WideCells, z: WideCells) -> bool
 
 // The nearest of the sixteen candidates. An even one is as far away as there are odd coordinates, and an odd one as there
 // are even coordinates: so the first candidate of the class that moves fewer coordinates is the nearest.
-fn nearest_candidate(x: WideCells, y: WideCells, z: WideCells) -> Result<(WideCells, WideCells, WideCells), Refusal>
+fn nearest_candidate(
+    x: WideCells,
+    y: WideCells,
+    z: WideCells,
+) -> Result<(WideCells, WideCells, WideCells), Refusal>
     ensures { result ≡ placed (nearest_candidate x.0 y.0 z.0) }
 {
     if is_mostly_even(x, y, z) {
@@ -82,7 +86,11 @@ fn nearest_candidate(x: WideCells, y: WideCells, z: WideCells) -> Result<(WideCe
 }
 
 // The nearest lattice point: the point itself, if it is one.
-pub fn snap_to_nearest_bcc(x: WideCells, y: WideCells, z: WideCells) -> Result<(WideCells, WideCells, WideCells), Refusal>
+pub fn snap_to_nearest_bcc(
+    x: WideCells,
+    y: WideCells,
+    z: WideCells,
+) -> Result<(WideCells, WideCells, WideCells), Refusal>
     ensures { result ≡ snapped x.0 y.0 z.0 }
 {
     if is_valid_bcc(x, y, z) {
@@ -102,7 +110,12 @@ fn cells_of(length: Metres, voxel_size: Metres) -> Result<i32, Refusal>
 }
 
 // The lattice point nearest to a place's cells.
-fn snap_place(x: Metres, y: Metres, z: Metres, voxel_size: Metres) -> Result<(WideCells, WideCells, WideCells), Refusal>
+fn snap_place(
+    x: Metres,
+    y: Metres,
+    z: Metres,
+    voxel_size: Metres,
+) -> Result<(WideCells, WideCells, WideCells), Refusal>
     ensures { result ≡ place_snapped x.0 y.0 z.0 voxel_size.0 }
 {
     match cells_of(x, voxel_size) {
@@ -125,7 +138,12 @@ fn is_place(x: Metres, y: Metres, z: Metres) -> bool
 }
 
 // The lattice point of a place in metres.
-pub fn physical_to_bcc_voxel(x: Metres, y: Metres, z: Metres, voxel_size: Metres) -> Result<(WideCells, WideCells, WideCells), Refusal>
+pub fn physical_to_bcc_voxel(
+    x: Metres,
+    y: Metres,
+    z: Metres,
+    voxel_size: Metres,
+) -> Result<(WideCells, WideCells, WideCells), Refusal>
     ensures { result ≡ voxel_of x.0 y.0 z.0 voxel_size.0 }
 {
     if floats::positive_to(1000.0, voxel_size.0) {

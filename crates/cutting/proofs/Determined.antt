@@ -13,11 +13,11 @@ pub list_closed_determined :
     → list_closed.Post κs a r s
     → list_closed.Post κs a r' s'
     → (r ≡ r')
+    × (s.1.1.0.now ≡ s'.1.1.0.now)
+    × (s.1.1.1.0.now ≡ s'.1.1.1.0.now)
+    × (s.1.1.1.1.0.now ≡ s'.1.1.1.1.0.now)
     × (s.1.1.1.1.1.0.now ≡ s'.1.1.1.1.1.0.now)
     × (s.1.1.1.1.1.1.0.now ≡ s'.1.1.1.1.1.1.0.now)
-    × (s.1.1.1.1.1.1.1.0.now ≡ s'.1.1.1.1.1.1.1.0.now)
-    × (s.1.1.1.1.1.1.1.1.0.now ≡ s'.1.1.1.1.1.1.1.1.0.now)
-    × (s.1.1.1.1.1.1.1.1.1.0.now ≡ s'.1.1.1.1.1.1.1.1.1.0.now)
 list_closed_determined κs a r r' s s' p q = (
   same_closed r r' (p.edges ∙ sym q.edges) (p.triangles ∙ sym q.triangles),
   p.first ∙ sym q.first,

@@ -16,7 +16,7 @@ use Rattle.lists.specs.Threes.{Three, threes}
 use Rattle.lists.proofs.ListLaws.{in_map, in_kept}
 use Rattle.neighbors.specs.Neighbors.{neighbours, adjacent}
 use Rattle.search.specs.Keys.{ascending, place_of}
-use Rattle.table.specs.Table.{Row, rows_of, beside}
+use Rattle.table.specs.Table.{Row, rows_of, beside, table}
 use Rattle.table.specs.Rows.{keys_of}
 use Rattle.table.proofs.RowLaws.{row_at_lem}
 use Rattle.edges.specs.Edges.{Edge}
@@ -52,7 +52,7 @@ sided_in_lem rows (h ∷ hs) = ap (λ (l : List Sided). sided_in rows h ∷ l) (
 left_in : {A : Type 0} (l : List A) (i : ℕ) {x : A} {r : List A} → drop i l ≡ x ∷ r → x ∈ l
 left_in {A} l i {x} {r} e = subst (λ (m : List A). x ∈ m) (take-append-drop i l) (Memᴰ.append_right (take i l) (rw e (Memᴰ.head refl)))
 
-module _ (ks : List ℕ) (ds ws : List Float) (n : ℕ) (acc : Accepted ks ds ws n) where
+module _ (ks : List ℕ) (ds ws : List Float) (n : ℕ) (acc : Accepted (table ks ds ws n)) where
   abbrev rows : List Row
   rows = rows_of ks ds ws n
 

@@ -5,7 +5,7 @@ use Rattle.lists.specs.Places.{cleared_from}
 use Rattle.lists.specs.Listing.{count_of, held_for}
 use Rattle.lists.specs.Threes.{Three, column0, column1, column2}
 use Rattle.neighbors.specs.Neighbors.{adjacent}
-use Rattle.table.specs.Table.{Row, rows_of}
+use Rattle.table.specs.Table.{Row, rows_of, table}
 use Rattle.edges.specs.Steps.{Accepted}
 use Rattle.groups.specs.CellEdges.{edges_in, pairs_ok}
 use Rattle.tetrahedra.specs.ClosedEdges.{closed_edges}
@@ -45,7 +45,7 @@ starts_at first n place key = cond (ltb place n) (eqb (get_or first place 0) key
 
 -- an accepted table, and two lists that hold its closed edges in front
 pub record Own (ks : List ℕ) (ds ws : List Float) (n : ℕ) (first second : List ℕ) (m : ℕ) : Type 0 where
-  pub accepted : Accepted ks ds ws n
+  pub accepted : Accepted (table ks ds ws n)
   pub pairs : pairs_ok (length first) (length second) m ≡ true
   pub edges : edges_in first second m ≡ closed_edges (rows_of ks ds ws n)
 

@@ -15,11 +15,13 @@ ghost use Rattle.cuts.specs.Numbers.{Numbered};
 ghost use Rattle.cutting.specs.Corners.{sided, sided_by, sided_at, cut_with, cuts_of, cuts_at, cut_row};
 ghost use Rattle.cutting.specs.Steps.{Even, Puts, Beside, MeetsUpTo, Meets, starts_at, Own, OwnIf, IsCut};
 ghost use Rattle.cutting.specs.Closing.{three_ok, IsClosed};
+ghost use Rattle.table.specs.Read.{table_of, rows_in};
 
 use cuts::{Corners, Patch, Sides, Triangle};
 use edges::Surface;
 use lists::LONGEST_LIST;
 use refusals::Refusal;
+use table::Rows;
 
 // What is answered to the closed mesh's edges, and to its triangles.
 #[derive(Clone, Copy)]
@@ -245,10 +247,7 @@ fn starts(first: &[u64], edges: usize, place: usize, key: u64) -> bool
 
 // The triangles of the tetrahedra whose smallest key is a row's.
 fn cut_row(
-    keys: &[u64],
-    distances: &[f32],
-    weights: &[f32],
-    count: usize,
+    rows: &Rows,
     row: usize,
     first: &[u64],
     second: &[u64],
@@ -259,14 +258,19 @@ fn cut_row(
     t1: &mut [u32],
     t2: &mut [u32],
 ) -> usize
-    requires { Accepted keys.now distances.now weights.now count × (row < count)
+    requires { Accepted (table_of rows.now) × (row < rows.now.count)
         × Numbered first.now second.now edges × Even t0.old t1.old t2.old × (at ≤ 700000000) }
-    ensures puts { Puts (cuts_at (rows_of keys.now distances.now weights.now count)
-        (edges_in first.now second.now edges) (get_or keys.now row 0))
+    ensures puts { Puts (cuts_at (rows_in rows.now)
+        (edges_in first.now second.now edges) (get_or rows.now.keys.now row 0))
         at t0.old t1.old t2.old result t0.new t1.new t2.new }
     ensures upper_bound { result ≤ at + 5488 }
 {
-    let above = higher::higher_of(keys, distances, weights, count, row);
+    let Rows {
+        keys,
+        distances,
+        ..
+    } = *rows;
+    let above = higher::higher_of(rows, row);
     let cells = above.keys;
     let inside = above.inside;
     let n = above.count;
@@ -289,10 +293,7 @@ fn cut_row(
 
 // The triangles of a row: none where its weight is not above 0, or no edge starts there.
 fn cut_next(
-    keys: &[u64],
-    distances: &[f32],
-    weights: &[f32],
-    count: usize,
+    rows: &Rows,
     row: usize,
     first: &[u64],
     second: &[u64],
@@ -303,19 +304,18 @@ fn cut_next(
     t1: &mut [u32],
     t2: &mut [u32],
 ) -> usize
-    requires { Own keys.now distances.now weights.now count first.now second.now edges × (row < count)
-        × (near ≡ place_of (get_or keys.now row 0) (take edges first.now)) × Even t0.old t1.old t2.old × (at ≤ 700000000) }
-    ensures puts { Puts (cut_row (rows_of keys.now distances.now weights.now count)
-        (closed_edges (rows_of keys.now distances.now weights.now count))
-        (row_at keys.now distances.now weights.now row))
+    requires { Own rows.now.keys.now rows.now.distances.now rows.now.weights.now rows.now.count first.now second.now edges × (row < rows.now.count)
+        × (near ≡ place_of (get_or rows.now.keys.now row 0) (take edges first.now)) × Even t0.old t1.old t2.old × (at ≤ 700000000) }
+    ensures puts { Puts (cut_row (rows_in rows.now)
+        (closed_edges (rows_in rows.now))
+        (row_at rows.now.keys.now rows.now.distances.now rows.now.weights.now row))
         at t0.old t1.old t2.old result t0.new t1.new t2.new }
     ensures upper_bound { result ≤ at + 5488 }
 {
+    let Rows { keys, weights, .. } = *rows;
     if 0.0 < weights[row] {
         if starts(first, edges, near, keys[row]) {
-            cut_row(
-                keys, distances, weights, count, row, first, second, edges, near, at, t0, t1, t2,
-            )
+            cut_row(rows, row, first, second, edges, near, at, t0, t1, t2)
         } else {
             at
         }
@@ -326,10 +326,7 @@ fn cut_next(
 
 // The triangles of all rows; those past the lists' ends are only counted.
 fn cut_rows(
-    keys: &[u64],
-    distances: &[f32],
-    weights: &[f32],
-    count: usize,
+    rows: &Rows,
     first: &[u64],
     second: &[u64],
     edges: usize,
@@ -337,17 +334,16 @@ fn cut_rows(
     t1: &mut [u32],
     t2: &mut [u32],
 ) -> usize
-    requires { Own keys.now distances.now weights.now count first.now second.now edges × Even t0.old t1.old t2.old }
-    ensures { Puts (closed_triangles (rows_of keys.now distances.now weights.now count))
+    requires { Own rows.now.keys.now rows.now.distances.now rows.now.weights.now rows.now.count first.now second.now edges × Even t0.old t1.old t2.old }
+    ensures { Puts (closed_triangles (rows_in rows.now))
         0 t0.old t1.old t2.old result t0.new t1.new t2.new }
 {
+    let Rows { keys, count, .. } = *rows;
     let mut near = 0;
     let mut end = 0;
     for row in 0..count {
         near = search::place_near(first, edges, near, keys[row]);
-        end = cut_next(
-            keys, distances, weights, count, row, first, second, edges, near, end, t0, t1, t2,
-        );
+        end = cut_next(rows, row, first, second, edges, near, end, t0, t1, t2);
     }
     end
 }
@@ -361,10 +357,7 @@ fn three_ok(x: usize, y: usize, z: usize) -> bool
 
 // The triangles, where the edges are listed; the places past them are left to be cleared.
 fn cut_listed(
-    keys: &[u64],
-    distances: &[f32],
-    weights: &[f32],
-    count: usize,
+    rows: &Rows,
     first: &[u64],
     second: &[u64],
     edges: usize,
@@ -372,40 +365,33 @@ fn cut_listed(
     t1: &mut [u32],
     t2: &mut [u32],
 ) -> Result<usize, Refusal>
-    requires { Own keys.now distances.now weights.now count first.now second.now edges }
-    ensures { IsCut (Ok edges) (rows_of keys.now distances.now weights.now count)
+    requires { Own rows.now.keys.now rows.now.distances.now rows.now.weights.now rows.now.count first.now second.now edges }
+    ensures { IsCut (Ok edges) (rows_in rows.now)
         t0.old t1.old t2.old result t0.new t1.new t2.new }
 {
     if !three_ok(t0.len(), t1.len(), t2.len()) {
         return Err(Refusal::Lengths);
     }
-    let n = cut_rows(
-        keys, distances, weights, count, first, second, edges, t0, t1, t2,
-    );
+    let n = cut_rows(rows, first, second, edges, t0, t1, t2);
     lists::room_for(n, t0.len())
 }
 
 // The triangles by the answer to the edges.
 fn cut_checked(
     edges: Result<usize, Refusal>,
-    keys: &[u64],
-    distances: &[f32],
-    weights: &[f32],
-    count: usize,
+    rows: &Rows,
     first: &[u64],
     second: &[u64],
     t0: &mut [u32],
     t1: &mut [u32],
     t2: &mut [u32],
 ) -> Result<usize, Refusal>
-    requires { OwnIf edges keys.now distances.now weights.now count first.now second.now }
-    ensures { IsCut edges (rows_of keys.now distances.now weights.now count)
+    requires { OwnIf edges rows.now.keys.now rows.now.distances.now rows.now.weights.now rows.now.count first.now second.now }
+    ensures { IsCut edges (rows_in rows.now)
         t0.old t1.old t2.old result t0.new t1.new t2.new }
 {
     match edges {
-        Ok(n) => cut_listed(
-            keys, distances, weights, count, first, second, n, t0, t1, t2,
-        ),
+        Ok(n) => cut_listed(rows, first, second, n, t0, t1, t2),
         Err(why) => Err(why),
     }
 }
@@ -414,34 +400,20 @@ fn cut_checked(
 // when one would outgrow its own lists.
 pub fn list_closed(
     verdict: Result<(), Refusal>,
-    keys: &[u64],
-    distances: &[f32],
-    weights: &[f32],
-    count: usize,
+    rows: &Rows,
     first: &mut [u64],
     second: &mut [u64],
     t0: &mut [u32],
     t1: &mut [u32],
     t2: &mut [u32],
 ) -> ClosedListed
-    requires { Tested verdict keys.now distances.now weights.now count (length first.old) (length second.old) }
-    ensures { IsClosed verdict (table keys.now distances.now weights.now count) (length first.old)
+    requires { Tested verdict rows.now.keys.now rows.now.distances.now rows.now.weights.now rows.now.count (length first.old) (length second.old) }
+    ensures { IsClosed verdict (table_of rows.now) (length first.old)
         (length second.old) (length t0.old) (length t1.old) (length t2.old)
         result first.new second.new t0.new t1.new t2.new }
 {
-    let edges = edges::list_tested(
-        Surface::Closed,
-        verdict,
-        keys,
-        distances,
-        weights,
-        count,
-        first,
-        second,
-    );
-    let triangles = cut_checked(
-        edges, keys, distances, weights, count, first, second, t0, t1, t2,
-    );
+    let edges = edges::list_tested(Surface::Closed, verdict, rows, first, second);
+    let triangles = cut_checked(edges, rows, first, second, t0, t1, t2);
     let n = lists::count_of(triangles);
     lists::clear_from_u32(t0, n);
     lists::clear_from_u32(t1, n);

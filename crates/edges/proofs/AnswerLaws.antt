@@ -35,7 +35,7 @@ outputs_same a b p = sym (eqb-true a b (and_first (eqb a b) _ p))
 pub accepted :
     (s : Settings) (ks : List ℕ) (ds ws : List Float) (n a b : ℕ)
     → checked_for s (table ks ds ws n) a b ≡ (Ok tt)
-    → Accepted ks ds ws n × (outputs_ok a b ≡ true)
+    → Accepted (table ks ds ws n) × (outputs_ok a b ≡ true)
 accepted s ks ds ws n a b e =
     let p = with_passed (outputs_ok a b) s (table ks ds ws n) e in
     let k = sound s (table ks ds ws n) p.1 in

@@ -16,8 +16,8 @@ pub list_tested_determined : (κs : _) (a : _) (r r' : _) (s s' : _)
     → list_tested.Post κs a r s
     → list_tested.Post κs a r' s'
     → (r ≡ r')
-    × (s.1.1.1.1.1.1.0.now ≡ s'.1.1.1.1.1.1.0.now)
-    × (s.1.1.1.1.1.1.1.0.now ≡ s'.1.1.1.1.1.1.1.0.now)
+    × (s.1.1.1.0.now ≡ s'.1.1.1.0.now)
+    × (s.1.1.1.1.0.now ≡ s'.1.1.1.1.0.now)
 list_tested_determined κs a r r' s s' p q =
     let e = p.0 ∙ sym q.0 in
     (e, p.1.0 ∙ held_same r r' _ _ e ∙ sym q.1.0, p.1.1 ∙ held_same r r' _ _ e ∙ sym q.1.1)
@@ -26,6 +26,6 @@ pub get_zero_crossing_edges_determined : (κs : _) (a : _) (r r' : _) (s s' : _)
     → get_zero_crossing_edges.Post κs a r s
     → get_zero_crossing_edges.Post κs a r' s'
     → (r ≡ r')
-    × (s.1.1.1.1.1.0.now ≡ s'.1.1.1.1.1.0.now)
-    × (s.1.1.1.1.1.1.0.now ≡ s'.1.1.1.1.1.1.0.now)
+    × (s.1.1.0.now ≡ s'.1.1.0.now)
+    × (s.1.1.1.0.now ≡ s'.1.1.1.0.now)
 get_zero_crossing_edges_determined κs a r r' s s' p q = (p.0 ∙ sym q.0, p.1.0 ∙ sym q.1.0, p.1.1 ∙ sym q.1.1)

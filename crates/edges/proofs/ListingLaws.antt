@@ -14,7 +14,7 @@ use borrow.Author.Tests.{lt-ltb, le-ltb}
 use Rattle.lists.proofs.Bools.{cases}
 use Rattle.neighbors.specs.Neighbors.{neighbours}
 use Rattle.search.specs.Keys.{ascending, find, find_by, next}
-use Rattle.table.specs.Table.{Row, rows_of}
+use Rattle.table.specs.Table.{Row, rows_of, table}
 use Rattle.search.proofs.KeyLaws.{find_by-find, found}
 use Rattle.table.proofs.RowLaws.{row_at_lem}
 use Rattle.table.proofs.Laying.{columns}
@@ -45,7 +45,7 @@ stored_told k (r ∷ rs) =
     cases (λ (b : Bool). cond b (some r) (stored k rs) ≡ told (cond b (Some 0) (next (find k (keys_of rs)))) (r ∷ rs)) (eqb r.key k)
     (λ e. refl) (λ e. stored_told k rs ∙ sym (told_next (find k (keys_of rs)) r rs))
 
-module _ (ks : List ℕ) (ds ws : List Float) (n : ℕ) (acc : Accepted ks ds ws n) where
+module _ (ks : List ℕ) (ds ws : List Float) (n : ℕ) (acc : Accepted (table ks ds ws n)) where
   -- the keys of the rows are the first n keys, and ascend
   keys_of_rows : keys_of (rows_of ks ds ws n) ≡ take n ks
   keys_of_rows = (columns ks ds ws n acc.distances acc.weights).0

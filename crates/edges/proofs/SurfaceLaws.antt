@@ -14,11 +14,11 @@ use Rattle.rings.specs.Rings.{weighted_at, weighted_found, weighted_by, joint_by
 use Rattle.search.specs.Keys.{find_by}
 use Rattle.search.specs.Nearby.{find_near}
 use Rattle.search.proofs.NearbyLaws.{find_near_lem}
-use Rattle.table.specs.Table.{Row, rows_of}
+use Rattle.table.specs.Table.{Row, rows_of, table}
 use Rattle.edges.specs.Steps.{Accepted, row_at}
 use Rattle.edges.proofs.ListingLaws.{place_below, none_stored, one_stored}
 
-module _ (ks : List ℕ) (ds ws : List Float) (n : ℕ) (acc : Accepted ks ds ws n) where
+module _ (ks : List ℕ) (ds ws : List Float) (n : ℕ) (acc : Accepted (table ks ds ws n)) where
   -- the weight where a search finds a key is that of the row
   pub found_weight : (key : ℕ) (f : Option ℕ) → f ≡ find_by key (take n ks) → weighted_found ws f ≡ weighted_at (rows_of ks ds ws n) key
   unfolding weighted_found weighted_at weighted

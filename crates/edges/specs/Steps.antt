@@ -3,22 +3,22 @@ use Rattle.std.specs.Prelude.{ℕ, ◌+◌, ◌≤◌, ◌≡◌, true, List, Fl
 use Rattle.std.specs.Float.{nan}
 use Rattle.std.proofs.lemmas.List.Edits.{sets}
 use Rattle.search.specs.Keys.{ascending}
-use Rattle.table.specs.Table.{Row, row}
+use Rattle.table.specs.Table.{Row, row, table, Table}
 use Rattle.edges.specs.Edges.{Edge}
 use Rattle.edges.specs.Listing.{firsts, seconds, outputs_ok}
 use Rattle.refusals.specs.declared.Refusal.{Refusal}
 
 -- a table that refusals 1 to 3 let pass, as far as edges need it
-pub record Accepted (ks : List ℕ) (ds ws : List Float) (n : ℕ) : Type 0 where
-  pub fits : n ≤ length ks
-  pub distances : length ds ≡ length ks
-  pub weights : length ws ≡ length ks
-  pub few : length ks ≤ 65536
-  pub rising : ascending (take n ks) ≡ true
+pub record Accepted (t : Table) : Type 0 where
+  pub fits : t.count ≤ length t.keys
+  pub distances : length t.distances ≡ length t.keys
+  pub weights : length t.weights ≡ length t.keys
+  pub few : length t.keys ≤ 65536
+  pub rising : ascending (take t.count t.keys) ≡ true
 
 -- what a verdict that passed tells of a table, and of two lists of lengths a and b
 abbrev pub Tested : Result (Unit {0}) Refusal → List ℕ → List Float → List Float → ℕ → ℕ → ℕ → Type 0
-Tested v ks ds ws n a b = v ≡ (Ok tt) → Accepted ks ds ws n × (outputs_ok a b ≡ true)
+Tested v ks ds ws n a b = v ≡ (Ok tt) → Accepted (table ks ds ws n) × (outputs_ok a b ≡ true)
 
 -- the row at a place
 abbrev pub row_at : List ℕ → List Float → List Float → ℕ → Row

@@ -13,10 +13,11 @@ ghost use Rattle.edges.specs.ZeroCrossing.{crossing};
 ghost use Rattle.edges.specs.Surfaces.{crosses_on, edges_on};
 ghost use Rattle.edges.specs.Listing.{firsts, seconds, outputs_ok, checked_for, answer_if, edges_answer, firsts_held, seconds_held};
 ghost use Rattle.edges.specs.Steps.{Accepted, Tested, row_at, Wrote};
+ghost use Rattle.table.specs.Read.{table_of, rows_in};
 
 use lists::LONGEST_LIST;
-use table::Settings;
 use refusals::Refusal;
+use table::{Rows, Settings};
 
 // Which surface is asked for: document 01's, whose edges are the zero crossings; or the one that closes (document 02, No. 14), whose edges are the
 // crossed edges of tetrahedra.
@@ -42,20 +43,19 @@ fn find_beside(keys: &[u64], count: usize, row: usize, key: u64) -> Option<usize
 }
 
 // Whether the rows at two places are of opposite sides, with a tetrahedron around them. Few are of opposite sides, so that is tested first.
-fn crosses_scan(
-    keys: &[u64],
-    distances: &[f32],
-    weights: &[f32],
-    count: usize,
-    row: usize,
-    place: usize,
-) -> bool
-    requires { Accepted keys.now distances.now weights.now count × (row < count) × (place < count) }
+fn crosses_scan(rows: &Rows, row: usize, place: usize) -> bool
+    requires { Accepted (table_of rows.now) × (row < rows.now.count) × (place < rows.now.count) }
     ensures { result ≡ crosses_scan
-        (rows_of keys.now distances.now weights.now count)
-        (row_at keys.now distances.now weights.now row)
-        (row_at keys.now distances.now weights.now place) }
+        (rows_in rows.now)
+        (row_at rows.now.keys.now rows.now.distances.now rows.now.weights.now row)
+        (row_at rows.now.keys.now rows.now.distances.now rows.now.weights.now place) }
 {
+    let Rows {
+        keys,
+        distances,
+        weights,
+        count,
+    } = *rows;
     if !rings::are_opposed(
         distances[row],
         weights[row],
@@ -68,21 +68,18 @@ fn crosses_scan(
 }
 
 // Whether the rows at two places cross.
-fn crosses_at(
-    surface: Surface,
-    keys: &[u64],
-    distances: &[f32],
-    weights: &[f32],
-    count: usize,
-    row: usize,
-    place: usize,
-) -> bool
-    requires { Accepted keys.now distances.now weights.now count × (row < count) × (place < count) }
+fn crosses_at(surface: Surface, rows: &Rows, row: usize, place: usize) -> bool
+    requires { Accepted (table_of rows.now) × (row < rows.now.count) × (place < rows.now.count) }
     ensures { result ≡ crosses_on surface
-        (rows_of keys.now distances.now weights.now count)
-        (row_at keys.now distances.now weights.now row)
-        (row_at keys.now distances.now weights.now place) }
+        (rows_in rows.now)
+        (row_at rows.now.keys.now rows.now.distances.now rows.now.weights.now row)
+        (row_at rows.now.keys.now rows.now.distances.now rows.now.weights.now place) }
 {
+    let Rows {
+        distances,
+        weights,
+        ..
+    } = *rows;
     match surface {
         Surface::Open => crosses(
             distances[row],
@@ -90,33 +87,26 @@ fn crosses_at(
             distances[place],
             weights[place],
         ),
-        Surface::Closed => crosses_scan(keys, distances, weights, count, row, place),
+        Surface::Closed => crosses_scan(rows, row, place),
     }
 }
 
 // Whether the row at a place and the cell `key` are listed.
-fn is_listed(
-    surface: Surface,
-    keys: &[u64],
-    distances: &[f32],
-    weights: &[f32],
-    count: usize,
-    row: usize,
-    key: u64,
-) -> bool
-    requires { Accepted keys.now distances.now weights.now count × (row < count) }
+fn is_listed(surface: Surface, rows: &Rows, row: usize, key: u64) -> bool
+    requires { Accepted (table_of rows.now) × (row < rows.now.count) }
     ensures { result ≡ listed neighbours
-        (crosses_on surface (rows_of keys.now distances.now weights.now count))
-        (rows_of keys.now distances.now weights.now count)
-        (row_at keys.now distances.now weights.now row) key }
+        (crosses_on surface (rows_in rows.now))
+        (rows_in rows.now)
+        (row_at rows.now.keys.now rows.now.distances.now rows.now.weights.now row) key }
 {
+    let Rows { keys, count, .. } = *rows;
     if key <= keys[row] {
         return false;
     }
     let Some(place) = find_beside(keys, count, row, key) else {
         return false;
     };
-    crosses_at(surface, keys, distances, weights, count, row, place)
+    crosses_at(surface, rows, row, place)
 }
 
 // One edge at a place of both lists; nothing where they have no such place.
@@ -134,23 +124,21 @@ fn put_edge(first: &mut [u64], second: &mut [u64], at: usize, a: u64, b: u64)
 // The edges that one row lists, from the place `at` on; those past the lists' end are only counted.
 fn list_row(
     surface: Surface,
-    keys: &[u64],
-    distances: &[f32],
-    weights: &[f32],
-    count: usize,
+    rows: &Rows,
     row: usize,
     at: usize,
     first: &mut [u64],
     second: &mut [u64],
 ) -> usize
-    requires { Accepted keys.now distances.now weights.now count × (row < count) × (at ≤ 14 * row) × (length second.old ≡ length first.old) }
+    requires { Accepted (table_of rows.now) × (row < rows.now.count) × (at ≤ 14 * row) × (length second.old ≡ length first.old) }
     ensures wrote { Wrote (edges_of neighbours
-        (crosses_on surface (rows_of keys.now distances.now weights.now count))
-        (rows_of keys.now distances.now weights.now count)
-        (row_at keys.now distances.now weights.now row)) at first.old
+        (crosses_on surface (rows_in rows.now))
+        (rows_in rows.now)
+        (row_at rows.now.keys.now rows.now.distances.now rows.now.weights.now row)) at first.old
         second.old result first.new second.new }
     ensures upper_bound { result ≤ at + 14 }
 {
+    let Rows { keys, .. } = *rows;
     let key = keys[row];
     let near = neighbors::around(key);
     let cells = near.keys;
@@ -158,7 +146,7 @@ fn list_row(
     let mut end = at;
     for i in 0..n {
         let k = cells[i];
-        if is_listed(surface, keys, distances, weights, count, row, k) {
+        if is_listed(surface, rows, row, k) {
             put_edge(first, second, end, key, k);
             end += 1;
         }
@@ -167,49 +155,25 @@ fn list_row(
 }
 
 // All edges; those past the lists' end are only counted.
-fn list_edges(
-    surface: Surface,
-    keys: &[u64],
-    distances: &[f32],
-    weights: &[f32],
-    count: usize,
-    first: &mut [u64],
-    second: &mut [u64],
-) -> usize
-    requires { Accepted keys.now distances.now weights.now count × (length second.old ≡ length first.old) }
+fn list_edges(surface: Surface, rows: &Rows, first: &mut [u64], second: &mut [u64]) -> usize
+    requires { Accepted (table_of rows.now) × (length second.old ≡ length first.old) }
     ensures { Wrote (edges_on surface
-        (rows_of keys.now distances.now weights.now count)) 0 first.old
+        (rows_in rows.now)) 0 first.old
         second.old result first.new second.new }
 {
+    let Rows { count, .. } = *rows;
     let mut end = 0;
     for row in 0..count {
-        end = list_row(
-            surface, keys, distances, weights, count, row, end, first, second,
-        );
+        end = list_row(surface, rows, row, end, first, second);
     }
     end
 }
 
 // Refusals 1, 2 and 3.
-fn check(
-    settings: Settings,
-    keys: &[u64],
-    distances: &[f32],
-    weights: &[f32],
-    count: usize,
-    first: usize,
-    second: usize,
-) -> Result<(), Refusal>
-    ensures { result ≡ checked_for settings (table keys.now distances.now weights.now count) first second }
+fn check(settings: Settings, rows: &Rows, first: usize, second: usize) -> Result<(), Refusal>
+    ensures { result ≡ checked_for settings (table_of rows.now) first second }
 {
-    table::check_with(
-        outputs_ok(first, second),
-        settings,
-        keys,
-        distances,
-        weights,
-        count,
-    )
+    table::check_with(outputs_ok(first, second), settings, rows)
 }
 
 // Two lists of equal length within the limit.
@@ -223,30 +187,27 @@ fn outputs_ok(first: usize, second: usize) -> bool
 fn list_checked(
     surface: Surface,
     verdict: Result<(), Refusal>,
-    keys: &[u64],
-    distances: &[f32],
-    weights: &[f32],
-    count: usize,
+    rows: &Rows,
     first: &mut [u64],
     second: &mut [u64],
 ) -> Result<usize, Refusal>
-    requires { Tested verdict keys.now distances.now weights.now count (length first.old) (length second.old) }
+    requires { Tested verdict rows.now.keys.now rows.now.distances.now rows.now.weights.now rows.now.count (length first.old) (length second.old) }
     ensures value { result ≡ answer_if verdict
-        (edges_on surface (rows_of keys.now distances.now weights.now count))
+        (edges_on surface (rows_in rows.now))
         (length first.old) }
     ensures first_after { cleared_from 0 (count_of result) first.new
         ≡ held_for 0 result (length first.old)
         (firsts (edges_on surface
-        (rows_of keys.now distances.now weights.now count))) }
+        (rows_in rows.now))) }
     ensures second_after { cleared_from 0 (count_of result) second.new
         ≡ held_for 0 result (length second.old)
         (seconds (edges_on surface
-        (rows_of keys.now distances.now weights.now count))) }
+        (rows_in rows.now))) }
 {
     if let Err(why) = verdict {
         return Err(why);
     }
-    let n = list_edges(surface, keys, distances, weights, count, first, second);
+    let n = list_edges(surface, rows, first, second);
     lists::room_for(n, first.len())
 }
 
@@ -254,27 +215,22 @@ fn list_checked(
 pub fn list_tested(
     surface: Surface,
     verdict: Result<(), Refusal>,
-    keys: &[u64],
-    distances: &[f32],
-    weights: &[f32],
-    count: usize,
+    rows: &Rows,
     first: &mut [u64],
     second: &mut [u64],
 ) -> Result<usize, Refusal>
-    requires { Tested verdict keys.now distances.now weights.now count (length first.old) (length second.old) }
+    requires { Tested verdict rows.now.keys.now rows.now.distances.now rows.now.weights.now rows.now.count (length first.old) (length second.old) }
     ensures value { result ≡ answer_if verdict
-        (edges_on surface (rows_of keys.now distances.now weights.now count))
+        (edges_on surface (rows_in rows.now))
         (length first.old) }
     ensures first_after { first.new ≡ held_for 0 result (length first.old)
         (firsts (edges_on surface
-        (rows_of keys.now distances.now weights.now count))) }
+        (rows_in rows.now))) }
     ensures second_after { second.new ≡ held_for 0 result (length second.old)
         (seconds (edges_on surface
-        (rows_of keys.now distances.now weights.now count))) }
+        (rows_in rows.now))) }
 {
-    let listed = list_checked(
-        surface, verdict, keys, distances, weights, count, first, second,
-    );
+    let listed = list_checked(surface, verdict, rows, first, second);
     let n = lists::count_of(listed);
     lists::clear_from_u64(first, n);
     lists::clear_from_u64(second, n);
@@ -284,40 +240,20 @@ pub fn list_tested(
 // The zero-crossing edges of a table, in two lists.
 pub fn get_zero_crossing_edges(
     settings: Settings,
-    keys: &[u64],
-    distances: &[f32],
-    weights: &[f32],
-    count: usize,
+    rows: &Rows,
     first: &mut [u64],
     second: &mut [u64],
 ) -> Result<usize, Refusal>
     ensures value { result ≡ edges_answer settings
-        (table keys.now distances.now weights.now count) (length first.old)
+        (table_of rows.now) (length first.old)
         (length second.old) }
     ensures first_after { first.new ≡ firsts_held settings
-        (table keys.now distances.now weights.now count) (length first.old)
+        (table_of rows.now) (length first.old)
         (length second.old) }
     ensures second_after { second.new ≡ seconds_held settings
-        (table keys.now distances.now weights.now count) (length first.old)
+        (table_of rows.now) (length first.old)
         (length second.old) }
 {
-    let verdict = check(
-        settings,
-        keys,
-        distances,
-        weights,
-        count,
-        first.len(),
-        second.len(),
-    );
-    list_tested(
-        Surface::Open,
-        verdict,
-        keys,
-        distances,
-        weights,
-        count,
-        first,
-        second,
-    )
+    let verdict = check(settings, rows, first.len(), second.len());
+    list_tested(Surface::Open, verdict, rows, first, second)
 }

@@ -2,8 +2,8 @@
 // in rooms of 14 and 13, and the empty table.
 #![tactic(auto)]
 
-use table::{Settings, settings_of};
 use refusals::Refusal;
+use table::{Rows, Settings, settings_of};
 
 // The sample's settings: truncation 1, maximum weight 100, size 1.
 fn settings() -> Settings {
@@ -20,10 +20,12 @@ fn edges_of(count: usize, first: &mut [u64], second: &mut [u64]) -> Result<usize
     let weights = [1.0f32; 15];
     edges::get_zero_crossing_edges(
         settings(),
-        &keys,
-        &distances,
-        &weights,
-        count,
+        &Rows {
+            keys: &keys,
+            distances: &distances,
+            weights: &weights,
+            count,
+        },
         first,
         second,
     )

@@ -75,7 +75,7 @@ rows_at most (r ∷ rs) h (suc i) l = rows_at most rs (and_second (row_ok most r
 pub tested_table :
     (s : Settings) (ks : List ℕ) (ds ws : List Float) (n : ℕ) (threshold : Float) (fit : Bool)
     → march_check s (table ks ds ws n) threshold fit ≡ (Ok tt)
-    → Tabled ks ds ws n
+    → Tabled (table ks ds ws n)
 unfolding of_bits
 tested_table s ks ds ws n threshold fit e =
     let h = tests s (table ks ds ws n) threshold fit e in

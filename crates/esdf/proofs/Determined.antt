@@ -8,10 +8,10 @@ pub compute_from_tsdf_determined : (κs : _) (a : _) (r r' : _) (s s' : _)
     → compute_from_tsdf.Post κs a r s
     → compute_from_tsdf.Post κs a r' s'
     → (r ≡ r')
+    × (s.1.1.1.0.now ≡ s'.1.1.1.0.now)
+    × (s.1.1.1.1.0.now ≡ s'.1.1.1.1.0.now)
+    × (s.1.1.1.1.1.0.now ≡ s'.1.1.1.1.1.0.now)
     × (s.1.1.1.1.1.1.0.now ≡ s'.1.1.1.1.1.1.0.now)
-    × (s.1.1.1.1.1.1.1.0.now ≡ s'.1.1.1.1.1.1.1.0.now)
-    × (s.1.1.1.1.1.1.1.1.0.now ≡ s'.1.1.1.1.1.1.1.1.0.now)
-    × (s.1.1.1.1.1.1.1.1.1.0.now ≡ s'.1.1.1.1.1.1.1.1.1.0.now)
 compute_from_tsdf_determined κs a r r' s s' p q =
     let e = p ∙ sym q in (
       ap (λ (o : Outcome). o.answer) e,

@@ -9,6 +9,7 @@ use Rattle.fronts.specs.declared.Stop.{Stop}
 use Rattle.fronts.specs.declared.Stop.TheVariants.{NoRow, NoCell}
 use Rattle.fronts.specs.Fronts.{Fair}
 use Rattle.racing.specs.Racing.{Tabled, Blank, Laid}
+use Rattle.table.specs.Table.{table}
 
 -- the refusal of a march that stopped
 abbrev pub refusal_of : Stop → Refusal
@@ -26,7 +27,7 @@ Finished g (Err why) ks ds es cs = g ≡ refused why
 
 -- a march may begin: where the tests have passed, the table and the course are as it needs them, and the lists hold nothing
 abbrev pub MayMarch : Result (Unit {0}) Refusal → Course → List ℕ → List Float → List Float → ℕ → List ℕ → List Float → List Float → List ℕ → Type 0
-MayMarch verdict c tks tds tws n ks ds es cs = verdict ≡ (Ok tt) → ((Tabled tks tds tws n × Fair c) × Blank ks ds es cs)
+MayMarch verdict c tks tds tws n ks ds es cs = verdict ≡ (Ok tt) → ((Tabled (table tks tds tws n) × Fair c) × Blank ks ds es cs)
 
 -- what is left of a list by a march's answer: the list, or v throughout where it is refused
 unfoldable pub tidied : {A : Type 0} → A → Result (ℕ × ℕ) Refusal → List A → List A

@@ -9,13 +9,14 @@ ghost use Rattle.marching.specs.Lattice.{march_from};
 ghost use Rattle.fronts.specs.Fronts.{rooms_of};
 ghost use Rattle.esdf.specs.Steps.{refusal_of, marched_of, Finished, MayMarch, tidied};
 ghost use Rattle.esdf.specs.Compute.{places, set_ok, march_check, tested, outcome, computed};
+ghost use Rattle.table.specs.Read.{table_of, rows_in};
 
 use fronts::Stop;
 use lists::LONGEST_LIST;
 use marching::Course;
 use racing::{clear, march};
 use refusals::Refusal;
-use table::{Settings, check_with, then_test};
+use table::{Rows, Settings, check_with, then_test};
 
 // What is answered to why a march stopped.
 fn refusal_of(why: Stop) -> Refusal
@@ -64,28 +65,17 @@ fn set_ok(a: usize, b: usize) -> bool
 }
 
 // Refusals 1, 2, 3 and 5; `fit` says that the lists to be filled pass.
-fn check(
-    settings: Settings,
-    keys: &[u64],
-    distances: &[f32],
-    weights: &[f32],
-    count: usize,
-    threshold: f32,
-    fit: bool,
-) -> Result<(), Refusal>
-    ensures { result ≡ march_check settings (table keys.now distances.now weights.now count) threshold fit }
+fn check(settings: Settings, rows: &Rows, threshold: f32, fit: bool) -> Result<(), Refusal>
+    ensures { result ≡ march_check settings (table_of rows.now) threshold fit }
 {
-    let verdict = check_with(fit, settings, keys, distances, weights, count);
+    let verdict = check_with(fit, settings, rows);
     then_test(verdict, floats::is_finite(threshold), Refusal::BadReading)
 }
 
 // The march, if the tests have passed.
 fn march_if(
     verdict: Result<(), Refusal>,
-    fused_keys: &[u64],
-    fused_distances: &[f32],
-    fused_weights: &[f32],
-    fused_count: usize,
+    fused: &Rows,
     threshold: f32,
     course: Course,
     keys: &mut [u64],
@@ -93,37 +83,23 @@ fn march_if(
     estimates: &mut [f32],
     cells: &mut [u64],
 ) -> Result<(usize, usize), Refusal>
-    requires { MayMarch verdict course fused_keys.now fused_distances.now fused_weights.now fused_count
+    requires { MayMarch verdict course fused.now.keys.now fused.now.distances.now fused.now.weights.now fused.now.count
         keys.old distances.old estimates.old cells.old }
     ensures { Finished (tested verdict
         (march_from course.size course.most (rooms_of keys.old cells.old) threshold
-        (rows_of fused_keys.now fused_distances.now fused_weights.now fused_count))) result
+        (rows_in fused.now))) result
         keys.new distances.new estimates.new cells.new }
 {
     match verdict {
         Err(why) => Err(why),
-        Ok(()) => marched_of(march(
-            fused_keys,
-            fused_distances,
-            fused_weights,
-            fused_count,
-            threshold,
-            course,
-            keys,
-            distances,
-            estimates,
-            cells,
-        )),
+        Ok(()) => marched_of(march(fused, threshold, course, keys, distances, estimates, cells)),
     }
 }
 
 // The march over a fused table: its rows into the marched lists, by way of the waiting ones.
 pub fn compute_from_tsdf(
     settings: Settings,
-    keys: &[u64],
-    distances: &[f32],
-    weights: &[f32],
-    count: usize,
+    rows: &Rows,
     threshold: f32,
     marched_keys: &mut [u64],
     marched_distances: &mut [f32],
@@ -132,13 +108,13 @@ pub fn compute_from_tsdf(
 ) -> Result<(usize, usize), Refusal>
     ensures { outcome result marched_keys.new marched_distances.new
         waiting_estimates.new waiting_keys.new
-        ≡ computed settings (table keys.now distances.now weights.now count) threshold
+        ≡ computed settings (table_of rows.now) threshold
         (places (length marched_keys.old) (length marched_distances.old)
         (length waiting_estimates.old) (length waiting_keys.old)) }
 {
     let fit = set_ok(marched_keys.len(), marched_distances.len())
         & set_ok(waiting_estimates.len(), waiting_keys.len());
-    let verdict = check(settings, keys, distances, weights, count, threshold, fit);
+    let verdict = check(settings, rows, threshold, fit);
     clear(
         marched_keys,
         marched_distances,
@@ -151,10 +127,7 @@ pub fn compute_from_tsdf(
     };
     let answer = march_if(
         verdict,
-        keys,
-        distances,
-        weights,
-        count,
+        rows,
         threshold,
         course,
         marched_keys,

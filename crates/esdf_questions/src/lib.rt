@@ -24,7 +24,12 @@ struct Slopes {
 }
 
 // The distance that is stored of a cell.
-pub fn get_distance(keys: &[u64], distances: &[f32], count: usize, key: u64) -> Result<Option<f32>, Refusal>
+pub fn get_distance(
+    keys: &[u64],
+    distances: &[f32],
+    count: usize,
+    key: u64,
+) -> Result<Option<f32>, Refusal>
     ensures { result ≡ get_distance (marched_table keys.now distances.now count) key }
 {
     match check_key(keys, distances, count, key) {
@@ -149,7 +154,12 @@ fn mean(sum: Slopes) -> Result<Option<(f32, f32, f32)>, Refusal>
 }
 
 // The direction in which the distance grows at a cell.
-pub fn get_gradient(keys: &[u64], distances: &[f32], count: usize, key: u64) -> Result<Option<(f32, f32, f32)>, Refusal>
+pub fn get_gradient(
+    keys: &[u64],
+    distances: &[f32],
+    count: usize,
+    key: u64,
+) -> Result<Option<(f32, f32, f32)>, Refusal>
     ensures { result ≡ get_gradient (marched_table keys.now distances.now count) key }
 {
     match check_key(keys, distances, count, key) {

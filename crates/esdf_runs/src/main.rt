@@ -2,8 +2,8 @@
 // and a waiting place too few.
 #![tactic(auto)]
 
-use table::{Settings, settings_of};
 use refusals::Refusal;
+use table::{Rows, Settings, settings_of};
 
 // Truncation 1, maximum weight 100, size 1, maximum distance 2.
 fn settings() -> Settings {
@@ -23,10 +23,12 @@ fn march(
     let fused_weights = [1.0f32];
     esdf::compute_from_tsdf(
         settings(),
-        &fused_keys,
-        &fused_distances,
-        &fused_weights,
-        count,
+        &Rows {
+            keys: &fused_keys,
+            distances: &fused_distances,
+            weights: &fused_weights,
+            count,
+        },
         0.5,
         keys,
         distances,

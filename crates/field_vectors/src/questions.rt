@@ -1,7 +1,8 @@
 // Lines of questions: T the statistics; U the cells near the surface, u each; E the edges, e each.
 use floats::Metres;
-use vectors::{Field, Line, float, same};
 use refusals::Refusal;
+use table::Rows;
+use vectors::{Field, Line, float, same};
 
 // The lists that a line asked for, the next place of them to compare, and whether the last line's answer came out again.
 #[derive(Clone, Copy)]
@@ -36,10 +37,12 @@ fn near_surface(field: Field, words: [u64; 16]) -> Given {
     let mut first = [0u64; 64];
     let listed = tsdf_surveys::get_surface_voxels(
         settings,
-        &keys,
-        &distances,
-        &weights,
-        field.rows,
+        &Rows {
+            keys: &keys,
+            distances: &distances,
+            weights: &weights,
+            count: field.rows,
+        },
         Metres(float(words[0])),
         &mut first,
     );
@@ -61,10 +64,12 @@ fn crossing(field: Field, words: [u64; 16]) -> Given {
     let mut second = [0u64; 64];
     let listed = edges::get_zero_crossing_edges(
         settings,
-        &keys,
-        &distances,
-        &weights,
-        field.rows,
+        &Rows {
+            keys: &keys,
+            distances: &distances,
+            weights: &weights,
+            count: field.rows,
+        },
         &mut first,
         &mut second,
     );

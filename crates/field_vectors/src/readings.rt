@@ -1,8 +1,8 @@
 // Lines of readings: F direct, J a ray; and the row that each leaves.
 use floats::Metres;
 use fusing::Fused;
-use vectors::{Field, Line, float, same};
 use refusals::Refusal;
+use vectors::{Field, Line, float, same};
 
 // A field, and whether the line's answer and row came out again.
 #[derive(Clone, Copy)]

@@ -17,11 +17,13 @@ ghost use Rattle.marching.specs.Lattice.{lattice_of};
 ghost use Rattle.marching.specs.Spreading.{seed_in};
 ghost use Rattle.hearing.specs.Hearing.{Marked, Lent};
 ghost use Rattle.fronts.specs.Fronts.{Fair, Paired, rooms_of, Front, LeftRows, LeftCells, DoesWait, DoesSow, DoesSettle, DoesTake};
+ghost use Rattle.table.specs.Read.{table_of, rows_in};
 
 use heap::{pop, push};
 use hearing::{known, other_spread, settled};
 use marching::{Course, onward, spreads};
 use marks::{enter, find};
+use table::Rows;
 
 // Why a march stopped: no place for a row, or none for a waiting cell.
 #[derive(Clone, Copy)]
@@ -60,10 +62,7 @@ fn wait_marked(
 
 // A neighbour of a cell, not stored, waits at an estimate in a lean march: another stored neighbour of it that has spread tells that it does already.
 fn wait_lean(
-    fused_keys: &[u64],
-    fused_distances: &[f32],
-    fused_weights: &[f32],
-    fused_count: usize,
+    fused: &Rows,
     threshold: f32,
     course: Course,
     keys: &[u64],
@@ -76,26 +75,15 @@ fn wait_lean(
     from: u64,
     key: u64,
 ) -> Result<usize, Stop>
-    requires lent { Lent fused_keys.now fused_distances.now fused_weights.now fused_count
+    requires lent { Lent (table_of fused.now)
         × Paired keys.now distances.now estimates.old cells.old }
     requires keys_value { (spot_of key keys.now ≡ Err place) × ((on_lattice key ≡ true) × (eq estimate estimate ≡ true)) }
     ensures { DoesWait true (seed_in threshold
-        (rows_of fused_keys.now fused_distances.now fused_weights.now fused_count)) (lattice_of course) from (key ∷ [])
+        (rows_in fused.now)) (lattice_of course) from (key ∷ [])
         (wait (length cells.old) estimate key) keys.now distances.now waiting estimates.old cells.old result
         keys.now distances.now estimates.new cells.new }
 {
-    if other_spread(
-        fused_keys,
-        fused_distances,
-        fused_weights,
-        fused_count,
-        threshold,
-        course,
-        keys,
-        distances,
-        from,
-        key,
-    ) {
+    if other_spread(fused, threshold, course, keys, distances, from, key) {
         return Ok(waiting);
     }
     if cells.len() <= waiting {
@@ -109,10 +97,7 @@ fn wait_lean(
 // A neighbour of a cell that neither is stored nor waits begins to, at an estimate.
 fn wait(
     lean: bool,
-    fused_keys: &[u64],
-    fused_distances: &[f32],
-    fused_weights: &[f32],
-    fused_count: usize,
+    fused: &Rows,
     threshold: f32,
     course: Course,
     keys: &mut [u64],
@@ -124,11 +109,11 @@ fn wait(
     from: u64,
     key: u64,
 ) -> Result<usize, Stop>
-    requires lent { Lent fused_keys.now fused_distances.now fused_weights.now fused_count
+    requires lent { Lent (table_of fused.now)
         × Paired keys.old distances.old estimates.old cells.old }
     requires key_value { (on_lattice key ≡ true) × (eq estimate estimate ≡ true) }
     ensures { DoesWait lean (seed_in threshold
-        (rows_of fused_keys.now fused_distances.now fused_weights.now fused_count)) (lattice_of course) from (key ∷ [])
+        (rows_in fused.now)) (lattice_of course) from (key ∷ [])
         (wait (length cells.old) estimate key) keys.old distances.old waiting estimates.old cells.old result
         keys.new distances.new estimates.new cells.new }
 {
@@ -137,21 +122,8 @@ fn wait(
     };
     if lean {
         wait_lean(
-            fused_keys,
-            fused_distances,
-            fused_weights,
-            fused_count,
-            threshold,
-            course,
-            keys,
-            distances,
-            estimates,
-            cells,
-            waiting,
-            place,
-            estimate,
-            from,
-            key,
+            fused, threshold, course, keys, distances, estimates, cells, waiting, place, estimate,
+            from, key,
         )
     } else {
         wait_marked(
@@ -163,10 +135,7 @@ fn wait(
 // Each neighbour of a cell that neither is stored nor waits begins to, at an estimate.
 fn wait_around(
     lean: bool,
-    fused_keys: &[u64],
-    fused_distances: &[f32],
-    fused_weights: &[f32],
-    fused_count: usize,
+    fused: &Rows,
     threshold: f32,
     course: Course,
     keys: &mut [u64],
@@ -177,11 +146,11 @@ fn wait_around(
     estimate: f32,
     key: u64,
 ) -> Result<usize, Stop>
-    requires lent { Lent fused_keys.now fused_distances.now fused_weights.now fused_count
+    requires lent { Lent (table_of fused.now)
         × Paired keys.old distances.old estimates.old cells.old }
     requires key_value { (on_lattice key ≡ true) × (eq estimate estimate ≡ true) }
     ensures { DoesWait lean (seed_in threshold
-        (rows_of fused_keys.now fused_distances.now fused_weights.now fused_count))
+        (rows_in fused.now))
         (lattice_of course) key (neighbours key)
         (wait_all (length cells.old) estimate (neighbours key)) keys.old distances.old waiting estimates.old
         cells.old result
@@ -193,20 +162,7 @@ fn wait_around(
     let mut held = waiting;
     for i in 0..n {
         match wait(
-            lean,
-            fused_keys,
-            fused_distances,
-            fused_weights,
-            fused_count,
-            threshold,
-            course,
-            keys,
-            distances,
-            estimates,
-            cells,
-            held,
-            estimate,
-            key,
+            lean, fused, threshold, course, keys, distances, estimates, cells, held, estimate, key,
             list[i],
         ) {
             Err(why) => return Err(why),
@@ -217,7 +173,13 @@ fn wait_around(
 }
 
 // A new row: its mark is its distance.
-fn store(keys: &mut [u64], distances: &mut [f32], count: usize, key: u64, distance: f32) -> Result<usize, Stop>
+fn store(
+    keys: &mut [u64],
+    distances: &mut [f32],
+    count: usize,
+    key: u64,
+    distance: f32,
+) -> Result<usize, Stop>
     requires { (length distances.old ≡ length keys.old) × (on_lattice key ≡ true) }
     ensures { (s : State) (ws vs : List ℕ)
         → Marked s.stored ws keys.old distances.old
@@ -247,10 +209,7 @@ fn store(keys: &mut [u64], distances: &mut [f32], count: usize, key: u64, distan
 // A seed is stored, then its neighbours wait at its |distance|.
 pub fn sow(
     lean: bool,
-    fused_keys: &[u64],
-    fused_distances: &[f32],
-    fused_weights: &[f32],
-    fused_count: usize,
+    fused: &Rows,
     threshold: f32,
     course: Course,
     keys: &mut [u64],
@@ -262,11 +221,11 @@ pub fn sow(
     key: u64,
     distance: f32,
 ) -> Result<(usize, usize), Stop>
-    requires lent { Lent fused_keys.now fused_distances.now fused_weights.now fused_count
+    requires lent { Lent (table_of fused.now)
         × Paired keys.old distances.old estimates.old cells.old }
     requires key_value { (on_lattice key ≡ true) × (is_finite distance ≡ true) }
     ensures { DoesSow lean (seed_in threshold
-        (rows_of fused_keys.now fused_distances.now fused_weights.now fused_count)) (lattice_of course) key
+        (rows_in fused.now)) (lattice_of course) key
         (sow neighbours (rooms_of keys.old cells.old) (marched_row key distance)) count keys.old distances.old
         waiting estimates.old cells.old result
         keys.new distances.new estimates.new cells.new }
@@ -276,10 +235,7 @@ pub fn sow(
         Ok(rows) => {
             match wait_around(
                 lean,
-                fused_keys,
-                fused_distances,
-                fused_weights,
-                fused_count,
+                fused,
                 threshold,
                 course,
                 keys,
@@ -300,10 +256,7 @@ pub fn sow(
 // The neighbours of a settled cell wait, if their estimate is at most the maximum distance.
 fn spread(
     lean: bool,
-    fused_keys: &[u64],
-    fused_distances: &[f32],
-    fused_weights: &[f32],
-    fused_count: usize,
+    fused: &Rows,
     threshold: f32,
     course: Course,
     keys: &mut [u64],
@@ -314,11 +267,11 @@ fn spread(
     key: u64,
     distance: f32,
 ) -> Result<usize, Stop>
-    requires lent { Lent fused_keys.now fused_distances.now fused_weights.now fused_count
+    requires lent { Lent (table_of fused.now)
         × Paired keys.old distances.old estimates.old cells.old }
     requires key_value { on_lattice key ≡ true }
     ensures { DoesWait lean (seed_in threshold
-        (rows_of fused_keys.now fused_distances.now fused_weights.now fused_count))
+        (rows_in fused.now))
         (lattice_of course) key (neighbours key)
         (spread (lattice_of course) (length cells.old) (marched_row key distance)) keys.old distances.old waiting
         estimates.old cells.old result
@@ -327,19 +280,7 @@ fn spread(
     let estimate = onward(course, distance);
     if spreads(course, estimate) {
         wait_around(
-            lean,
-            fused_keys,
-            fused_distances,
-            fused_weights,
-            fused_count,
-            threshold,
-            course,
-            keys,
-            distances,
-            estimates,
-            cells,
-            waiting,
-            estimate,
+            lean, fused, threshold, course, keys, distances, estimates, cells, waiting, estimate,
             key,
         )
     } else {
@@ -350,10 +291,7 @@ fn spread(
 // A taken cell that is not stored gets its distance and is stored, then its neighbours wait.
 fn settle(
     lean: bool,
-    fused_keys: &[u64],
-    fused_distances: &[f32],
-    fused_weights: &[f32],
-    fused_count: usize,
+    fused: &Rows,
     threshold: f32,
     course: Course,
     keys: &mut [u64],
@@ -364,11 +302,11 @@ fn settle(
     waiting: usize,
     key: u64,
 ) -> Result<(usize, usize), Stop>
-    requires lent { Lent fused_keys.now fused_distances.now fused_weights.now fused_count
+    requires lent { Lent (table_of fused.now)
         × Paired keys.old distances.old estimates.old cells.old }
     requires key_value { (on_lattice key ≡ true) × Fair course }
     ensures { DoesSettle lean (seed_in threshold
-        (rows_of fused_keys.now fused_distances.now fused_weights.now fused_count)) (lattice_of course) key
+        (rows_in fused.now)) (lattice_of course) key
         (settle (lattice_of course) (rooms_of keys.old cells.old) key) count keys.old distances.old waiting
         estimates.old cells.old result
         keys.new distances.new estimates.new cells.new }
@@ -378,19 +316,7 @@ fn settle(
         Err(why) => Err(why),
         Ok(rows) => {
             match spread(
-                lean,
-                fused_keys,
-                fused_distances,
-                fused_weights,
-                fused_count,
-                threshold,
-                course,
-                keys,
-                distances,
-                estimates,
-                cells,
-                waiting,
-                key,
+                lean, fused, threshold, course, keys, distances, estimates, cells, waiting, key,
                 distance,
             ) {
                 Err(why) => Err(why),
@@ -403,10 +329,7 @@ fn settle(
 // The first waiting cell frees its place; a stored one is skipped, another is settled.
 pub fn take(
     lean: bool,
-    fused_keys: &[u64],
-    fused_distances: &[f32],
-    fused_weights: &[f32],
-    fused_count: usize,
+    fused: &Rows,
     threshold: f32,
     course: Course,
     keys: &mut [u64],
@@ -416,11 +339,11 @@ pub fn take(
     cells: &mut [u64],
     waiting: usize,
 ) -> Result<(usize, usize), Stop>
-    requires lent { Lent fused_keys.now fused_distances.now fused_weights.now fused_count
+    requires lent { Lent (table_of fused.now)
         × Paired keys.old distances.old estimates.old cells.old }
     requires waiting_nonzero { (0 < waiting) × ((waiting ≤ length cells.old) × (Fair course × (on_lattice (get_or cells.old 0 0) ≡ true))) }
     ensures { DoesTake lean (seed_in threshold
-        (rows_of fused_keys.now fused_distances.now fused_weights.now fused_count)) (lattice_of course)
+        (rows_in fused.now)) (lattice_of course)
         (take (lattice_of course) (rooms_of keys.old cells.old)) count keys.old distances.old waiting
         estimates.old cells.old result
         keys.new distances.new estimates.new cells.new }
@@ -432,19 +355,6 @@ pub fn take(
         return Ok((count, left));
     }
     settle(
-        lean,
-        fused_keys,
-        fused_distances,
-        fused_weights,
-        fused_count,
-        threshold,
-        course,
-        keys,
-        distances,
-        count,
-        estimates,
-        cells,
-        left,
-        key,
+        lean, fused, threshold, course, keys, distances, count, estimates, cells, left, key,
     )
 }

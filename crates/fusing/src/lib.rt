@@ -11,7 +11,7 @@ use lists::{insert_f32, insert_u64};
 use measuring::{Measured, Reading, admit};
 use refusals::Refusal;
 use search::{find_row, place_of};
-use table::{Settings, check_table};
+use table::{Rows, Settings, check_table};
 
 // What a fuse that is not refused answers: a row is new, a stored one is changed, or the reading is far.
 #[derive(Clone, Copy)]
@@ -200,7 +200,15 @@ pub fn fuse(
     ensures { outcome result (table keys.new distances.new weights.new count.new)
         ≡ fuse settings (table keys.old distances.old weights.old count.old) key reading }
 {
-    check_table(settings, keys, distances, weights, *count)?;
+    check_table(
+        settings,
+        &Rows {
+            keys,
+            distances,
+            weights,
+            count: *count,
+        },
+    )?;
     let step = fuse_sound(settings, keys, distances, weights, count, key, reading);
     fused_of(step)
 }

@@ -10,14 +10,14 @@ use lib.Seq.{get_or-take, length-take-le}
 use lib.Ieee.{Float, nan, le}
 use Rattle.search.specs.Keys.{find_by}
 use Rattle.search.proofs.KeyLaws.{find_by-find, found}
-use Rattle.table.specs.Table.{row, rows_of}
+use Rattle.table.specs.Table.{row, rows_of, table}
 use Rattle.table.proofs.Laying.{columns}
 use Rattle.marching.specs.March.{Field, is_seed, onward}
 use Rattle.marching.specs.Spreading.{seed_in, has_spread, seed_at}
 use Rattle.marching.proofs.Telling.{seed_found}
 use Rattle.hearing.specs.Hearing.{Lent}
 
-module _ (t : Float) (ks : List ℕ) (ds ws : List Float) (n : ℕ) (lent : Lent ks ds ws n) (k : ℕ) where
+module _ (t : Float) (ks : List ℕ) (ds ws : List Float) (n : ℕ) (lent : Lent (table ks ds ws n)) (k : ℕ) where
   by_place : seed_in t (rows_of ks ds ws n) k ≡ seed_at t (find_by k (take n ks)) (take n ds) (take n ws)
   by_place =
       let c = columns ks ds ws n lent.distances lent.weights in

@@ -5,6 +5,7 @@ use Rattle.floats.specs.Floats.{f32, is_finite}
 use Rattle.marks.specs.Marks.{look, Kept}
 use Rattle.search.specs.Keys.{member, ascending}
 use Rattle.marching.specs.March.{MarchedRow, keys_of, distance_of}
+use Rattle.table.specs.Table.{Table}
 
 -- the mark of a cell that waits: +infinity
 abbrev pub waiting_mark : Float
@@ -33,8 +34,8 @@ pub record Marked (rs : List MarchedRow) (ws : List ℕ) (ks : List ℕ) (ds : L
   pub ascends : ascending (keys_of rs) ≡ true
 
 -- three lists of one length with n rows whose keys ascend
-pub record Lent (ks : List ℕ) (ds ws : List Float) (n : ℕ) : Type 0 where
-  pub fits : n ≤ length ks
-  pub distances : length ds ≡ length ks
-  pub weights : length ws ≡ length ks
-  pub ascends : ascending (take n ks) ≡ true
+pub record Lent (t : Table) : Type 0 where
+  pub fits : t.count ≤ length t.keys
+  pub distances : length t.distances ≡ length t.keys
+  pub weights : length t.weights ≡ length t.keys
+  pub ascends : ascending (take t.count t.keys) ≡ true

@@ -11,10 +11,12 @@ ghost use Rattle.marching.specs.March.{MarchedRow, distance_of, heard, settled};
 ghost use Rattle.marching.specs.Lattice.{length_at, lattice_of};
 ghost use Rattle.marching.specs.Spreading.{seed_in, has_spread, other_spread};
 ghost use Rattle.hearing.specs.Hearing.{said, Marked, Lent};
+ghost use Rattle.table.specs.Read.{table_of, rows_in};
 
 use marching::{Course, better, candidate, clamped, is_seed, onward, spreads, step_length};
 use marks::find;
 use search::find_row;
+use table::Rows;
 
 // A cell's distance where it is stored, else +infinity.
 pub fn known(keys: &[u64], distances: &[f32], key: u64) -> f32
@@ -68,18 +70,17 @@ pub fn settled(keys: &[u64], distances: &[f32], course: Course, key: u64) -> f32
 }
 
 // Whether the fused table has a seed at a key.
-fn has_seed(
-    fused_keys: &[u64],
-    fused_distances: &[f32],
-    fused_weights: &[f32],
-    fused_count: usize,
-    threshold: f32,
-    key: u64,
-) -> bool
-    requires { Lent fused_keys.now fused_distances.now fused_weights.now fused_count }
+fn has_seed(fused: &Rows, threshold: f32, key: u64) -> bool
+    requires { Lent (table_of fused.now) }
     ensures { result ≡ seed_in threshold
-        (rows_of fused_keys.now fused_distances.now fused_weights.now fused_count) key }
+        (rows_in fused.now) key }
 {
+    let Rows {
+        keys: fused_keys,
+        distances: fused_distances,
+        weights: fused_weights,
+        count: fused_count,
+    } = *fused;
     let Some(i) = find_row(fused_keys, fused_count, key) else {
         return false;
     };
@@ -87,40 +88,21 @@ fn has_seed(
 }
 
 // Whether the row of a key, stored at a distance, has spread: it is a seed, or its neighbours' estimate is at most the maximum distance.
-fn has_spread(
-    fused_keys: &[u64],
-    fused_distances: &[f32],
-    fused_weights: &[f32],
-    fused_count: usize,
-    threshold: f32,
-    course: Course,
-    key: u64,
-    distance: f32,
-) -> bool
-    requires { Lent fused_keys.now fused_distances.now fused_weights.now fused_count }
+fn has_spread(fused: &Rows, threshold: f32, course: Course, key: u64, distance: f32) -> bool
+    requires { Lent (table_of fused.now) }
     ensures { result ≡ has_spread (seed_in threshold
-        (rows_of fused_keys.now fused_distances.now fused_weights.now fused_count))
+        (rows_in fused.now))
         (lattice_of course) key (some distance) }
 {
     if spreads(course, onward(course, distance)) {
         return true;
     }
-    has_seed(
-        fused_keys,
-        fused_distances,
-        fused_weights,
-        fused_count,
-        threshold,
-        key,
-    )
+    has_seed(fused, threshold, key)
 }
 
 // Whether a cell, but for the one that it is asked from, is stored and has spread.
 fn spread_at(
-    fused_keys: &[u64],
-    fused_distances: &[f32],
-    fused_weights: &[f32],
-    fused_count: usize,
+    fused: &Rows,
     threshold: f32,
     course: Course,
     keys: &[u64],
@@ -128,12 +110,12 @@ fn spread_at(
     from: u64,
     key: u64,
 ) -> bool
-    requires { Lent fused_keys.now fused_distances.now fused_weights.now fused_count
+    requires { Lent (table_of fused.now)
         × ((length distances.now ≡ length keys.now) × (key ≡ 1 → ⊥)) }
     ensures { (rs : List MarchedRow) (ws : List ℕ)
         → Marked rs ws keys.now distances.now
         → result ≡ not (eqb key from) && has_spread (seed_in threshold
-        (rows_of fused_keys.now fused_distances.now fused_weights.now fused_count))
+        (rows_in fused.now))
         (lattice_of course) key (distance_of key rs) }
 {
     if key == from {
@@ -143,24 +125,12 @@ fn spread_at(
     if !floats::is_finite(distance) {
         return false;
     }
-    has_spread(
-        fused_keys,
-        fused_distances,
-        fused_weights,
-        fused_count,
-        threshold,
-        course,
-        key,
-        distance,
-    )
+    has_spread(fused, threshold, course, key, distance)
 }
 
 // Whether a neighbour of a cell, but for the one that it is asked from, is stored and has spread.
 pub fn other_spread(
-    fused_keys: &[u64],
-    fused_distances: &[f32],
-    fused_weights: &[f32],
-    fused_count: usize,
+    fused: &Rows,
     threshold: f32,
     course: Course,
     keys: &[u64],
@@ -168,30 +138,19 @@ pub fn other_spread(
     from: u64,
     key: u64,
 ) -> bool
-    requires { Lent fused_keys.now fused_distances.now fused_weights.now fused_count
+    requires { Lent (table_of fused.now)
         × ((length distances.now ≡ length keys.now) × (on_lattice key ≡ true)) }
     ensures { (rs : List MarchedRow) (ws : List ℕ)
         → Marked rs ws keys.now distances.now
         → result ≡ other_spread (seed_in threshold
-        (rows_of fused_keys.now fused_distances.now fused_weights.now fused_count))
+        (rows_in fused.now))
         (lattice_of course) from rs (neighbours key) }
 {
     let near = neighbors::around(key);
     let list = near.keys;
     let n = near.count;
     for i in 0..n {
-        if spread_at(
-            fused_keys,
-            fused_distances,
-            fused_weights,
-            fused_count,
-            threshold,
-            course,
-            keys,
-            distances,
-            from,
-            list[i],
-        ) {
+        if spread_at(fused, threshold, course, keys, distances, from, list[i]) {
             return true;
         }
     }

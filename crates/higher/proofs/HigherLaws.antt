@@ -20,7 +20,7 @@ use Rattle.search.specs.Keys.{find_by}
 use Rattle.search.specs.Nearby.{find_above}
 use Rattle.search.proofs.KeyLaws.{ascending_keys}
 use Rattle.search.proofs.NearbyLaws.{found_above_lem}
-use Rattle.table.specs.Table.{Row, rows_of}
+use Rattle.table.specs.Table.{Row, rows_of, table}
 use Rattle.table.proofs.Keeping.{lengths_say}
 use Rattle.rings.specs.Sides.{inside}
 use Rattle.rings.specs.Rings.{weighted_at, weighted_found}
@@ -45,7 +45,7 @@ map_same f g (x ∷ l) h =
     let rest = map_same f g l (λ y m. h y (Memᴰ.tail m)) in
     cc
 
-module _ (ks : List ℕ) (ds ws : List Float) (n row : ℕ) (acc : Accepted ks ds ws n) (below : row < n) where
+module _ (ks : List ℕ) (ds ws : List Float) (n row : ℕ) (acc : Accepted (table ks ds ws n)) (below : row < n) where
   abbrev rows : List Row
   rows = rows_of ks ds ws n
 

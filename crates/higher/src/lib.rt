@@ -9,6 +9,7 @@ ghost use Rattle.higher.specs.Places.{key_at, is_inside_at, found_above, places_
 ghost use Rattle.higher.specs.Steps.{AtRow, AllBelow};
 
 use handful::Handful;
+use table::Rows;
 
 // Keys in a room of 14, which of them are inside, and how many there are.
 #[derive(Clone, Copy)]
@@ -109,15 +110,15 @@ fn inside_at(distances: &[f32], places: [u32; 14], n: usize) -> [bool; 14]
 }
 
 // A row's higher neighbours; none where the lists have lengths that no table has, or no such row.
-pub fn higher_of(
-    keys: &[u64],
-    distances: &[f32],
-    weights: &[f32],
-    count: usize,
-    row: usize,
-) -> Higher
-    ensures { result ≡ higher_of keys.now distances.now weights.now count row }
+pub fn higher_of(rows: &Rows, row: usize) -> Higher
+    ensures { result ≡ higher_of rows.now.keys.now rows.now.distances.now rows.now.weights.now rows.now.count row }
 {
+    let Rows {
+        keys,
+        distances,
+        weights,
+        count,
+    } = *rows;
     let places = places_of(keys, distances.len(), weights, count, row);
     let numbers = places.numbers;
     let n = places.count;

@@ -8,13 +8,14 @@ ghost use Rattle.fusing.specs.Fusing.{outcome};
 ghost use Rattle.lastlines.specs.Lastcheck.{placed_of, given_of, settings_from, setup_of, taken_of, reading_of, vertex_lines, printed_for, goes_on_lem, after, after_setup, after_reading, after_mesh, step_of, IsStep};
 ghost use Rattle.texts.specs.Texts.{bad_line, refused_line};
 ghost use Rattle.lastlines.specs.Steps.{edges_in, Prints};
+ghost use Rattle.table.specs.Read.{table_of};
 
 use floats::Metres;
 use fusing::Fused;
 use ids::Cells;
 use lines::Line;
 use refusals::Refusal;
-use table::{Settings, settings_of};
+use table::{Rows, Settings, settings_of};
 
 // Where the run stands after a line: whether P came, its settings, how many bytes the line prints, and whether the run goes on.
 #[derive(Clone, Copy)]
@@ -90,7 +91,13 @@ fn set_up(truncation: u32, weight: u32, size: u32) -> Result<Settings, Refusal>
 }
 
 // A direct reading from coordinates, head 0, and bits.
-fn read_cell(x: u16, y: u16, z: u16, distance: u32, confidence: u32) -> Result<(u64, f32, f32), Refusal>
+fn read_cell(
+    x: u16,
+    y: u16,
+    z: u16,
+    distance: u32,
+    confidence: u32,
+) -> Result<(u64, f32, f32), Refusal>
     ensures { result ≡ taken_of x y z distance confidence }
 {
     let Ok(key) = ids::new(0, Cells(x), Cells(y), Cells(z)) else {
@@ -178,7 +185,12 @@ fn reject(started: bool, settings: Settings, number: u64, out: &mut [u8]) -> Ste
 }
 
 // P is silent unless it is refused.
-fn after_setup(answer: Result<Settings, Refusal>, started: bool, settings: Settings, out: &mut [u8]) -> Stepped
+fn after_setup(
+    answer: Result<Settings, Refusal>,
+    started: bool,
+    settings: Settings,
+    out: &mut [u8],
+) -> Stepped
     ensures { (t : Table) → Prints (after_setup answer started settings t) result out.old out.new }
 {
     match answer {
@@ -193,7 +205,12 @@ fn after_setup(answer: Result<Settings, Refusal>, started: bool, settings: Setti
 }
 
 // D is silent unless it is refused.
-fn after_reading(answer: Result<Fused, Refusal>, started: bool, settings: Settings, out: &mut [u8]) -> Stepped
+fn after_reading(
+    answer: Result<Fused, Refusal>,
+    started: bool,
+    settings: Settings,
+    out: &mut [u8],
+) -> Stepped
     ensures { (t : Table) → Prints (after_reading answer started settings t) result out.old out.new }
 {
     match answer {
@@ -251,19 +268,12 @@ fn print_mesh(
 }
 
 // What M does: the counts and the vertices' bits, or why it is refused.
-fn print_surface(
-    started: bool,
-    settings: Settings,
-    keys: &[u64],
-    distances: &[f32],
-    weights: &[f32],
-    count: usize,
-    out: &mut [u8],
-) -> Stepped
+fn print_surface(started: bool, settings: Settings, rows: &Rows, out: &mut [u8]) -> Stepped
     ensures { Prints (after_mesh started settings
-        (table keys.now distances.now weights.now count)) result out.old
+        (table_of rows.now)) result out.old
         out.new }
 {
+    let Rows { count, .. } = *rows;
     let mut first = [0u64; 512];
     let mut second = [0u64; 512];
     let mut px = [0.0f32; 512];
@@ -278,10 +288,7 @@ fn print_surface(
     let mut t2 = [0u32; 1024];
     let meshed = mesh::extract_mesh_from_tsdf(
         settings,
-        keys,
-        distances,
-        weights,
-        count,
+        rows,
         &mut first,
         &mut second,
         &mut px,
@@ -327,7 +334,17 @@ pub fn take_line(
         }
         Line::Mesh => {
             let rows = *count;
-            print_surface(started, settings, keys, distances, weights, rows, out)
+            print_surface(
+                started,
+                settings,
+                &Rows {
+                    keys,
+                    distances,
+                    weights,
+                    count: rows,
+                },
+                out,
+            )
         }
         Line::Bad => reject(started, settings, number, out),
     }

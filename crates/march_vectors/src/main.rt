@@ -2,8 +2,9 @@
 // rows; B a gradient; X the statistics of a marched table.
 #![tactic(auto)]
 
-use vectors::{Field, Line, Score, float, same};
 use refusals::Refusal;
+use table::Rows;
+use vectors::{Field, Line, Score, float, same};
 
 // The rows that a march gave, the next of them to compare, and whether the last line's answer came out again.
 #[derive(Clone, Copy)]
@@ -40,10 +41,12 @@ fn march(field: Field, words: [u64; 16]) -> Given {
     let mut waiting = [0u64; 512];
     let answer = esdf::compute_from_tsdf(
         settings,
-        &keys,
-        &distances,
-        &weights,
-        field.rows,
+        &Rows {
+            keys: &keys,
+            distances: &distances,
+            weights: &weights,
+            count: field.rows,
+        },
         float(words[0]),
         &mut marched_keys,
         &mut marched_distances,

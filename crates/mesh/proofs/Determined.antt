@@ -6,6 +6,9 @@ use Rattle.mesh.proofs.extract_closed_mesh.Reads as extract_closed_mesh
 
 pub extract_mesh_from_tsdf_determined : (κs : _) (a : _) (r r' : _) (s s' : _) → extract_mesh_from_tsdf.Post κs a r s → extract_mesh_from_tsdf.Post κs a r' s' →
     (r ≡ r')
+    × (s.1.1.0.now ≡ s'.1.1.0.now)
+    × (s.1.1.1.0.now ≡ s'.1.1.1.0.now)
+    × (s.1.1.1.1.0.now ≡ s'.1.1.1.1.0.now)
     × (s.1.1.1.1.1.0.now ≡ s'.1.1.1.1.1.0.now)
     × (s.1.1.1.1.1.1.0.now ≡ s'.1.1.1.1.1.1.0.now)
     × (s.1.1.1.1.1.1.1.0.now ≡ s'.1.1.1.1.1.1.1.0.now)
@@ -13,13 +16,10 @@ pub extract_mesh_from_tsdf_determined : (κs : _) (a : _) (r r' : _) (s s' : _) 
     × (s.1.1.1.1.1.1.1.1.1.0.now ≡ s'.1.1.1.1.1.1.1.1.1.0.now)
     × (s.1.1.1.1.1.1.1.1.1.1.0.now ≡ s'.1.1.1.1.1.1.1.1.1.1.0.now)
     × (s.1.1.1.1.1.1.1.1.1.1.1.0.now ≡ s'.1.1.1.1.1.1.1.1.1.1.1.0.now)
-    × (s.1.1.1.1.1.1.1.1.1.1.1.1.0.now ≡ s'.1.1.1.1.1.1.1.1.1.1.1.1.0.now)
-    × (s.1.1.1.1.1.1.1.1.1.1.1.1.1.0.now ≡ s'.1.1.1.1.1.1.1.1.1.1.1.1.1.0.now)
-    × (s.1.1.1.1.1.1.1.1.1.1.1.1.1.1.0.now ≡ s'.1.1.1.1.1.1.1.1.1.1.1.1.1.1.0.now)
-    × (s.1.1.1.1.1.1.1.1.1.1.1.1.1.1.1.0.now
-    ≡ s'.1.1.1.1.1.1.1.1.1.1.1.1.1.1.1.0.now)
-    × (s.1.1.1.1.1.1.1.1.1.1.1.1.1.1.1.1.0.now
-    ≡ s'.1.1.1.1.1.1.1.1.1.1.1.1.1.1.1.1.0.now)
+    × (s.1.1.1.1.1.1.1.1.1.1.1.1.0.now
+    ≡ s'.1.1.1.1.1.1.1.1.1.1.1.1.0.now)
+    × (s.1.1.1.1.1.1.1.1.1.1.1.1.1.0.now
+    ≡ s'.1.1.1.1.1.1.1.1.1.1.1.1.1.0.now)
 extract_mesh_from_tsdf_determined κs a r r' s s' p q = (
   p.answer ∙ sym q.answer,
   p.first ∙ sym q.first,
@@ -41,6 +41,9 @@ pub extract_closed_mesh_determined :
     → extract_closed_mesh.Post κs a r s
     → extract_closed_mesh.Post κs a r' s'
     → (r ≡ r')
+    × (s.1.1.0.now ≡ s'.1.1.0.now)
+    × (s.1.1.1.0.now ≡ s'.1.1.1.0.now)
+    × (s.1.1.1.1.0.now ≡ s'.1.1.1.1.0.now)
     × (s.1.1.1.1.1.0.now ≡ s'.1.1.1.1.1.0.now)
     × (s.1.1.1.1.1.1.0.now ≡ s'.1.1.1.1.1.1.0.now)
     × (s.1.1.1.1.1.1.1.0.now ≡ s'.1.1.1.1.1.1.1.0.now)
@@ -49,9 +52,6 @@ pub extract_closed_mesh_determined :
     × (s.1.1.1.1.1.1.1.1.1.1.0.now ≡ s'.1.1.1.1.1.1.1.1.1.1.0.now)
     × (s.1.1.1.1.1.1.1.1.1.1.1.0.now ≡ s'.1.1.1.1.1.1.1.1.1.1.1.0.now)
     × (s.1.1.1.1.1.1.1.1.1.1.1.1.0.now ≡ s'.1.1.1.1.1.1.1.1.1.1.1.1.0.now)
-    × (s.1.1.1.1.1.1.1.1.1.1.1.1.1.0.now ≡ s'.1.1.1.1.1.1.1.1.1.1.1.1.1.0.now)
-    × (s.1.1.1.1.1.1.1.1.1.1.1.1.1.1.0.now ≡ s'.1.1.1.1.1.1.1.1.1.1.1.1.1.1.0.now)
-    × (s.1.1.1.1.1.1.1.1.1.1.1.1.1.1.1.0.now ≡ s'.1.1.1.1.1.1.1.1.1.1.1.1.1.1.1.0.now)
 extract_closed_mesh_determined κs a r r' s s' p q = (
   p.answer ∙ sym q.answer,
   p.first ∙ sym q.first,

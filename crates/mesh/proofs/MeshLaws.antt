@@ -128,11 +128,11 @@ module _ (o : Surface) (s : Settings) (ks : List ℕ) (ds ws : List Float) (cnt 
     outputs : outputs_ok r.first r.second ≡ true
     outputs = and_first (outputs_ok r.first r.second) _ tests.1
 
-    pub passing : Accepted ks ds ws cnt × (outputs_ok r.first r.second ≡ true)
+    pub passing : Accepted (table ks ds ws cnt) × (outputs_ok r.first r.second ≡ true)
     passing =
         accepted s ks ds ws cnt r.first r.second (with_fit (outputs_ok r.first r.second) s own outputs ∙ tests.2)
 
-    pub acc : Accepted ks ds ws cnt × (r.second ≡ r.first)
+    pub acc : Accepted (table ks ds ws cnt) × (r.second ≡ r.first)
     acc = (passing.0, outputs_same r.first r.second passing.1)
 
     pub rise : ascending (keys_of (rows own)) ≡ true

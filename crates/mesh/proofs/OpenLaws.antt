@@ -43,7 +43,7 @@ module _ (v : Result (Unit {0}) Refusal) (ks : List ℕ) (ds ws : List Float) (c
   abbrev es : List Edge
   es = edges_of t
 
-  acc : Accepted ks ds ws cnt × (b ≡ a)
+  acc : Accepted (table ks ds ws cnt) × (b ≡ a)
   acc = let h = tested fit.passed in (h.0, outputs_same a b h.1)
 
   rise : ascending (keys_of (rows t)) ≡ true

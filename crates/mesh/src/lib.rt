@@ -9,11 +9,12 @@ ghost use Rattle.edges.specs.declared.Surface.TheVariants.{Open, Closed};
 ghost use Rattle.triangles.specs.Building.{rooms as lent_of};
 ghost use Rattle.mesh.specs.Mesh.{rooms as rooms_of, rooms_ok, mesh_check, IsMeshOn, IsMesh, IsClosedMesh};
 ghost use Rattle.mesh.specs.Steps.{with_built, with_vertices, with_edges, answer_for, kept_of, Fit, Drawing};
+ghost use Rattle.table.specs.Read.{table_of};
 
 use edges::Surface;
 use lists::LONGEST_LIST;
 use refusals::Refusal;
-use table::Settings;
+use table::{Rows, Settings};
 
 // The lengths of the twelve lists.
 #[derive(Clone, Copy)]
@@ -52,26 +53,16 @@ fn rooms_ok(r: Rooms) -> bool
 }
 
 // Refusals 1, 2 and 3.
-fn check(
-    settings: Settings,
-    keys: &[u64],
-    distances: &[f32],
-    weights: &[f32],
-    count: usize,
-    rooms: Rooms,
-) -> Result<(), Refusal>
-    ensures { result ≡ mesh_check settings (table keys.now distances.now weights.now count) rooms }
+fn check(settings: Settings, rows: &Rows, rooms: Rooms) -> Result<(), Refusal>
+    ensures { result ≡ mesh_check settings (table_of rows.now) rooms }
 {
-    table::check_with(rooms_ok(rooms), settings, keys, distances, weights, count)
+    table::check_with(rooms_ok(rooms), settings, rows)
 }
 
 // The edges of document 01's surface by the verdict of the tests, and from them the groups and the triangles.
 fn draw_open(
     verdict: Result<(), Refusal>,
-    keys: &[u64],
-    distances: &[f32],
-    weights: &[f32],
-    count: usize,
+    rows: &Rows,
     first: &mut [u64],
     second: &mut [u64],
     groups: &mut [u32],
@@ -79,27 +70,19 @@ fn draw_open(
     t1: &mut [u32],
     t2: &mut [u32],
 ) -> Drawn
-    requires { Tested verdict keys.now distances.now weights.now count (length first.old) (length second.old) }
+    requires { Tested verdict rows.now.keys.now rows.now.distances.now rows.now.weights.now rows.now.count (length first.old) (length second.old) }
     ensures { Fit verdict
         (lent_of (length groups.old) (length t0.old) (length t1.old)
         (length t2.old))
-        → Drawing Open (table keys.now distances.now weights.now count)
+        → Drawing Open (table_of rows.now)
         (length first.old) (length second.old)
         (lent_of (length groups.old) (length t0.old) (length t1.old)
         (length t2.old))
         result first.new second.new groups.new t0.new t1.new
         t2.new }
 {
-    let edges = edges::list_tested(
-        Surface::Open,
-        verdict,
-        keys,
-        distances,
-        weights,
-        count,
-        first,
-        second,
-    );
+    let Rows { keys, count, .. } = *rows;
+    let edges = edges::list_tested(Surface::Open, verdict, rows, first, second);
     let n = lists::count_of(edges);
     let built = triangles::build_triangles(keys, count, first, second, n, groups, t0, t1, t2);
     Drawn { edges, built }
@@ -108,10 +91,7 @@ fn draw_open(
 // The edges and the triangles of the surface that closes, which has no groups.
 fn draw_closed(
     verdict: Result<(), Refusal>,
-    keys: &[u64],
-    distances: &[f32],
-    weights: &[f32],
-    count: usize,
+    rows: &Rows,
     first: &mut [u64],
     second: &mut [u64],
     groups: &mut [u32],
@@ -119,20 +99,18 @@ fn draw_closed(
     t1: &mut [u32],
     t2: &mut [u32],
 ) -> Drawn
-    requires { Tested verdict keys.now distances.now weights.now count (length first.old) (length second.old) }
+    requires { Tested verdict rows.now.keys.now rows.now.distances.now rows.now.weights.now rows.now.count (length first.old) (length second.old) }
     ensures { Fit verdict
         (lent_of (length groups.old) (length t0.old) (length t1.old)
         (length t2.old))
-        → Drawing Closed (table keys.now distances.now weights.now count)
+        → Drawing Closed (table_of rows.now)
         (length first.old) (length second.old)
         (lent_of (length groups.old) (length t0.old) (length t1.old)
         (length t2.old))
         result first.new second.new groups.new t0.new t1.new
         t2.new }
 {
-    let closed = cutting::list_closed(
-        verdict, keys, distances, weights, count, first, second, t0, t1, t2,
-    );
+    let closed = cutting::list_closed(verdict, rows, first, second, t0, t1, t2);
     lists::clear_from_u32(groups, 0);
     let edges = closed.edges;
     let built = closed.triangles;
@@ -143,10 +121,7 @@ fn draw_closed(
 fn draw(
     surface: Surface,
     verdict: Result<(), Refusal>,
-    keys: &[u64],
-    distances: &[f32],
-    weights: &[f32],
-    count: usize,
+    rows: &Rows,
     first: &mut [u64],
     second: &mut [u64],
     groups: &mut [u32],
@@ -154,11 +129,11 @@ fn draw(
     t1: &mut [u32],
     t2: &mut [u32],
 ) -> Drawn
-    requires { Tested verdict keys.now distances.now weights.now count (length first.old) (length second.old) }
+    requires { Tested verdict rows.now.keys.now rows.now.distances.now rows.now.weights.now rows.now.count (length first.old) (length second.old) }
     ensures { Fit verdict
         (lent_of (length groups.old) (length t0.old) (length t1.old)
         (length t2.old))
-        → Drawing surface (table keys.now distances.now weights.now count)
+        → Drawing surface (table_of rows.now)
         (length first.old) (length second.old)
         (lent_of (length groups.old) (length t0.old) (length t1.old)
         (length t2.old))
@@ -166,12 +141,8 @@ fn draw(
         t2.new }
 {
     match surface {
-        Surface::Open => draw_open(
-            verdict, keys, distances, weights, count, first, second, groups, t0, t1, t2,
-        ),
-        Surface::Closed => draw_closed(
-            verdict, keys, distances, weights, count, first, second, groups, t0, t1, t2,
-        ),
+        Surface::Open => draw_open(verdict, rows, first, second, groups, t0, t1, t2),
+        Surface::Closed => draw_closed(verdict, rows, first, second, groups, t0, t1, t2),
     }
 }
 
@@ -186,7 +157,11 @@ fn with_built(n: usize, built: Result<usize, Refusal>) -> Result<(usize, usize),
 }
 
 // The answer, where the edges have room.
-fn with_vertices(n: usize, room: usize, built: Result<usize, Refusal>) -> Result<(usize, usize), Refusal>
+fn with_vertices(
+    n: usize,
+    room: usize,
+    built: Result<usize, Refusal>,
+) -> Result<(usize, usize), Refusal>
     ensures { result ≡ with_vertices n room built }
 {
     if n <= room {
@@ -197,7 +172,11 @@ fn with_vertices(n: usize, room: usize, built: Result<usize, Refusal>) -> Result
 }
 
 // The answer, where the tests passed.
-fn with_edges(edges: Result<usize, Refusal>, room: usize, built: Result<usize, Refusal>) -> Result<(usize, usize), Refusal>
+fn with_edges(
+    edges: Result<usize, Refusal>,
+    room: usize,
+    built: Result<usize, Refusal>,
+) -> Result<(usize, usize), Refusal>
     ensures { result ≡ with_edges edges room built }
 {
     match edges {
@@ -207,7 +186,12 @@ fn with_edges(edges: Result<usize, Refusal>, room: usize, built: Result<usize, R
 }
 
 // The answer.
-fn answer(verdict: Result<(), Refusal>, edges: Result<usize, Refusal>, room: usize, built: Result<usize, Refusal>) -> Result<(usize, usize), Refusal>
+fn answer(
+    verdict: Result<(), Refusal>,
+    edges: Result<usize, Refusal>,
+    room: usize,
+    built: Result<usize, Refusal>,
+) -> Result<(usize, usize), Refusal>
     ensures { result ≡ answer_for verdict edges room built }
 {
     match verdict {
@@ -238,7 +222,13 @@ fn settle_edges(meshed: Result<(usize, usize), Refusal>, first: &mut [u64], seco
 }
 
 // The first `n` of three lists stay, none where the answer refuses.
-fn settle_places(meshed: Result<(usize, usize), Refusal>, n: usize, x: &mut [f32], y: &mut [f32], z: &mut [f32])
+fn settle_places(
+    meshed: Result<(usize, usize), Refusal>,
+    n: usize,
+    x: &mut [f32],
+    y: &mut [f32],
+    z: &mut [f32],
+)
     ensures x_after { x.new ≡ cleared_from zero_f (kept_of meshed n) x.old }
     ensures y_after { y.new ≡ cleared_from zero_f (kept_of meshed n) y.old }
     ensures z_after { z.new ≡ cleared_from zero_f (kept_of meshed n) z.old }
@@ -276,10 +266,7 @@ fn settle_triangles(
 fn extract(
     surface: Surface,
     settings: Settings,
-    keys: &[u64],
-    distances: &[f32],
-    weights: &[f32],
-    count: usize,
+    rows: &Rows,
     first: &mut [u64],
     second: &mut [u64],
     px: &mut [f32],
@@ -293,7 +280,7 @@ fn extract(
     t1: &mut [u32],
     t2: &mut [u32],
 ) -> Result<(usize, usize), Refusal>
-    ensures { IsMeshOn surface settings (table keys.now distances.now weights.now count)
+    ensures { IsMeshOn surface settings (table_of rows.now)
         (rooms_of (length first.old) (length second.old) (length px.old)
         (length py.old) (length pz.old) (length nx.old) (length ny.old)
         (length nz.old) (length groups.old) (length t0.old)
@@ -301,6 +288,12 @@ fn extract(
         result first.new second.new px.new py.new pz.new nx.new
         ny.new nz.new groups.new t0.new t1.new t2.new }
 {
+    let Rows {
+        keys,
+        distances,
+        count,
+        ..
+    } = *rows;
     let rooms = Rooms {
         first: first.len(),
         second: second.len(),
@@ -316,10 +309,8 @@ fn extract(
         t2: t2.len(),
     };
     let size = settings.voxel_size;
-    let verdict = check(settings, keys, distances, weights, count, rooms);
-    let drawn = draw(
-        surface, verdict, keys, distances, weights, count, first, second, groups, t0, t1, t2,
-    );
+    let verdict = check(settings, rows, rooms);
+    let drawn = draw(surface, verdict, rows, first, second, groups, t0, t1, t2);
     let edges = drawn.edges;
     let built = drawn.built;
     let n = lists::count_of(edges);
@@ -337,10 +328,7 @@ fn extract(
 // The mesh of a table, in twelve lists: 1, 2, 3, then 6 exactly when edges, vertices, groups or triangles outgrow their own list.
 pub fn extract_mesh_from_tsdf(
     settings: Settings,
-    keys: &[u64],
-    distances: &[f32],
-    weights: &[f32],
-    count: usize,
+    rows: &Rows,
     first: &mut [u64],
     second: &mut [u64],
     px: &mut [f32],
@@ -354,7 +342,7 @@ pub fn extract_mesh_from_tsdf(
     t1: &mut [u32],
     t2: &mut [u32],
 ) -> Result<(usize, usize), Refusal>
-    ensures { IsMesh settings (table keys.now distances.now weights.now count)
+    ensures { IsMesh settings (table_of rows.now)
         (rooms_of (length first.old) (length second.old) (length px.old)
         (length py.old) (length pz.old) (length nx.old) (length ny.old)
         (length nz.old) (length groups.old) (length t0.old)
@@ -365,10 +353,7 @@ pub fn extract_mesh_from_tsdf(
     extract(
         Surface::Open,
         settings,
-        keys,
-        distances,
-        weights,
-        count,
+        rows,
         first,
         second,
         px,
@@ -387,10 +372,7 @@ pub fn extract_mesh_from_tsdf(
 // The closed mesh of a table, in eleven lists: 1, 2, 3, then 6 exactly when edges, vertices or triangles outgrow their own list.
 pub fn extract_closed_mesh(
     settings: Settings,
-    keys: &[u64],
-    distances: &[f32],
-    weights: &[f32],
-    count: usize,
+    rows: &Rows,
     first: &mut [u64],
     second: &mut [u64],
     px: &mut [f32],
@@ -403,7 +385,7 @@ pub fn extract_closed_mesh(
     t1: &mut [u32],
     t2: &mut [u32],
 ) -> Result<(usize, usize), Refusal>
-    ensures { IsClosedMesh settings (table keys.now distances.now weights.now count)
+    ensures { IsClosedMesh settings (table_of rows.now)
         (rooms_of (length first.old) (length second.old) (length px.old)
         (length py.old) (length pz.old) (length nx.old) (length ny.old)
         (length nz.old) 0 (length t0.old)
@@ -415,10 +397,7 @@ pub fn extract_closed_mesh(
     extract(
         Surface::Closed,
         settings,
-        keys,
-        distances,
-        weights,
-        count,
+        rows,
         first,
         second,
         px,

@@ -11,8 +11,8 @@ use answers::keys::one_if;
 use answers::{ABSENT, CountsBack, DONE, LengthBack, NOTHING, YesBack};
 use floats::Metres;
 use groups::Span;
-use slopes::Vertex;
 use refusals::Refusal;
+use slopes::Vertex;
 
 // The number of a mesh's answer, its edges and its triangles.
 pub fn mesh_back(meshed: Result<(usize, usize), Refusal>) -> CountsBack

@@ -2,8 +2,8 @@
 // too small for the triangles and for the groups, and the empty table.
 #![tactic(auto)]
 
-use table::{Settings, settings_of};
 use refusals::Refusal;
+use table::{Rows, Settings, settings_of};
 
 // The sample's settings: truncation 1, maximum weight 100, size 1.
 fn settings() -> Settings {
@@ -34,10 +34,12 @@ fn mesh_of(
     let mut nz = [0.0f32; 14];
     mesh::extract_mesh_from_tsdf(
         settings(),
-        &keys,
-        &distances,
-        &weights,
-        count,
+        &Rows {
+            keys: &keys,
+            distances: &distances,
+            weights: &weights,
+            count,
+        },
         &mut first,
         &mut second,
         &mut px,

@@ -2,8 +2,9 @@
 // its normal, K each triangle; O the area; W the box.
 #![tactic(auto)]
 
-use vectors::{Field, Line, Score, float, same};
 use refusals::Refusal;
+use table::Rows;
+use vectors::{Field, Line, Score, float, same};
 
 // Three lists of numbers, and how many of their places are filled.
 #[derive(Clone, Copy)]
@@ -82,10 +83,12 @@ fn mesh_of(field: Field, words: [u64; 16]) -> Given {
     let mut t2 = [0u32; 64];
     let meshed = mesh::extract_mesh_from_tsdf(
         settings,
-        &keys,
-        &distances,
-        &weights,
-        field.rows,
+        &Rows {
+            keys: &keys,
+            distances: &distances,
+            weights: &weights,
+            count: field.rows,
+        },
         &mut first,
         &mut second,
         &mut px,

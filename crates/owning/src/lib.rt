@@ -9,6 +9,7 @@ ghost use Rattle.batching.specs.Batches.{entry, entries};
 ghost use Rattle.sorting.specs.Sorting.{Numbered};
 ghost use Rattle.batching.specs.Steps.{is_far};
 ghost use Rattle.owning.specs.Runs.{old_voxel, Placed, Stepped, passed_far, OwnSlots, RanTo, RunTo};
+ghost use Rattle.table.specs.Read.{table_of};
 
 use floats::{Metres, between, within};
 use fusing::{Averaging, Voxel, averaging_of, fused_voxel};
@@ -16,7 +17,7 @@ use gathering::{hold_back, load_f32, locate, settle};
 use measuring::{Measured, Reading, admit};
 use refusals::Refusal;
 use sorting::{distinct, sort};
-use table::Settings;
+use table::{Rows, Settings};
 
 // What a reading does to the own rows of a batch: nothing where it is far; a row is added or changed; it is left to
 // others where its row has no place in the table; or why it is refused.
@@ -238,22 +239,25 @@ fn end_of(len: usize, from: usize) -> usize
 
 // The seats of the own keys in the table, and the values of their rows; the weight of a waiting row is -1.
 fn load_own(
-    keys: &[u64],
-    distances: &[f32],
-    weights: &[f32],
-    count: usize,
+    rows: &Rows,
     own_keys: &[u64],
     own_distances: &mut [f32],
     own_weights: &mut [f32],
     seats: &mut [u32],
     own: usize,
 )
-    requires count_value { lengths_ok (length keys.now) (length distances.now) (length weights.now) count ≡ true }
-    requires keys_value { (ascending (take count keys.now) ≡ true) × (own ≤ length seats.old) × (ascending (take own own_keys.now) ≡ true) }
+    requires count_value { lengths_ok (length rows.now.keys.now) (length rows.now.distances.now) (length rows.now.weights.now) rows.now.count ≡ true }
+    requires keys_value { (ascending (take rows.now.count rows.now.keys.now) ≡ true) × (own ≤ length seats.old) × (ascending (take own own_keys.now) ≡ true) }
     requires own_value { lengths_ok (length own_keys.now) (length own_distances.old) (length own_weights.old) own ≡ true }
-    ensures { Loaded (table keys.now distances.now weights.now count)
+    ensures { Loaded (table_of rows.now)
         seats.new own_keys.now own_distances.new own_weights.new own }
 {
+    let Rows {
+        keys,
+        distances,
+        weights,
+        count,
+    } = *rows;
     locate(keys, count, own_keys, seats, own);
     load_f32(distances, seats, own_distances, own, 0.0);
     load_f32(
@@ -335,10 +339,12 @@ pub fn batch_run(
     let n = *count;
     let own = own_rows(&mut own_keys, &mut slots, batch_keys, from, to);
     load_own(
-        keys,
-        distances,
-        weights,
-        n,
+        &Rows {
+            keys,
+            distances,
+            weights,
+            count: n,
+        },
         &own_keys,
         &mut own_distances,
         &mut own_weights,

@@ -17,7 +17,7 @@ use Rattle.ids.specs.Key.{on_lattice}
 use Rattle.search.specs.Keys.{member, ascending}
 use Rattle.lists.specs.Lists.{◌∈◌, All, insert}
 use Rattle.lists.proofs.Bools.{cases}
-use Rattle.table.specs.Table.{Row, rows_of}
+use Rattle.table.specs.Table.{Row, rows_of, table}
 use Rattle.table.specs.Rows.{keys_of as table_keys}
 use Rattle.table.proofs.Laying.{columns}
 use Rattle.marching.specs.March.{MarchedRow, marched_row, Cell, State, Field, Rooms, rooms, Going, on, and_then, row_before, keys_of, cells_of, is_seed, seeds, sow, sow_all, taking, take_up_to, nothing}
@@ -179,7 +179,7 @@ module _ (lean : Bool) (seed : ℕ → Bool) (f : Field) (back : (k l : ℕ) →
 -- ---- seeds
 
 -- the keys of a lent table's rows ascend
-pub rows_ascend : (ks : List ℕ) (ds ws : List Float) (n : ℕ) → Lent ks ds ws n → ascending (table_keys (rows_of ks ds ws n)) ≡ true
+pub rows_ascend : (ks : List ℕ) (ds ws : List Float) (n : ℕ) → Lent (table ks ds ws n) → ascending (table_keys (rows_of ks ds ws n)) ≡ true
 rows_ascend ks ds ws n h = rw (columns ks ds ws n h.distances h.weights).0 h.ascends
 
 sow_one :
@@ -349,7 +349,7 @@ pub rows_past : (ks : List ℕ) (ds ws : List Float) (n i : ℕ) → n ≤ i →
 rows_past ks ds ws n i g = drop_of_length-le (rows_of ks ds ws n) {i = i} (rw length-take (omega arith))
 
 -- the seeds of a lent table are those that are looked up there
-pub seeds_are : (t : Float) (ks : List ℕ) (ds ws : List Float) (n : ℕ) → Lent ks ds ws n
+pub seeds_are : (t : Float) (ks : List ℕ) (ds ws : List Float) (n : ℕ) → Lent (table ks ds ws n)
     → (k : ℕ)
     → member k (keys_of (seeds t (rows_of ks ds ws n))) ≡ seed_in t (rows_of ks ds ws n) k
 seeds_are t ks ds ws n h =
@@ -368,7 +368,7 @@ first_on_lattice lean s n ks ds w es cs h l =
     (ap (λ (x : List Cell). member (get_or cs 0 0) (cells_of x)) u.1.1 ∙ rw (eq-eqb u.0.key (get_or cs 0 0) (sym e)))
 
 -- every row of a lent table is on the lattice
-pub rows_lattice : (ks : List ℕ) (ds ws : List Float) (n : ℕ) → Tabled ks ds ws n → All (λ (r : Row). on_lattice r.key ≡ true) (rows_of ks ds ws n)
+pub rows_lattice : (ks : List ℕ) (ds ws : List Float) (n : ℕ) → Tabled (table ks ds ws n) → All (λ (r : Row). on_lattice r.key ≡ true) (rows_of ks ds ws n)
 unfolding All
 rows_lattice ks ds ws n h = by_keys (rows_of ks ds ws n) (λ i l. own i l)
   where

@@ -5,7 +5,7 @@ use Rattle.floats.specs.Floats.{zero32, is_finite}
 use Rattle.ids.specs.Key.{on_lattice}
 use Rattle.lists.specs.Padding.{padded}
 use Rattle.search.specs.Keys.{ascending}
-use Rattle.table.specs.Table.{Row}
+use Rattle.table.specs.Table.{Row, Table}
 use Rattle.marching.specs.March.{MarchedRow, marched_row, State, Going, on, Rooms, keys_of, distances_of, is_seed, sow, sow_all, nothing}
 use Rattle.hearing.specs.Hearing.{Lent}
 use Rattle.fronts.specs.Fronts.{rooms_of, Held, Stopped}
@@ -13,10 +13,10 @@ use Rattle.thinning.specs.Thinning.{Spare}
 use Rattle.fronts.specs.declared.Stop.{Stop}
 
 -- a table whose rows are on the lattice, at finite distances
-pub record Tabled (ks : List ℕ) (ds ws : List Float) (n : ℕ) : Type 0 where
-  pub lent : Lent ks ds ws n
-  pub lattice : (i : ℕ) → i < n → on_lattice (get_or ks i 0) ≡ true
-  pub finite : (i : ℕ) → i < n → is_finite (get_or ds i nan) ≡ true
+pub record Tabled (t : Table) : Type 0 where
+  pub lent : Lent t
+  pub lattice : (i : ℕ) → i < t.count → on_lattice (get_or t.keys i 0) ≡ true
+  pub finite : (i : ℕ) → i < t.count → is_finite (get_or t.distances i nan) ≡ true
 
 -- a table's row is sown if it is a seed
 unfoldable pub sow_if : Float → (ℕ → List ℕ) → Rooms → Row → State → Going

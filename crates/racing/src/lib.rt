@@ -15,11 +15,13 @@ ghost use Rattle.marching.specs.Spreading.{seed_in};
 ghost use Rattle.hearing.specs.Hearing.{Lent};
 ghost use Rattle.fronts.specs.Fronts.{Fair, Paired, rooms_of, ToldOnce, ToldFirst};
 ghost use Rattle.racing.specs.Racing.{Tabled, sow_if, MayStep, went_of, Goes, Blank, Sown, Emptied, unlabelled, Finished};
+ghost use Rattle.table.specs.Read.{table_of, rows_in};
 
 use fronts::{Stop, sow, take};
 use heap::sort_rows;
 use lists::{clear_f32, clear_u64};
 use marching::{Course, is_seed, surely_full};
+use table::Rows;
 use thinning::lighten;
 
 // What a step of a kind leads to.
@@ -35,10 +37,7 @@ fn leads_to(step: Result<(usize, usize), Stop>, lean: bool) -> Result<(usize, us
 // A table's row is sown if it is a seed.
 fn sow_if(
     lean: bool,
-    fused_keys: &[u64],
-    fused_distances: &[f32],
-    fused_weights: &[f32],
-    fused_count: usize,
+    fused: &Rows,
     threshold: f32,
     course: Course,
     keys: &mut [u64],
@@ -51,14 +50,14 @@ fn sow_if(
     distance: f32,
     weight: f32,
 ) -> Result<(usize, usize, bool), Stop>
-    requires lent { Lent fused_keys.now fused_distances.now fused_weights.now fused_count
+    requires lent { Lent (table_of fused.now)
         × Paired keys.old distances.old estimates.old cells.old }
     requires key_value { (on_lattice key ≡ true) × ((is_finite distance ≡ true) × (waiting ≤ length cells.old)) }
     ensures { (s : State)
         → MayStep lean s count keys.old distances.old waiting estimates.old cells.old
         → member key (keys_of s.stored) ≡ false
         → (is_seed threshold (row key distance weight) ≡ true → ToldOnce (seed_in threshold
-        (rows_of fused_keys.now fused_distances.now fused_weights.now fused_count)) (lattice_of course) key s)
+        (rows_in fused.now)) (lattice_of course) key s)
         → Goes (sow_if threshold neighbours (rooms_of keys.old cells.old) (row key distance weight) s) result
         keys.new distances.new estimates.new cells.new }
 {
@@ -67,20 +66,7 @@ fn sow_if(
     }
     let kind = lighten(lean, keys, distances, count, cells, waiting);
     let step = sow(
-        kind,
-        fused_keys,
-        fused_distances,
-        fused_weights,
-        fused_count,
-        threshold,
-        course,
-        keys,
-        distances,
-        count,
-        estimates,
-        cells,
-        waiting,
-        key,
+        kind, fused, threshold, course, keys, distances, count, estimates, cells, waiting, key,
         distance,
     );
     leads_to(step, kind)
@@ -88,10 +74,7 @@ fn sow_if(
 
 // Every seed of the table is sown.
 fn sow_all(
-    fused_keys: &[u64],
-    fused_distances: &[f32],
-    fused_weights: &[f32],
-    fused_count: usize,
+    fused: &Rows,
     threshold: f32,
     course: Course,
     keys: &mut [u64],
@@ -99,22 +82,25 @@ fn sow_all(
     estimates: &mut [f32],
     cells: &mut [u64],
 ) -> Result<(usize, usize, bool), Stop>
-    requires { Tabled fused_keys.now fused_distances.now fused_weights.now fused_count
+    requires { Tabled (table_of fused.now)
         × Blank keys.old distances.old estimates.old cells.old }
     ensures { Goes (sow_all neighbours (rooms_of keys.old cells.old) (seeds threshold
-        (rows_of fused_keys.now fused_distances.now fused_weights.now fused_count)) nothing) result
+        (rows_in fused.now)) nothing) result
         keys.new distances.new estimates.new cells.new }
 {
+    let Rows {
+        keys: fused_keys,
+        distances: fused_distances,
+        weights: fused_weights,
+        count: fused_count,
+    } = *fused;
     let mut rows = 0;
     let mut held = 0;
     let mut lean = false;
     for i in 0..fused_count {
         match sow_if(
             lean,
-            fused_keys,
-            fused_distances,
-            fused_weights,
-            fused_count,
+            fused,
             threshold,
             course,
             keys,
@@ -141,10 +127,7 @@ fn sow_all(
 // The first waiting cell is taken.
 fn take_next(
     lean: bool,
-    fused_keys: &[u64],
-    fused_distances: &[f32],
-    fused_weights: &[f32],
-    fused_count: usize,
+    fused: &Rows,
     threshold: f32,
     course: Course,
     keys: &mut [u64],
@@ -154,31 +137,19 @@ fn take_next(
     cells: &mut [u64],
     waiting: usize,
 ) -> Result<(usize, usize, bool), Stop>
-    requires lent { Lent fused_keys.now fused_distances.now fused_weights.now fused_count
+    requires lent { Lent (table_of fused.now)
         × Paired keys.old distances.old estimates.old cells.old }
     requires waiting_nonzero { (0 < waiting) × ((waiting ≤ length cells.old) × (Fair course × (on_lattice (get_or cells.old 0 0) ≡ true))) }
     ensures { (s : State)
         → MayStep lean s count keys.old distances.old waiting estimates.old cells.old
         → ToldFirst (seed_in threshold
-        (rows_of fused_keys.now fused_distances.now fused_weights.now fused_count)) (lattice_of course) s
+        (rows_in fused.now)) (lattice_of course) s
         → Goes (take (lattice_of course) (rooms_of keys.old cells.old) s) result
         keys.new distances.new estimates.new cells.new }
 {
     let kind = lighten(lean, keys, distances, count, cells, waiting);
     let step = take(
-        kind,
-        fused_keys,
-        fused_distances,
-        fused_weights,
-        fused_count,
-        threshold,
-        course,
-        keys,
-        distances,
-        count,
-        estimates,
-        cells,
-        waiting,
+        kind, fused, threshold, course, keys, distances, count, estimates, cells, waiting,
     );
     leads_to(step, kind)
 }
@@ -186,10 +157,7 @@ fn take_next(
 // Waiting cells are taken until there is none.
 fn take_all(
     lean: bool,
-    fused_keys: &[u64],
-    fused_distances: &[f32],
-    fused_weights: &[f32],
-    fused_count: usize,
+    fused: &Rows,
     threshold: f32,
     course: Course,
     keys: &mut [u64],
@@ -199,11 +167,11 @@ fn take_all(
     cells: &mut [u64],
     waiting: usize,
 ) -> Result<(usize, usize), Stop>
-    requires tabled { Tabled fused_keys.now fused_distances.now fused_weights.now fused_count × Fair course }
-    requires sown { (s : State) × Sown (seeds threshold (rows_of fused_keys.now fused_distances.now fused_weights.now fused_count))
+    requires tabled { Tabled (table_of fused.now) × Fair course }
+    requires sown { (s : State) × Sown (seeds threshold (rows_in fused.now))
         neighbours lean s count keys.old distances.old waiting estimates.old cells.old }
     ensures { (s : State)
-        → Sown (seeds threshold (rows_of fused_keys.now fused_distances.now fused_weights.now fused_count))
+        → Sown (seeds threshold (rows_in fused.now))
         neighbours lean s count keys.old distances.old waiting estimates.old cells.old
         → Emptied (take_up_to (lattice_of course) (rooms_of keys.old cells.old) (suc (length keys.old)) s) result
         keys.new distances.new estimates.new cells.new }
@@ -217,19 +185,7 @@ fn take_all(
             return Err(Stop::NoRow);
         }
         match take_next(
-            kind,
-            fused_keys,
-            fused_distances,
-            fused_weights,
-            fused_count,
-            threshold,
-            course,
-            keys,
-            distances,
-            rows,
-            estimates,
-            cells,
-            held,
+            kind, fused, threshold, course, keys, distances, rows, estimates, cells, held,
         ) {
             Err(why) => return Err(why),
             Ok((n, w, next)) => {
@@ -269,10 +225,7 @@ pub fn clear(keys: &mut [u64], distances: &mut [f32], estimates: &mut [f32], cel
 
 // The march over a table whose rows are in order, into lists that are all zero: the seeds, the takings, then the rows by key.
 pub fn march(
-    fused_keys: &[u64],
-    fused_distances: &[f32],
-    fused_weights: &[f32],
-    fused_count: usize,
+    fused: &Rows,
     threshold: f32,
     course: Course,
     keys: &mut [u64],
@@ -280,40 +233,17 @@ pub fn march(
     estimates: &mut [f32],
     cells: &mut [u64],
 ) -> Result<(usize, usize), Stop>
-    requires { (Tabled fused_keys.now fused_distances.now fused_weights.now fused_count × Fair course)
+    requires { (Tabled (table_of fused.now) × Fair course)
         × Blank keys.old distances.old estimates.old cells.old }
     ensures { Finished (march_from course.size course.most (rooms_of keys.old cells.old) threshold
-        (rows_of fused_keys.now fused_distances.now fused_weights.now fused_count)) result
+        (rows_in fused.now)) result
         keys.new distances.new estimates.new cells.new }
 {
-    match sow_all(
-        fused_keys,
-        fused_distances,
-        fused_weights,
-        fused_count,
-        threshold,
-        course,
-        keys,
-        distances,
-        estimates,
-        cells,
-    ) {
+    match sow_all(fused, threshold, course, keys, distances, estimates, cells) {
         Err(why) => Err(why),
         Ok((rows, held, lean)) => {
             match take_all(
-                lean,
-                fused_keys,
-                fused_distances,
-                fused_weights,
-                fused_count,
-                threshold,
-                course,
-                keys,
-                distances,
-                rows,
-                estimates,
-                cells,
-                held,
+                lean, fused, threshold, course, keys, distances, rows, estimates, cells, held,
             ) {
                 Err(why) => Err(why),
                 Ok((n, takings)) => {

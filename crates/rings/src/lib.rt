@@ -5,7 +5,6 @@ ghost use Rattle.std.specs.Prelude.{◌≡◌, ◌≤◌, length, take};
 ghost use Rattle.rings.specs.Sides.{opposed};
 ghost use Rattle.rings.specs.Rings.{any, weighted_by, beside_both, completed, joint_by};
 
-
 // One distance is below zero and the other is not, and both weights are above 0.
 pub fn are_opposed(distance: f32, weight: f32, other: f32, beside: f32) -> bool
     ensures { result ≡ opposed distance weight other beside }

@@ -5,7 +5,6 @@ ghost use Rattle.std.specs.Prelude.{◌≡◌};
 ghost use Rattle.root.specs.Root.{root_answer};
 ghost use Rattle.root_c.specs.Answers.{root_or};
 
-
 // The root of x, or `other` where it is refused.
 #[unsafe(no_mangle)]
 pub extern "C" fn root_or(x: f32, other: f32) -> f32

@@ -14,7 +14,12 @@ use lists::count_of;
 use refusals::Refusal;
 
 // A file's corners as vertices, three for each triangle, and how many they are.
-pub fn import_mesh_stl(file: &[u8], px: &mut [f32], py: &mut [f32], pz: &mut [f32]) -> Result<usize, Refusal>
+pub fn import_mesh_stl(
+    file: &[u8],
+    px: &mut [f32],
+    py: &mut [f32],
+    pz: &mut [f32],
+) -> Result<usize, Refusal>
     ensures value { result ≡ import_answer file.now (length px.old) (length py.old)
         (length pz.old) }
     ensures px_after { px.new ≡ held_for zero_f

@@ -105,7 +105,11 @@ pub(crate) fn stated(file: &[u8], a: usize, b: usize, c: usize) -> Result<usize,
 }
 
 // What is answered to so many triangles, whose corners pass or don't, for lists of so many places.
-pub(crate) fn answer(stated: Result<usize, Refusal>, passed: bool, room: usize) -> Result<usize, Refusal>
+pub(crate) fn answer(
+    stated: Result<usize, Refusal>,
+    passed: bool,
+    room: usize,
+) -> Result<usize, Refusal>
     ensures { result ≡ read_answer stated passed room }
 {
     match stated {

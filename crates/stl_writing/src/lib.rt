@@ -9,8 +9,8 @@ ghost use Rattle.stl.specs.Files.{file_of};
 ghost use Rattle.stl.specs.Calls.{facets_lent, export_answer};
 
 use lists::count_of;
-use words::write_zeros;
 use refusals::Refusal;
+use words::write_zeros;
 
 // A mesh as the bytes of a file, and how many they are.
 pub fn export_mesh_stl(

@@ -141,7 +141,12 @@ fn upper_of(v: Vertex, w: Vertex) -> Vertex
 }
 
 // The box around some vertices.
-fn box_of(px: &[f32], py: &[f32], pz: &[f32], vertices: usize) -> Result<Option<(Vertex, Vertex)>, Refusal>
+fn box_of(
+    px: &[f32],
+    py: &[f32],
+    pz: &[f32],
+    vertices: usize,
+) -> Result<Option<(Vertex, Vertex)>, Refusal>
     requires { Lent px.now py.now pz.now vertices }
     ensures { result ≡ box_of (vertices_in px.now py.now pz.now vertices) }
 {
@@ -159,7 +164,12 @@ fn box_of(px: &[f32], py: &[f32], pz: &[f32], vertices: usize) -> Result<Option<
 }
 
 // The box around a mesh.
-pub fn bounding_box(px: &[f32], py: &[f32], pz: &[f32], vertices: usize) -> Result<Option<(Vertex, Vertex)>, Refusal>
+pub fn bounding_box(
+    px: &[f32],
+    py: &[f32],
+    pz: &[f32],
+    vertices: usize,
+) -> Result<Option<(Vertex, Vertex)>, Refusal>
     ensures { result ≡ box_answer px.now py.now pz.now vertices }
 {
     if !set_ok(px.len(), py.len(), pz.len(), vertices) {

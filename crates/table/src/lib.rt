@@ -3,6 +3,7 @@
 
 ghost use Rattle.std.specs.Prelude.{◌≡◌, ◌≤◌, length, Ok};
 ghost use Rattle.table.specs.Table.{settings_of, defaults, table, rows_of, farthest_ok, settings_ok, lengths_ok, row_ok, rows_ok, need, check_with, table_check, then_test};
+ghost use Rattle.table.specs.Read.{table_of, rows_in};
 
 use floats::{Metres, between, positive_to, within};
 use refusals::Refusal;
@@ -41,6 +42,15 @@ impl Settings {
     }
 }
 
+// A table that is read: three lent lists side by side, whose first `count` places are its rows.
+#[derive(Clone, Copy)]
+pub struct Rows<'a> {
+    pub keys: &'a [u64],
+    pub distances: &'a [f32],
+    pub weights: &'a [f32],
+    pub count: usize,
+}
+
 // From 0 to 1,000,000, and not -0.
 fn farthest_ok(x: f32) -> bool
     ensures { result ≡ farthest_ok x }
@@ -76,10 +86,16 @@ fn row_ok(most: f32, key: u64, distance: f32, weight: f32) -> bool
 }
 
 // Every row is in its ranges.
-fn rows_ok(most: f32, keys: &[u64], distances: &[f32], weights: &[f32], count: usize) -> bool
-    requires { (count ≤ length keys.now) × (length distances.now ≡ length keys.now) × (length weights.now ≡ length keys.now) }
-    ensures { result ≡ rows_ok most (rows_of keys.now distances.now weights.now count) }
+fn rows_ok(most: f32, rows: &Rows) -> bool
+    requires { (rows.now.count ≤ length rows.now.keys.now) × (length rows.now.distances.now ≡ length rows.now.keys.now) × (length rows.now.weights.now ≡ length rows.now.keys.now) }
+    ensures { result ≡ rows_ok most (rows_in rows.now) }
 {
+    let Rows {
+        keys,
+        distances,
+        weights,
+        count,
+    } = *rows;
     for i in 0..count {
         if !row_ok(most, keys[i], distances[i], weights[i]) {
             return false;
@@ -89,39 +105,32 @@ fn rows_ok(most: f32, keys: &[u64], distances: &[f32], weights: &[f32], count: u
 }
 
 // The tests of a call, in this order: settings (1), lists, `fits` says whether its own pass (2), the table's rows (3).
-pub fn check_with(
-    fits: bool,
-    settings: Settings,
-    keys: &[u64],
-    distances: &[f32],
-    weights: &[f32],
-    count: usize,
-) -> Result<(), Refusal>
-    ensures { result ≡ check_with fits settings (table keys.now distances.now weights.now count) }
+pub fn check_with(fits: bool, settings: Settings, rows: &Rows) -> Result<(), Refusal>
+    ensures { result ≡ check_with fits settings (table_of rows.now) }
 {
+    let Rows {
+        keys,
+        distances,
+        weights,
+        count,
+    } = *rows;
     if !settings_ok(settings) {
         return Err(Refusal::Setting);
     }
     if !(fits & lengths_ok(keys.len(), distances.len(), weights.len(), count)) {
         return Err(Refusal::Lengths);
     }
-    if !(rows_ok(settings.max_weight, keys, distances, weights, count) & keys_ascend(keys, count)) {
+    if !(rows_ok(settings.max_weight, rows) & keys_ascend(keys, count)) {
         return Err(Refusal::BadRow);
     }
     Ok(())
 }
 
 // Those of a call that lends no list but the table's.
-pub fn check_table(
-    settings: Settings,
-    keys: &[u64],
-    distances: &[f32],
-    weights: &[f32],
-    count: usize,
-) -> Result<(), Refusal>
-    ensures { result ≡ table_check settings (table keys.now distances.now weights.now count) }
+pub fn check_table(settings: Settings, rows: &Rows) -> Result<(), Refusal>
+    ensures { result ≡ table_check settings (table_of rows.now) }
 {
-    check_with(true, settings, keys, distances, weights, count)
+    check_with(true, settings, rows)
 }
 
 // A verdict, and what the call tests after it: `passes`, or why it is refused.
@@ -130,12 +139,6 @@ pub fn then_test(verdict: Result<(), Refusal>, passes: bool, why: Refusal) -> Re
 {
     match verdict {
         Err(earlier) => Err(earlier),
-        Ok(()) => {
-            if passes {
-                Ok(())
-            } else {
-                Err(why)
-            }
-        }
+        Ok(()) => { if passes { Ok(()) } else { Err(why) } }
     }
 }

@@ -14,7 +14,7 @@ use Rattle.tsdf_questions.specs.Steps.{Accepted}
 
 -- ---- what the tests tell
 
-pub accepted : (s : Settings) (ks : List ℕ) (ds ws : List Float) (n : ℕ) → table_check s (table ks ds ws n) ≡ (Ok tt) → Accepted ks ds ws n
+pub accepted : (s : Settings) (ks : List ℕ) (ds ws : List Float) (n : ℕ) → table_check s (table ks ds ws n) ≡ (Ok tt) → Accepted (table ks ds ws n)
 accepted s ks ds ws n e =
     let k = sound s (table ks ds ws n) e in
     let l = lengths_known (length ks) (length ds) (length ws) n k.lengths in

@@ -6,11 +6,12 @@ ghost use Rattle.floats.specs.Floats.{is_finite};
 ghost use Rattle.table.specs.Table.{table};
 ghost use Rattle.tsdf_questions.specs.Lookups.{row_of, looked_up, distance_of, weight_of, surface_if, surface_of};
 ghost use Rattle.tsdf_questions.specs.Steps.{Accepted};
+ghost use Rattle.table.specs.Read.{table_of};
 
 use floats::{Metres, is_finite, size};
 use refusals::Refusal;
 use search::find_row;
-use table::{Settings, check_table};
+use table::{Rows, Settings, check_table};
 
 // A cell's row.
 #[derive(Clone, Copy)]
@@ -21,10 +22,16 @@ enum Looked {
 }
 
 // The row of a cell, in a table that passed the check.
-fn row_of(keys: &[u64], distances: &[f32], weights: &[f32], count: usize, key: u64) -> Looked
-    requires { Accepted keys.now distances.now weights.now count }
-    ensures { result ≡ row_of (table keys.now distances.now weights.now count) key }
+fn row_of(rows: &Rows, key: u64) -> Looked
+    requires { Accepted (table_of rows.now) }
+    ensures { result ≡ row_of (table_of rows.now) key }
 {
+    let Rows {
+        keys,
+        distances,
+        weights,
+        count,
+    } = *rows;
     if !ids::is_on_lattice(key) {
         return Looked::Refused(Refusal::OffLattice);
     }
@@ -38,34 +45,20 @@ fn row_of(keys: &[u64], distances: &[f32], weights: &[f32], count: usize, key: u
 }
 
 // The row of a cell, after refusals 1 to 4.
-fn look_up(
-    settings: Settings,
-    keys: &[u64],
-    distances: &[f32],
-    weights: &[f32],
-    count: usize,
-    key: u64,
-) -> Looked
-    ensures { result ≡ looked_up settings (table keys.now distances.now weights.now count) key }
+fn look_up(settings: Settings, rows: &Rows, key: u64) -> Looked
+    ensures { result ≡ looked_up settings (table_of rows.now) key }
 {
-    match check_table(settings, keys, distances, weights, count) {
+    match check_table(settings, rows) {
         Err(why) => Looked::Refused(why),
-        Ok(()) => row_of(keys, distances, weights, count, key),
+        Ok(()) => row_of(rows, key),
     }
 }
 
 // The distance that is stored of a cell.
-pub fn get_distance(
-    settings: Settings,
-    keys: &[u64],
-    distances: &[f32],
-    weights: &[f32],
-    count: usize,
-    key: u64,
-) -> Result<Option<Metres>, Refusal>
-    ensures { result ≡ distance_of (looked_up settings (table keys.now distances.now weights.now count) key) }
+pub fn get_distance(settings: Settings, rows: &Rows, key: u64) -> Result<Option<Metres>, Refusal>
+    ensures { result ≡ distance_of (looked_up settings (table_of rows.now) key) }
 {
-    match look_up(settings, keys, distances, weights, count, key) {
+    match look_up(settings, rows, key) {
         Looked::Row {
             distance,
             weight: _,
@@ -76,17 +69,10 @@ pub fn get_distance(
 }
 
 // The weight that is stored of a cell.
-pub fn get_weight(
-    settings: Settings,
-    keys: &[u64],
-    distances: &[f32],
-    weights: &[f32],
-    count: usize,
-    key: u64,
-) -> Result<Option<f32>, Refusal>
-    ensures { result ≡ weight_of (looked_up settings (table keys.now distances.now weights.now count) key) }
+pub fn get_weight(settings: Settings, rows: &Rows, key: u64) -> Result<Option<f32>, Refusal>
+    ensures { result ≡ weight_of (looked_up settings (table_of rows.now) key) }
 {
-    match look_up(settings, keys, distances, weights, count, key) {
+    match look_up(settings, rows, key) {
         Looked::Row {
             distance: _,
             weight,
@@ -124,15 +110,12 @@ fn near_surface(threshold: f32, looked: Looked) -> Result<bool, Refusal>
 // Whether a cell is stored and near the surface.
 pub fn is_surface_voxel(
     settings: Settings,
-    keys: &[u64],
-    distances: &[f32],
-    weights: &[f32],
-    count: usize,
+    rows: &Rows,
     key: u64,
     threshold: Metres,
 ) -> Result<bool, Refusal>
-    ensures { result ≡ surface_of threshold.0 (looked_up settings (table keys.now distances.now weights.now count) key) }
+    ensures { result ≡ surface_of threshold.0 (looked_up settings (table_of rows.now) key) }
 {
-    let looked = look_up(settings, keys, distances, weights, count, key);
+    let looked = look_up(settings, rows, key);
     near_surface(threshold.0, looked)
 }

@@ -5,8 +5,8 @@
 use batching::{Batched, Counts};
 use floats::Metres;
 use fusing::Fused;
-use table::{Settings, settings_of};
 use refusals::Refusal;
+use table::{Settings, settings_of};
 
 fn line(word: &[u8]) {
     io::write_all(1, word);

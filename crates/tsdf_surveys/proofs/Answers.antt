@@ -24,7 +24,7 @@ use Rattle.refusals.specs.declared.Refusal.{Refusal}
 pub list_accepted :
     (s : Settings) (ks : List ℕ) (ds ws : List Float) (n : ℕ) (threshold : Float) (room : ℕ)
     → list_check s (table ks ds ws n) threshold room ≡ (Ok tt)
-    → Accepted ks ds ws n
+    → Accepted (table ks ds ws n)
 unfolding list_check
 list_accepted s ks ds ws n threshold room e =
     accepted s ks ds ws n (with_passed (leb room 1048576) s (table ks ds ws n) (went_on (check_with (leb room 1048576) s (table ks ds ws n)) _ e).0).1

@@ -8,7 +8,7 @@ pub get_surface_voxels_determined :
     (κs : _) (a : _) (r r' : _) (s s' : _)
     → get_surface_voxels.Post κs a r s
     → get_surface_voxels.Post κs a r' s'
-    → (r ≡ r') × (s.1.1.1.1.1.1.0.now ≡ s'.1.1.1.1.1.1.0.now)
+    → (r ≡ r') × (s.1.1.1.0.now ≡ s'.1.1.1.0.now)
 get_surface_voxels_determined κs a r r' s s' p q = (p.0 ∙ sym q.0, p.1 ∙ sym q.1)
 
 pub stats_determined : (κs : _) (a : _) (r r' : _) (s s' : _) → stats.Post κs a r s → stats.Post κs a r' s' → r ≡ r'

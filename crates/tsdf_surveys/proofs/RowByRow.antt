@@ -11,7 +11,7 @@ use lib.Seq.{sets}
 use lib.Ieee.{Float, nan, binary32, add, lt}
 use Rattle.floats.specs.Floats.{zero32, size_of, smaller_of, larger_of}
 use Rattle.lists.specs.Lists.{kept}
-use Rattle.table.specs.Table.{Row, rows_of}
+use Rattle.table.specs.Table.{Row, rows_of, table}
 use Rattle.table.proofs.RowLaws.{row_at_lem}
 use Rattle.tsdf_surveys.specs.declared.Tally.{Tally}
 use Rattle.tsdf_surveys.specs.Surface.{is_surface, surface_keys}
@@ -34,7 +34,7 @@ module _ (ks : List ℕ) (ds ws : List Float) (n : ℕ) where
   unfolding tallied_all
   rows_tallied i h size t = rw (none_left i h)
 
-  module _ (ok : Accepted ks ds ws n) (i : ℕ) (h : i < n) where
+  module _ (ok : Accepted (table ks ds ws n)) (i : ℕ) (h : i < n) where
     -- a row of the surface, and another
     pub surface_taken :
         (threshold : Float)

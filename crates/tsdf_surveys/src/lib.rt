@@ -9,11 +9,12 @@ ghost use Rattle.table.specs.Table.{table, rows_of};
 ghost use Rattle.tsdf_surveys.specs.Surface.{is_surface, surface_keys, list_check, listed_if, surface_listed, surface_held};
 ghost use Rattle.tsdf_surveys.specs.Statistics.{no_tally, tallied, tallied_all, unless_start, mean_of, statistics_of};
 ghost use Rattle.tsdf_questions.specs.Steps.{Accepted};
+ghost use Rattle.table.specs.Read.{table_of, rows_in};
 
 use floats::{Metres, is_finite, larger, size, smaller};
 use lists::{LONGEST_LIST, clear_from_u64, count_of, room_for};
 use refusals::Refusal;
-use table::{Settings, check_table, check_with, then_test};
+use table::{Rows, Settings, check_table, check_with, then_test};
 
 // How many rows there are and lie near the surface, the ends of their distances, and their mean weight.
 #[derive(Clone, Copy)]
@@ -51,19 +52,18 @@ fn put_key(out: &mut [u64], at: usize, key: u64)
 }
 
 // The keys of the surface's cells; those past the list's end are only counted.
-fn list_surface(
-    threshold: f32,
-    keys: &[u64],
-    distances: &[f32],
-    weights: &[f32],
-    count: usize,
-    out: &mut [u64],
-) -> usize
-    requires { Accepted keys.now distances.now weights.now count }
-    ensures value { result ≡ length (surface_keys threshold (rows_of keys.now distances.now weights.now count)) }
+fn list_surface(threshold: f32, rows: &Rows, out: &mut [u64]) -> usize
+    requires { Accepted (table_of rows.now) }
+    ensures value { result ≡ length (surface_keys threshold (rows_in rows.now)) }
     ensures out_after { out.new ≡ sets out.old 0
-        (surface_keys threshold (rows_of keys.now distances.now weights.now count)) }
+        (surface_keys threshold (rows_in rows.now)) }
 {
+    let Rows {
+        keys,
+        distances,
+        weights,
+        count,
+    } = *rows;
     let mut n = 0;
     let mut i = 0;
     while i < count {
@@ -79,25 +79,10 @@ fn list_surface(
 }
 
 // Refusals 1, 2, of the list to be filled too, 3 and 5.
-fn check_list(
-    settings: Settings,
-    keys: &[u64],
-    distances: &[f32],
-    weights: &[f32],
-    count: usize,
-    threshold: f32,
-    room: usize,
-) -> Result<(), Refusal>
-    ensures { result ≡ list_check settings (table keys.now distances.now weights.now count) threshold room }
+fn check_list(settings: Settings, rows: &Rows, threshold: f32, room: usize) -> Result<(), Refusal>
+    ensures { result ≡ list_check settings (table_of rows.now) threshold room }
 {
-    let verdict = check_with(
-        room <= LONGEST_LIST,
-        settings,
-        keys,
-        distances,
-        weights,
-        count,
-    );
+    let verdict = check_with(room <= LONGEST_LIST, settings, rows);
     then_test(verdict, is_finite(threshold), Refusal::BadReading)
 }
 
@@ -105,47 +90,41 @@ fn check_list(
 fn list_checked(
     verdict: Result<(), Refusal>,
     threshold: f32,
-    keys: &[u64],
-    distances: &[f32],
-    weights: &[f32],
-    count: usize,
+    rows: &Rows,
     out: &mut [u64],
 ) -> Result<usize, Refusal>
-    requires { verdict ≡ (Ok tt) → Accepted keys.now distances.now weights.now count }
+    requires { verdict ≡ (Ok tt) → Accepted (table_of rows.now) }
     ensures value { result ≡ listed_if verdict
-        (surface_keys threshold (rows_of keys.now distances.now weights.now count))
+        (surface_keys threshold (rows_in rows.now))
         (length out.old) }
     ensures out_after { cleared_from 0 (count_of result) out.new
         ≡ held_for 0 result (length out.old)
-        (surface_keys threshold (rows_of keys.now distances.now weights.now count)) }
+        (surface_keys threshold (rows_in rows.now)) }
 {
     if let Err(why) = verdict {
         return Err(why);
     }
-    let n = list_surface(threshold, keys, distances, weights, count, out);
+    let n = list_surface(threshold, rows, out);
     room_for(n, out.len())
 }
 
 // The keys of the cells near the surface, and then zeros; zeros where it is refused.
 pub fn get_surface_voxels(
     settings: Settings,
-    keys: &[u64],
-    distances: &[f32],
-    weights: &[f32],
-    count: usize,
+    rows: &Rows,
     threshold: Metres,
     out: &mut [u64],
 ) -> Result<usize, Refusal>
     ensures value { result ≡ surface_listed settings
-        (table keys.now distances.now weights.now count) threshold.0
+        (table_of rows.now) threshold.0
         (length out.old) }
     ensures out_after { out.new ≡ surface_held settings
-        (table keys.now distances.now weights.now count) threshold.0
+        (table_of rows.now) threshold.0
         (length out.old) }
 {
     let below = threshold.0;
-    let verdict = check_list(settings, keys, distances, weights, count, below, out.len());
-    let listed = list_checked(verdict, below, keys, distances, weights, count, out);
+    let verdict = check_list(settings, rows, below, out.len());
+    let listed = list_checked(verdict, below, rows, out);
     clear_from_u64(out, count_of(listed));
     listed
 }
@@ -176,10 +155,16 @@ fn add_row(near: f32, sum: Tally, distance: f32, weight: f32) -> Tally
 }
 
 // All rows.
-fn tally_rows(near: f32, keys: &[u64], distances: &[f32], weights: &[f32], count: usize) -> Tally
-    requires { Accepted keys.now distances.now weights.now count }
-    ensures { result ≡ tallied_all near no_tally (rows_of keys.now distances.now weights.now count) }
+fn tally_rows(near: f32, rows: &Rows) -> Tally
+    requires { Accepted (table_of rows.now) }
+    ensures { result ≡ tallied_all near no_tally (rows_in rows.now) }
 {
+    let Rows {
+        distances,
+        weights,
+        count,
+        ..
+    } = *rows;
     let mut sum = Tally {
         near: 0,
         low: 3.40282347e38,
@@ -212,19 +197,14 @@ fn mean(sum: f32, count: usize) -> f32
 }
 
 // The statistics of a table.
-pub fn stats(
-    settings: Settings,
-    keys: &[u64],
-    distances: &[f32],
-    weights: &[f32],
-    count: usize,
-) -> Result<TsdfStats, Refusal>
-    ensures { result ≡ statistics_of settings (table keys.now distances.now weights.now count) }
+pub fn stats(settings: Settings, rows: &Rows) -> Result<TsdfStats, Refusal>
+    ensures { result ≡ statistics_of settings (table_of rows.now) }
 {
-    match check_table(settings, keys, distances, weights, count) {
+    let Rows { count, .. } = *rows;
+    match check_table(settings, rows) {
         Err(why) => Err(why),
         Ok(()) => {
-            let sum = tally_rows(settings.voxel_size.0, keys, distances, weights, count);
+            let sum = tally_rows(settings.voxel_size.0, rows);
             Ok(TsdfStats {
                 voxel_count: count,
                 surface_voxel_count: sum.near,

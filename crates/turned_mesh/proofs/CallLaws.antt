@@ -88,7 +88,7 @@ module _ (s : Settings) (ks : List ℕ) (ds ws : List Float) (cnt : ℕ) (r : Ro
     known : (mesh_check s t r ≡ (Ok tt)) × (have_room_on Closed t r ≡ true) × (i ≡ length es) × (j ≡ length ts)
     known = done_on Closed s t r i j (sym m.answer ∙ e)
 
-    acc : Accepted ks ds ws cnt × (r.second ≡ r.first)
+    acc : Accepted (table ks ds ws cnt) × (r.second ≡ r.first)
     acc = passed-mesh Closed s ks ds ws cnt r known.0
 
     three_rooms : (eqb r.t0 r.t1 && eqb r.t0 r.t2) && leb r.t0 1048576 ≡ true

@@ -8,6 +8,9 @@ pub extract_turned_mesh_determined :
     → extract_turned_mesh.Post κs a r s
     → extract_turned_mesh.Post κs a r' s'
     → (r ≡ r')
+    × (s.1.1.0.now ≡ s'.1.1.0.now)
+    × (s.1.1.1.0.now ≡ s'.1.1.1.0.now)
+    × (s.1.1.1.1.0.now ≡ s'.1.1.1.1.0.now)
     × (s.1.1.1.1.1.0.now ≡ s'.1.1.1.1.1.0.now)
     × (s.1.1.1.1.1.1.0.now ≡ s'.1.1.1.1.1.1.0.now)
     × (s.1.1.1.1.1.1.1.0.now ≡ s'.1.1.1.1.1.1.1.0.now)
@@ -16,9 +19,6 @@ pub extract_turned_mesh_determined :
     × (s.1.1.1.1.1.1.1.1.1.1.0.now ≡ s'.1.1.1.1.1.1.1.1.1.1.0.now)
     × (s.1.1.1.1.1.1.1.1.1.1.1.0.now ≡ s'.1.1.1.1.1.1.1.1.1.1.1.0.now)
     × (s.1.1.1.1.1.1.1.1.1.1.1.1.0.now ≡ s'.1.1.1.1.1.1.1.1.1.1.1.1.0.now)
-    × (s.1.1.1.1.1.1.1.1.1.1.1.1.1.0.now ≡ s'.1.1.1.1.1.1.1.1.1.1.1.1.1.0.now)
-    × (s.1.1.1.1.1.1.1.1.1.1.1.1.1.1.0.now ≡ s'.1.1.1.1.1.1.1.1.1.1.1.1.1.1.0.now)
-    × (s.1.1.1.1.1.1.1.1.1.1.1.1.1.1.1.0.now ≡ s'.1.1.1.1.1.1.1.1.1.1.1.1.1.1.1.0.now)
 extract_turned_mesh_determined κs a r r' s s' p q = (
   p.answer ∙ sym q.answer,
   p.first ∙ sym q.first,

@@ -8,32 +8,30 @@ ghost use Rattle.mesh.specs.Mesh.{rooms as rooms_of};
 ghost use Rattle.winding.specs.Winding.{turned_triangles};
 ghost use Rattle.turned_mesh.specs.Turned.{IsTurnedMesh};
 ghost use Rattle.turned_mesh.specs.Steps.{ReadyIf, turned_for};
+ghost use Rattle.table.specs.Read.{table_of, rows_in};
 
-use table::Settings;
 use refusals::Refusal;
+use table::{Rows, Settings};
 
 // The triangles turned, by the answer to the closed mesh: nothing where that is refused.
 fn turn_meshed(
     meshed: Result<(usize, usize), Refusal>,
-    keys: &[u64],
-    distances: &[f32],
-    weights: &[f32],
-    count: usize,
+    rows: &Rows,
     first: &[u64],
     second: &[u64],
     t0: &[u32],
     t1: &mut [u32],
     t2: &mut [u32],
 )
-    requires { ReadyIf meshed keys.now distances.now weights.now count first.now second.now t0.now t1.old t2.old }
+    requires { ReadyIf meshed rows.now.keys.now rows.now.distances.now rows.now.weights.now rows.now.count first.now second.now t0.now t1.old t2.old }
     ensures t1_after { t1.new ≡ turned_for meshed
-        (column1 (turned_triangles (rows_of keys.now distances.now weights.now count))) t1.old }
+        (column1 (turned_triangles (rows_in rows.now))) t1.old }
     ensures t2_after { t2.new ≡ turned_for meshed
-        (column2 (turned_triangles (rows_of keys.now distances.now weights.now count))) t2.old }
+        (column2 (turned_triangles (rows_in rows.now))) t2.old }
 {
     match meshed {
         Ok((edges, triangles)) => turning::turn_triangles(
-            keys, distances, weights, count, first, second, edges, triangles, t0, t1, t2,
+            rows, first, second, edges, triangles, t0, t1, t2,
         ),
         Err(_) => {}
     }
@@ -43,10 +41,7 @@ fn turn_meshed(
 // list.
 pub fn extract_turned_mesh(
     settings: Settings,
-    keys: &[u64],
-    distances: &[f32],
-    weights: &[f32],
-    count: usize,
+    rows: &Rows,
     first: &mut [u64],
     second: &mut [u64],
     px: &mut [f32],
@@ -59,7 +54,7 @@ pub fn extract_turned_mesh(
     t1: &mut [u32],
     t2: &mut [u32],
 ) -> Result<(usize, usize), Refusal>
-    ensures { IsTurnedMesh settings (table keys.now distances.now weights.now count)
+    ensures { IsTurnedMesh settings (table_of rows.now)
         (rooms_of (length first.old) (length second.old) (length px.old)
         (length py.old) (length pz.old) (length nx.old) (length ny.old)
         (length nz.old) 0 (length t0.old)
@@ -68,11 +63,8 @@ pub fn extract_turned_mesh(
         ny.new nz.new t0.new t1.new t2.new }
 {
     let meshed = mesh::extract_closed_mesh(
-        settings, keys, distances, weights, count, first, second, px, py, pz, nx, ny, nz, t0, t1,
-        t2,
+        settings, rows, first, second, px, py, pz, nx, ny, nz, t0, t1, t2,
     );
-    turn_meshed(
-        meshed, keys, distances, weights, count, first, second, t0, t1, t2,
-    );
+    turn_meshed(meshed, rows, first, second, t0, t1, t2);
     meshed
 }

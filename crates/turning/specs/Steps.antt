@@ -1,7 +1,7 @@
 -- What the private functions promise each other.
 use Rattle.std.specs.Prelude.{ℕ, ◌<◌, ◌≤◌, ◌≡◌, Bool, cond, List, Float, length, get_or}
 use Rattle.lists.specs.Threes.{Three, three, threes_in}
-use Rattle.table.specs.Table.{rows_of}
+use Rattle.table.specs.Table.{rows_of, table}
 use Rattle.edges.specs.Steps.{Accepted}
 use Rattle.groups.specs.CellEdges.{edges_in}
 use Rattle.tetrahedra.specs.ClosedEdges.{closed_edges}
@@ -49,7 +49,7 @@ pub record AtHand (first second is js ls : List ℕ) (i : ℕ) : Type 0 where
 
 -- an accepted table, two lists that hold its closed edges in front, and three that hold its closed triangles
 pub record Ready (ks : List ℕ) (ds ws : List Float) (n : ℕ) (first second : List ℕ) (m : ℕ) (is js ls : List ℕ) (j : ℕ) : Type 0 where
-  pub accepted : Accepted ks ds ws n
+  pub accepted : Accepted (table ks ds ws n)
   pub even : length second ≡ length first
   pub fits : m ≤ length first
   pub edges : edges_in first second m ≡ closed_edges (rows_of ks ds ws n)

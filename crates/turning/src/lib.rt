@@ -6,6 +6,9 @@ ghost use Rattle.lists.specs.Threes.{three, column1, column2};
 ghost use Rattle.table.specs.Table.{rows_of};
 ghost use Rattle.winding.specs.Winding.{turned_triangles};
 ghost use Rattle.turning.specs.Steps.{Numbers, looks_at, turned_at, AtHand, Ready};
+ghost use Rattle.table.specs.Read.{rows_in};
+
+use table::Rows;
 
 // Of an edge's two cells the inside one, by the side of the first.
 fn inside_one(side: bool, first: u64, second: u64) -> u64
@@ -52,10 +55,7 @@ fn turn_at(
 
 // The triangles of the closed mesh, each turned where it looks inwards; a cell's row is searched near that of the triangle before.
 pub fn turn_triangles(
-    keys: &[u64],
-    distances: &[f32],
-    weights: &[f32],
-    count: usize,
+    rows: &Rows,
     first: &[u64],
     second: &[u64],
     edges: usize,
@@ -64,12 +64,18 @@ pub fn turn_triangles(
     t1: &mut [u32],
     t2: &mut [u32],
 )
-    requires { Ready keys.now distances.now weights.now count first.now second.now edges t0.now t1.old t2.old triangles }
-    ensures t1_after { t1.new ≡ column1 (turned_triangles (rows_of keys.now distances.now weights.now count))
+    requires { Ready rows.now.keys.now rows.now.distances.now rows.now.weights.now rows.now.count first.now second.now edges t0.now t1.old t2.old triangles }
+    ensures t1_after { t1.new ≡ column1 (turned_triangles (rows_in rows.now))
         ++ drop triangles t1.old }
-    ensures t2_after { t2.new ≡ column2 (turned_triangles (rows_of keys.now distances.now weights.now count))
+    ensures t2_after { t2.new ≡ column2 (turned_triangles (rows_in rows.now))
         ++ drop triangles t2.old }
 {
+    let Rows {
+        keys,
+        distances,
+        count,
+        ..
+    } = *rows;
     let mut near = 0;
     for i in 0..triangles {
         let a = t0[i] as usize;

@@ -19,7 +19,7 @@ use Rattle.floats.specs.Floats.{million, is_finite}
 use Rattle.floats.proofs.Order.{within_finite}
 use Rattle.floats.proofs.Values.{le_or_lt}
 use Rattle.search.specs.Keys.{ascending, find_by}
-use Rattle.table.specs.Table.{Row, rows_of, row_ok, rows_ok}
+use Rattle.table.specs.Table.{Row, rows_of, row_ok, rows_ok, table}
 use Rattle.table.specs.Rows.{keys_of, stored}
 use Rattle.neighbors.specs.Neighbors.{neighbours}
 use Rattle.edges.specs.Edges.{Edge, edge, edges}
@@ -40,7 +40,7 @@ use Rattle.vertices.specs.EdgeVertices.{EdgeVertex}
 
 -- ---- the lookup by halves is the lookup among the rows
 
-module _ (ks : List ℕ) (ds ws : List Float) (n : ℕ) (acc : Accepted ks ds ws n) where
+module _ (ks : List ℕ) (ds ws : List Float) (n : ℕ) (acc : Accepted (table ks ds ws n)) where
   by_found : (key : ℕ) (f : Option ℕ) → f ≡ find_by key (take n ks) → distance_at ds f ≡ distance_in (rows_of ks ds ws n) key
   unfolding distance_at distance_of
   by_found key (Some i) e =
@@ -73,7 +73,7 @@ module _ (look : Lookup) (size : Float) where
   vertices_of_edges (e ∷ es) = ap {B = List Vertex} (λ vs. vertex_at look size e.first e.second ∷ vs) (vertices_of_edges es)
 
 -- on an accepted table, as document 01 says it over the rows
-module _ (ks : List ℕ) (ds ws : List Float) (n : ℕ) (acc : Accepted ks ds ws n) (size : Float) (es : List Edge) where
+module _ (ks : List ℕ) (ds ws : List Float) (n : ℕ) (acc : Accepted (table ks ds ws n)) (size : Float) (es : List Edge) where
   pub own_vertices : vertices_of (distance_by ks ds n) size (firsts es) (seconds es)
       ≡ map (λ (e : Edge). vertex_at (distance_in (rows_of ks ds ws n)) size e.first e.second) es
   own_vertices =

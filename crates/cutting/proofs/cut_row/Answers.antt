@@ -32,9 +32,9 @@ pub returns : goal.returns
 returns c =
     let a = c.args in
     let es = edges_in a.first.now a.second.now a.edges in
-    let side = lt (get_or a.distances.now a.row nan) zero32 in
+    let side = lt (get_or a.rows.now.distances.now a.row nan) zero32 in
     let cut =
-    lent_cut a.keys.now a.distances.now a.weights.now a.count c.requires.0 a.row c.requires.1 _
+    lent_cut a.rows.now.keys.now a.rows.now.distances.now a.rows.now.weights.now a.rows.now.count c.requires.0 a.row c.requires.1 _
     c.higher_of-above.ensures es side refl in
     record {
       puts = rw (← cut) c.cut_first.ensures.puts;

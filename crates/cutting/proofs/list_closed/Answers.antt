@@ -14,14 +14,14 @@ cut_checked-triangles-requires c =
 pub returns : goal.returns
 returns c =
     let a = c.args in
-    let t = table a.keys.now a.distances.now a.weights.now a.count in
+    let t = table a.rows.now.keys.now a.rows.now.distances.now a.rows.now.weights.now a.rows.now.count in
     let e = c.list_tested-edges.ensures in
     let k = c.cut_checked-triangles.ensures in
     let n = c.count_of-n.ensures in
     let edges =
-    e.value ∙ closed_answer_lem a.verdict a.keys.now a.distances.now a.weights.now a.count _ _ c.requires in
+    e.value ∙ closed_answer_lem a.verdict a.rows.now.keys.now a.rows.now.distances.now a.rows.now.weights.now a.rows.now.count _ _ c.requires in
     let triangles = cut_answered a.verdict t _ _ _ _ _ _ edges k.answer in
-    let held = held_closed a.verdict a.keys.now a.distances.now a.weights.now a.count _ _ c.requires _ e.value in
+    let held = held_closed a.verdict a.rows.now.keys.now a.rows.now.distances.now a.rows.now.weights.now a.rows.now.count _ _ c.requires _ e.value in
     record {
       edges = edges;
       first = held (λ (x : Edge). x.first) _ _ e.first_after;

@@ -16,7 +16,7 @@ pub returns : goal.returns
 returns c =
     let verdict = c.check-verdict.ensures in
     let a = c.args in
-    let t = table a.keys.now a.distances.now a.weights.now a.count in
+    let t = table a.rows.now.keys.now a.rows.now.distances.now a.rows.now.weights.now a.rows.now.count in
     let done = c.list_tested.ensures in
     record {
       value = answered Open a.settings t _ _ _ verdict _ done.value;

@@ -12,7 +12,7 @@ pub returns-in-Err : goal.returns-in-Err
 unfolding answer_if
 returns-in-Err c =
     let a = c.args in
-    let es = edges_on a.surface (rows_of a.keys.now a.distances.now a.weights.now a.count) in
+    let es = edges_on a.surface (rows_of a.rows.now.keys.now a.rows.now.distances.now a.rows.now.weights.now a.rows.now.count) in
     record {
       value = rw c.in-Err.is refl;
       first_after = refused_held 0 _ a.first.now (firsts es);

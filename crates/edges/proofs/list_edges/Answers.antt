@@ -26,7 +26,7 @@ loop-row-preserved c =
       omega arith,
       omega (arith, c.list_row-end.ensures.upper_bound),
       row_turn neighbours _ _ c.loop-row.row _
-          (row_at_lem a.keys.now a.distances.now a.weights.now a.count c.loop-row.row p.distances
+          (row_at_lem a.rows.now.keys.now a.rows.now.distances.now a.rows.now.weights.now a.rows.now.count c.loop-row.row p.distances
           p.weights below p.fits)
           _ _ _ _ _ _ _ _ _ _ c.loop-row.invariant.2 c.list_row-end.ensures.wrote,
     )
@@ -35,6 +35,6 @@ pub returns : goal.returns
 unfolding edges
 returns c =
     let a = c.args in
-    let rows = rows_of a.keys.now a.distances.now a.weights.now a.count in
-    let all : length rows ≤ c.loop-row.row = omega (arith, length-take a.count (beside a.keys.now a.distances.now a.weights.now)) in
+    let rows = rows_of a.rows.now.keys.now a.rows.now.distances.now a.rows.now.weights.now a.rows.now.count in
+    let all : length rows ≤ c.loop-row.row = omega (arith, length-take a.rows.now.count (beside a.rows.now.keys.now a.rows.now.distances.now a.rows.now.weights.now)) in
     done _ _ _ _ _ _ _ (rw (no_row_left neighbours _ rows c.loop-row.row all) at c.loop-row.invariant.2)

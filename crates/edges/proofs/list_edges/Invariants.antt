@@ -8,9 +8,9 @@ use Rattle.edges.proofs.RoundLaws.{Writing, from}
 use Rattle.edges.proofs.list_edges.Given as goal
 
 abbrev pub invariant-loop-row : goal.invariant-loop-row
-invariant-loop-row l = let rows = rows_of l.keys l.distances l.weights l.count in
+invariant-loop-row l = let rows = rows_of l.fn.rows.keys.now l.fn.rows.distances.now l.fn.rows.weights.now l.fn.rows.count in
     let left = from neighbours (crosses_on l.surface rows) rows in
-    (l.row ≤ l.count) × (l.end ≤ 14 * l.row) × Writing (left 0) 0 l.initial.first l.initial.second (left l.row) l.end l.first l.second
+    (l.row ≤ l.fn.rows.count) × (l.end ≤ 14 * l.row) × Writing (left 0) 0 l.initial.first l.initial.second (left l.row) l.end l.first l.second
 
 abbrev pub decreases-loop-row : goal.decreases-loop-row
-decreases-loop-row l = l.count - l.row
+decreases-loop-row l = l.fn.rows.count - l.row

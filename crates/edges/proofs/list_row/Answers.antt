@@ -42,13 +42,13 @@ pub loop-i-preserved : goal.loop-i-preserved
 loop-i-preserved c =
     let a = c.args in
     let i = c.loop-i.i in
-    let k = get_or a.keys.now a.row 0 in
+    let k = get_or a.rows.now.keys.now a.row 0 in
     let near = c.around-near.ensures in
-    let rows = rows_of a.keys.now a.distances.now a.weights.now a.count in
+    let rows = rows_of a.rows.now.keys.now a.rows.now.distances.now a.rows.now.weights.now a.rows.now.count in
     let w = c.loop-i.invariant.2 in
     let h : i < length (neighbours k) = omega (arith, size k near) in
     let e : c.is_listed.result ≡ listed neighbours (crosses_on a.surface rows) rows
-    (row_at a.keys.now a.distances.now a.weights.now a.row) (get_or (neighbours k) i 0) =
+    (row_at a.rows.now.keys.now a.rows.now.distances.now a.rows.now.weights.now a.row) (get_or (neighbours k) i 0) =
     c.is_listed.ensures ∙ ap (listed neighbours _ _ _) (cell k near i) in
     elim c.if-is_listed.branch [
       | then-is_listed p ↦ (
@@ -66,7 +66,7 @@ loop-i-preserved c =
 
 pub returns : goal.returns
 returns c =
-    let k = get_or c.args.keys.now c.args.row 0 in
+    let k = get_or c.args.rows.now.keys.now c.args.row 0 in
     let near = c.around-near.ensures in
     let w = c.loop-i.invariant.2 in
     let all : length (neighbours k) ≤ c.loop-i.i = omega (arith, size k near) in

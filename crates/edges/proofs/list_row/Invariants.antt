@@ -22,8 +22,8 @@ left o ks ds ws n row i =
 abbrev pub invariant-loop-i : goal.invariant-loop-i
 invariant-loop-i l = (l.i ≤ l.n)
     × (l.end ≤ l.at + l.i)
-    × Writing (left l.surface l.keys l.distances l.weights l.count l.row 0) l.at l.initial.first l.initial.second
-    (left l.surface l.keys l.distances l.weights l.count l.row l.i) l.end l.first l.second
+    × Writing (left l.surface l.fn.rows.keys.now l.fn.rows.distances.now l.fn.rows.weights.now l.fn.rows.count l.row 0) l.at l.initial.first l.initial.second
+    (left l.surface l.fn.rows.keys.now l.fn.rows.distances.now l.fn.rows.weights.now l.fn.rows.count l.row l.i) l.end l.first l.second
 
 abbrev pub decreases-loop-i : goal.decreases-loop-i
 decreases-loop-i l = l.n - l.i

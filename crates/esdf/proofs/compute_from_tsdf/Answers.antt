@@ -9,7 +9,7 @@ pub march_if-answer-requires : goal.march_if-answer-requires
 march_if-answer-requires c =
     let a = c.args in
     let e = c.clear.ensures in
-    may_march a.settings a.keys.now a.distances.now a.weights.now a.count a.threshold
+    may_march a.settings a.rows.now.keys.now a.rows.now.distances.now a.rows.now.weights.now a.rows.now.count a.threshold
     a.marched_keys.now a.waiting_keys.now a.marched_distances.now a.waiting_estimates.now _ _ _ _
     (and_eq c.set_ok.ensures c.set_ok-2.ensures) c.check-verdict.ensures e.keys_after e.distances_after e.estimates_after e.cells_after
 
@@ -20,8 +20,8 @@ returns c =
     let k = c.clear.auto in
     let m = c.march_if-answer.auto in
     let t = c.tidy.ensures in
-    march_left a.settings a.keys.now a.distances.now a.weights.now a.count a.threshold
-    a.marched_keys.now a.waiting_keys.now a.marched_distances.now a.waiting_estimates.now l.keys l.cells
+    march_left a.settings a.rows.now.keys.now a.rows.now.distances.now a.rows.now.weights.now a.rows.now.count a.threshold
+    a.marched_keys.now a.waiting_keys.now a.marched_distances.now a.waiting_estimates.now l.fn.rows.keys.now l.cells
     (and_eq c.set_ok.ensures c.set_ok-2.ensures) c.check-verdict.ensures k.keys k.cells _ _ _ _
     (m.keys ∙ k.keys) (m.distances ∙ k.distances) (m.estimates ∙ k.estimates)
     (m.cells ∙ k.cells) _

@@ -19,7 +19,7 @@ returns-in-Ok c =
     let d = c.march in
     let g =
     march_from a.course.size a.course.most (rooms_of a.keys.now a.cells.now) a.threshold
-    (rows_of a.fused_keys.now a.fused_distances.now a.fused_weights.now a.fused_count) in
+    (rows_of a.fused.now.keys.now a.fused.now.distances.now a.fused.now.weights.now a.fused.now.count) in
     passed_first a.verdict g d.new.keys d.new.distances
     d.new.estimates d.new.cells c.marched_of.result c.in-Ok.is
     (answered g d.result c.marched_of.result d.new.keys d.new.distances

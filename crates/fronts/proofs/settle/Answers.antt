@@ -30,7 +30,7 @@ returns-in-Err c =
     λ s h told room.
     settle_no_row
     a.course c.requires.key_value.1 a.lean
-    (seed_in a.threshold (rows_of a.fused_keys.now a.fused_distances.now a.fused_weights.now a.fused_count))
+    (seed_in a.threshold (rows_of a.fused.now.keys.now a.fused.now.distances.now a.fused.now.weights.now a.fused.now.count))
     a.key a.count a.keys.now a.distances.now a.waiting a.estimates.now a.cells.now s h told room x.result
     (x.ensures s.stored (marking_also a.lean a.key s.waiting) h.marked) r.result r.new.keys r.new.distances r.auto.keys
     r.ensures _ c.in-Err.is
@@ -44,7 +44,7 @@ returns-in-Err-spread c =
     λ s h told room.
     settle_no_cell
     a.course c.requires.key_value.1 a.lean
-    (seed_in a.threshold (rows_of a.fused_keys.now a.fused_distances.now a.fused_weights.now a.fused_count))
+    (seed_in a.threshold (rows_of a.fused.now.keys.now a.fused.now.distances.now a.fused.now.weights.now a.fused.now.count))
     a.key a.count a.keys.now a.distances.now a.waiting a.estimates.now a.cells.now s h told room x.result
     (x.ensures s.stored (marking_also a.lean a.key s.waiting) h.marked) r.result r.new.keys r.new.distances r.auto.keys
     r.ensures _ c.in-Ok.is d.result
@@ -60,7 +60,7 @@ returns-in-Ok-spread c =
     λ s h told room.
     settle_done
     a.course c.requires.key_value.1 a.lean
-    (seed_in a.threshold (rows_of a.fused_keys.now a.fused_distances.now a.fused_weights.now a.fused_count))
+    (seed_in a.threshold (rows_of a.fused.now.keys.now a.fused.now.distances.now a.fused.now.weights.now a.fused.now.count))
     a.key a.count a.keys.now a.distances.now a.waiting a.estimates.now a.cells.now s h told room x.result
     (x.ensures s.stored (marking_also a.lean a.key s.waiting) h.marked) r.result r.new.keys r.new.distances r.auto.keys
     r.ensures _ c.in-Ok.is d.result

@@ -25,7 +25,7 @@ returns-in-Err c =
     let r = c.store in
     λ s h o told room.
     sow_no_row
-    a.course a.lean (seed_in a.threshold (rows_of a.fused_keys.now a.fused_distances.now a.fused_weights.now a.fused_count))
+    a.course a.lean (seed_in a.threshold (rows_of a.fused.now.keys.now a.fused.now.distances.now a.fused.now.weights.now a.fused.now.count))
     a.key a.count a.keys.now a.distances.now a.waiting a.estimates.now a.cells.now s h o told room a.distance c.requires.key_value.1
     r.result r.new.keys r.new.distances r.auto.keys r.ensures _ c.in-Err.is
 
@@ -36,7 +36,7 @@ returns-in-Err-wait_around c =
     let d = c.wait_around in
     λ s h o told room.
     sow_no_cell
-    a.course a.lean (seed_in a.threshold (rows_of a.fused_keys.now a.fused_distances.now a.fused_weights.now a.fused_count))
+    a.course a.lean (seed_in a.threshold (rows_of a.fused.now.keys.now a.fused.now.distances.now a.fused.now.weights.now a.fused.now.count))
     a.key a.count a.keys.now a.distances.now a.waiting a.estimates.now a.cells.now s h o told room a.distance c.requires.key_value.1
     r.result r.new.keys r.new.distances r.auto.keys r.ensures _ c.in-Ok.is c.size.result c.size.ensures d.result
     d.new.keys d.new.distances
@@ -49,7 +49,7 @@ returns-in-Ok-wait_around c =
     let d = c.wait_around in
     λ s h o told room.
     sow_done
-    a.course a.lean (seed_in a.threshold (rows_of a.fused_keys.now a.fused_distances.now a.fused_weights.now a.fused_count))
+    a.course a.lean (seed_in a.threshold (rows_of a.fused.now.keys.now a.fused.now.distances.now a.fused.now.weights.now a.fused.now.count))
     a.key a.count a.keys.now a.distances.now a.waiting a.estimates.now a.cells.now s h o told room a.distance c.requires.key_value.1
     r.result r.new.keys r.new.distances r.auto.keys r.ensures _ c.in-Ok.is c.size.result c.size.ensures d.result
     d.new.keys d.new.distances

@@ -19,7 +19,7 @@ pub returns-then-spreads : goal.returns-then-spreads
 returns-then-spreads c =
     let a = c.args in
     let d = c.wait_around in
-    spread_waits a.lean (seed_in a.threshold (rows_of a.fused_keys.now a.fused_distances.now a.fused_weights.now a.fused_count))
+    spread_waits a.lean (seed_in a.threshold (rows_of a.fused.now.keys.now a.fused.now.distances.now a.fused.now.weights.now a.fused.now.count))
     (lattice_of a.course) (marched_row a.key a.distance) a.keys.now a.distances.now a.waiting a.estimates.now a.cells.now
     c.onward-estimate.result c.onward-estimate.ensures c.spreads.result c.spreads.ensures
     c.if-spreads.true d.result d.new.keys d.new.distances
@@ -28,6 +28,6 @@ returns-then-spreads c =
 pub returns-else-spreads : goal.returns-else-spreads
 returns-else-spreads c =
     let a = c.args in
-    spread_stays a.lean (seed_in a.threshold (rows_of a.fused_keys.now a.fused_distances.now a.fused_weights.now a.fused_count))
+    spread_stays a.lean (seed_in a.threshold (rows_of a.fused.now.keys.now a.fused.now.distances.now a.fused.now.weights.now a.fused.now.count))
     (lattice_of a.course) (marched_row a.key a.distance) a.keys.now a.distances.now a.waiting a.estimates.now a.cells.now
     c.onward-estimate.result c.onward-estimate.ensures c.spreads.result c.spreads.ensures c.if-spreads.false

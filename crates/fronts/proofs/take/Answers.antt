@@ -26,7 +26,7 @@ returns-then-is_finite c =
     let a = c.args in
     let p = c.pop in
     λ s h told room.
-    take_skips a.lean (seed_in a.threshold (rows_of a.fused_keys.now a.fused_distances.now a.fused_weights.now a.fused_count))
+    take_skips a.lean (seed_in a.threshold (rows_of a.fused.now.keys.now a.fused.now.distances.now a.fused.now.weights.now a.fused.now.count))
     (lattice_of a.course) s a.count a.keys.now a.distances.now a.waiting a.estimates.now a.cells.now h c.requires.waiting_nonzero.0
     p.new.estimates p.new.cells p.ensures p.auto.cells c.known.result c.known.ensures
     (sym c.is_finite.ensures ∙ c.if-is_finite.true)
@@ -46,7 +46,7 @@ returns c =
     let p = c.pop in
     let d = c.settle in
     λ s h told room.
-    take_settles a.lean (seed_in a.threshold (rows_of a.fused_keys.now a.fused_distances.now a.fused_weights.now a.fused_count))
+    take_settles a.lean (seed_in a.threshold (rows_of a.fused.now.keys.now a.fused.now.distances.now a.fused.now.weights.now a.fused.now.count))
     (lattice_of a.course) s a.count a.keys.now a.distances.now a.waiting a.estimates.now a.cells.now h c.requires.waiting_nonzero.0
     p.new.estimates p.new.cells p.ensures p.auto.cells c.known.result c.known.ensures
     (sym c.is_finite.ensures ∙ c.if-is_finite.false) told room d.result

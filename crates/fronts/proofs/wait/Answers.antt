@@ -36,7 +36,7 @@ pub returns-then-lean : goal.returns-then-lean
 returns-then-lean c =
     let a = c.args in
     let d = c.wait_lean in
-    wait_as a.lean true (seed_in a.threshold (rows_of a.fused_keys.now a.fused_distances.now a.fused_weights.now a.fused_count))
+    wait_as a.lean true (seed_in a.threshold (rows_of a.fused.now.keys.now a.fused.now.distances.now a.fused.now.weights.now a.fused.now.count))
     (lattice_of a.course) a.from (a.key ∷ []) (wait (length a.cells.now) a.estimate a.key)
     a.keys.now a.distances.now a.waiting a.estimates.now a.cells.now d.result
     a.keys.now a.distances.now d.new.estimates d.new.cells c.if-lean.true d.ensures
@@ -45,7 +45,7 @@ pub returns-else-lean : goal.returns-else-lean
 returns-else-lean c =
     let a = c.args in
     let d = c.wait_marked in
-    wait_as a.lean false (seed_in a.threshold (rows_of a.fused_keys.now a.fused_distances.now a.fused_weights.now a.fused_count))
+    wait_as a.lean false (seed_in a.threshold (rows_of a.fused.now.keys.now a.fused.now.distances.now a.fused.now.weights.now a.fused.now.count))
     (lattice_of a.course) a.from (a.key ∷ []) (wait (length a.cells.now) a.estimate a.key)
     a.keys.now a.distances.now a.waiting a.estimates.now a.cells.now d.result
     d.new.keys d.new.distances d.new.estimates d.new.cells c.if-lean.false

@@ -41,7 +41,7 @@ pub returns-in-Err : goal.returns-in-Err
 returns-in-Err c =
     let d = c.wait in
     let a = c.args in
-    rest_stop a.lean (seed_in a.threshold (rows_of a.fused_keys.now a.fused_distances.now a.fused_weights.now a.fused_count))
+    rest_stop a.lean (seed_in a.threshold (rows_of a.fused.now.keys.now a.fused.now.distances.now a.fused.now.weights.now a.fused.now.count))
     (lattice_of a.course) a.key a.estimate (neighbours a.key) _ c.loop-i.invariant.0 (neighbours_once a.key) a.keys.now a.distances.now
     a.waiting
     a.estimates.now a.cells.now
@@ -65,7 +65,7 @@ loop-i-preserved c =
       ◌∙◌ {b = length c.loop-i.distances} k.distances i.5,
       ◌∙◌ {b = length c.loop-i.estimates} k.estimates i.6,
       ◌∙◌ {b = length c.loop-i.cells} k.cells i.7,
-      rest_more a.lean (seed_in a.threshold (rows_of a.fused_keys.now a.fused_distances.now a.fused_weights.now a.fused_count))
+      rest_more a.lean (seed_in a.threshold (rows_of a.fused.now.keys.now a.fused.now.distances.now a.fused.now.weights.now a.fused.now.count))
           (lattice_of a.course) a.key a.estimate (neighbours a.key) _ c.loop-i.invariant.0 (neighbours_once a.key) a.keys.now
           a.distances.now a.waiting
           a.estimates.now a.cells.now
@@ -80,7 +80,7 @@ loop-i-preserved c =
 pub returns : goal.returns
 returns c =
     let a = c.args in
-    rest_none a.lean (seed_in a.threshold (rows_of a.fused_keys.now a.fused_distances.now a.fused_weights.now a.fused_count))
+    rest_none a.lean (seed_in a.threshold (rows_of a.fused.now.keys.now a.fused.now.distances.now a.fused.now.weights.now a.fused.now.count))
     (lattice_of a.course) a.key a.estimate (neighbours a.key) _ c.loop-i.invariant.0 (neighbours_once a.key) a.keys.now a.distances.now
     a.waiting
     a.estimates.now a.cells.now

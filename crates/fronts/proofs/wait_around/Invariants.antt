@@ -20,7 +20,7 @@ invariant-loop-i l = (l.list ≡ padded 0 14 (neighbours l.key))
     × (length l.distances ≡ length l.initial.distances)
     × (length l.estimates ≡ length l.initial.estimates)
     × (length l.cells ≡ length l.initial.cells)
-    × Rest l.lean (seed_in l.threshold (rows_of l.fused_keys l.fused_distances l.fused_weights l.fused_count))
+    × Rest l.lean (seed_in l.threshold (rows_of l.fn.fused.keys.now l.fn.fused.distances.now l.fn.fused.weights.now l.fn.fused.count))
     (lattice_of l.course) l.key l.estimate (neighbours l.key)
     l.initial.keys l.initial.distances l.waiting l.initial.estimates l.initial.cells l.i l.keys l.distances l.held l.estimates l.cells
 

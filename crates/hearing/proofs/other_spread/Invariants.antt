@@ -20,9 +20,9 @@ invariant-loop-i l = (l.list ≡ padded 0 14 (neighbours l.key))
     × (l.i ≤ l.n)
     × ((rs : List MarchedRow) (ws : List ℕ)
     → Marked rs ws l.keys l.distances
-    → other_spread (seed_in l.threshold (rows_of l.fused_keys l.fused_distances l.fused_weights l.fused_count))
+    → other_spread (seed_in l.threshold (rows_of l.fn.fused.keys.now l.fn.fused.distances.now l.fn.fused.weights.now l.fn.fused.count))
     (lattice_of l.course) l.from rs (neighbours l.key)
-    ≡ other_spread (seed_in l.threshold (rows_of l.fused_keys l.fused_distances l.fused_weights l.fused_count))
+    ≡ other_spread (seed_in l.threshold (rows_of l.fn.fused.keys.now l.fn.fused.distances.now l.fn.fused.weights.now l.fn.fused.count))
     (lattice_of l.course) l.from rs (drop l.i (neighbours l.key)))
 
 abbrev pub decreases-loop-i : goal.decreases-loop-i

@@ -9,5 +9,5 @@ returns c =
     let e = c.list_tested-edges.ensures in
     let b = c.build_triangles-built.ensures in
     λ fit.
-    drawn_open a.verdict a.keys.now a.distances.now a.weights.now a.count _ _ c.requires _ fit _ _ _ _ _ e.value
+    drawn_open a.verdict a.rows.now.keys.now a.rows.now.distances.now a.rows.now.weights.now a.rows.now.count _ _ c.requires _ fit _ _ _ _ _ e.value
     e.first_after e.second_after c.count_of-n.ensures b.value _ _ _ _ b.groups_after b.t0_after b.t1_after b.t2_after

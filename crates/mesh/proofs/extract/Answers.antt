@@ -13,7 +13,7 @@ pub draw-drawn-requires : goal.draw-drawn-requires
 draw-drawn-requires c =
     let a = c.args in
     λ told.
-    passing a.surface a.settings a.keys.now a.distances.now a.weights.now a.count
+    passing a.surface a.settings a.rows.now.keys.now a.rows.now.distances.now a.rows.now.weights.now a.rows.now.count
     (rooms_of (length a.first.now) (length a.second.now) (length a.px.now) (length a.py.now)
     (length a.pz.now) (length a.nx.now) (length a.ny.now) (length a.nz.now)
     (length a.groups.now) (length a.t0.now) (length a.t1.now) (length a.t2.now))
@@ -34,7 +34,7 @@ returns c =
     let normals = c.settle_places-2.ensures in
     let triangles = c.settle_triangles.ensures in
     -- what was done
-    let run : Run a.surface a.settings (table a.keys.now a.distances.now a.weights.now a.count) r
+    let run : Run a.surface a.settings (table a.rows.now.keys.now a.rows.now.distances.now a.rows.now.weights.now a.rows.now.count) r
     c.check-verdict.result c.draw-drawn.result c.count_of-n.result c.answer-meshed.result
     l.first l.second l.groups l.t0 l.t1 l.t2 =
     record {

@@ -11,7 +11,7 @@ use Rattle.owning.proofs.load_own.Goals as goal
 pub locate-requires : goal.locate-requires
 locate-requires c =
     let s = c.args in
-    let f = lengths_known (length s.keys.now) (length s.distances.now) (length s.weights.now) s.count c.requires.count_value in
+    let f = lengths_known (length s.rows.now.keys.now) (length s.rows.now.distances.now) (length s.rows.now.weights.now) s.rows.now.count c.requires.count_value in
     let o = lengths_known (length s.own_keys.now) (length s.own_distances.now) (length s.own_weights.now) s.own c.requires.own_value in
     record {
       count_in_bounds = (f.0, f.3, c.requires.keys_value.0);
@@ -21,25 +21,25 @@ locate-requires c =
 pub load_f32-requires : goal.load_f32-requires
 load_f32-requires c =
     let s = c.args in
-    let f = lengths_known (length s.keys.now) (length s.distances.now) (length s.weights.now) s.count c.requires.count_value in
+    let f = lengths_known (length s.rows.now.keys.now) (length s.rows.now.distances.now) (length s.rows.now.weights.now) s.rows.now.count c.requires.count_value in
     let o = lengths_known (length s.own_keys.now) (length s.own_distances.now) (length s.own_weights.now) s.own c.requires.own_value in
     record {
       own_in_bounds = (omega (arith, c.locate.auto.seats, c.requires.keys_value.1), omega (arith, o));
-      within = located_within (take s.count s.keys.now) s.own_keys.now _ s.own c.locate.ensures o.0
+      within = located_within (take s.rows.now.count s.rows.now.keys.now) s.own_keys.now _ s.own c.locate.ensures o.0
           (omega (arith, c.locate.auto.seats, c.requires.keys_value.1)) _
-          (omega (arith, f, length-take-le s.count s.keys.now f.0));
+          (omega (arith, f, length-take-le s.rows.now.count s.rows.now.keys.now f.0));
     }
 
 pub load_f32-requires-2 : goal.load_f32-requires-2
 load_f32-requires-2 c =
     let s = c.args in
-    let f = lengths_known (length s.keys.now) (length s.distances.now) (length s.weights.now) s.count c.requires.count_value in
+    let f = lengths_known (length s.rows.now.keys.now) (length s.rows.now.distances.now) (length s.rows.now.weights.now) s.rows.now.count c.requires.count_value in
     let o = lengths_known (length s.own_keys.now) (length s.own_distances.now) (length s.own_weights.now) s.own c.requires.own_value in
     record {
       own_in_bounds = (omega (arith, c.locate.auto.seats, c.requires.keys_value.1), omega (arith, o));
-      within = located_within (take s.count s.keys.now) s.own_keys.now _ s.own c.locate.ensures o.0
+      within = located_within (take s.rows.now.count s.rows.now.keys.now) s.own_keys.now _ s.own c.locate.ensures o.0
           (omega (arith, c.locate.auto.seats, c.requires.keys_value.1)) _
-          (omega (arith, f, length-take-le s.count s.keys.now f.0));
+          (omega (arith, f, length-take-le s.rows.now.count s.rows.now.keys.now f.0));
     }
 
 pub float_from_bits-load_f32 : goal.float_from_bits-load_f32

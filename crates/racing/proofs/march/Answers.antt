@@ -15,7 +15,7 @@ pub take_all-requires : goal.take_all-requires
 take_all-requires c =
     let a = c.args in
     let d = c.sow_all in
-    let x = sown_all a.course a.threshold (rows_of a.fused_keys.now a.fused_distances.now a.fused_weights.now a.fused_count)
+    let x = sown_all a.course a.threshold (rows_of a.fused.now.keys.now a.fused.now.distances.now a.fused.now.weights.now a.fused.now.count)
     a.keys.now
     a.cells.now d.result d.new.keys
     d.new.distances d.new.estimates
@@ -44,7 +44,7 @@ pub returns-in-Err : goal.returns-in-Err
 returns-in-Err c =
     let a = c.args in
     let d = c.sow_all in
-    march_stopped a.course a.threshold (rows_of a.fused_keys.now a.fused_distances.now a.fused_weights.now a.fused_count)
+    march_stopped a.course a.threshold (rows_of a.fused.now.keys.now a.fused.now.distances.now a.fused.now.weights.now a.fused.now.count)
     a.keys.now
     a.cells.now d.result d.new.keys
     d.new.distances d.new.estimates
@@ -55,7 +55,7 @@ returns-in-Err-take_all c =
     let a = c.args in
     let d = c.sow_all in
     let m = c.take_all in
-    march_halted a.course a.threshold (rows_of a.fused_keys.now a.fused_distances.now a.fused_weights.now a.fused_count)
+    march_halted a.course a.threshold (rows_of a.fused.now.keys.now a.fused.now.distances.now a.fused.now.weights.now a.fused.now.count)
     a.keys.now
     a.cells.now d.result d.new.keys
     d.new.distances d.new.estimates
@@ -70,7 +70,7 @@ returns-in-Ok-take_all c =
     let a = c.args in
     let d = c.sow_all in
     let m = c.take_all in
-    march_done a.course a.threshold (rows_of a.fused_keys.now a.fused_distances.now a.fused_weights.now a.fused_count)
+    march_done a.course a.threshold (rows_of a.fused.now.keys.now a.fused.now.distances.now a.fused.now.weights.now a.fused.now.count)
     a.keys.now
     a.cells.now d.result d.new.keys
     d.new.distances d.new.estimates

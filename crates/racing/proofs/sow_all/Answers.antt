@@ -25,7 +25,7 @@ loop-i-init c =
       refl,
       refl,
       sow_start false _ (lattice_of a.course) a.threshold (rooms_of a.keys.now a.cells.now)
-          (rows_of a.fused_keys.now a.fused_distances.now a.fused_weights.now a.fused_count) a.keys.now
+          (rows_of a.fused.now.keys.now a.fused.now.distances.now a.fused.now.weights.now a.fused.now.count) a.keys.now
           a.distances.now a.estimates.now a.cells.now (rows_ascend _ _ _ _ p.0.lent) (seeds_are a.threshold _ _ _ _ p.0.lent)
           (blank_ready false _ _ _ _ p.1),
     )
@@ -64,13 +64,13 @@ returns-in-Err c =
     let l = c.loop-i in
     let d = c.sow_if in
     let here =
-    row_at_lem a.fused_keys.now a.fused_distances.now a.fused_weights.now a.fused_count l.i p.distances p.weights
+    row_at_lem a.fused.now.keys.now a.fused.now.distances.now a.fused.now.weights.now a.fused.now.count l.i p.distances p.weights
     c.loop-i-test.true p.fits in
-    sow_stop l.lean (seed_in a.threshold (rows_of a.fused_keys.now a.fused_distances.now a.fused_weights.now a.fused_count))
+    sow_stop l.lean (seed_in a.threshold (rows_of a.fused.now.keys.now a.fused.now.distances.now a.fused.now.weights.now a.fused.now.count))
     (lattice_of a.course) back a.threshold (rooms_of a.keys.now a.cells.now)
-    (rows_of a.fused_keys.now a.fused_distances.now a.fused_weights.now a.fused_count) l.i l.rows l.keys l.distances l.held
+    (rows_of a.fused.now.keys.now a.fused.now.distances.now a.fused.now.weights.now a.fused.now.count) l.i l.rows l.keys l.distances l.held
     l.estimates l.cells l.invariant.5
-    (row (get_or a.fused_keys.now l.i 0) (get_or a.fused_distances.now l.i nan) (get_or a.fused_weights.now l.i nan))
+    (row (get_or a.fused.now.keys.now l.i 0) (get_or a.fused.now.distances.now l.i nan) (get_or a.fused.now.weights.now l.i nan))
     here l.invariant.1 l.invariant.4 d.result d.new.keys
     d.new.distances d.new.estimates
     d.new.cells
@@ -86,7 +86,7 @@ loop-i-preserved c =
     let l = c.loop-i in
     let d = c.sow_if in
     let here =
-    row_at_lem a.fused_keys.now a.fused_distances.now a.fused_weights.now a.fused_count l.i p.distances p.weights
+    row_at_lem a.fused.now.keys.now a.fused.now.distances.now a.fused.now.weights.now a.fused.now.count l.i p.distances p.weights
     c.loop-i-test.true p.fits in
     let k = d.auto in
     let i = l.invariant in (
@@ -95,11 +95,11 @@ loop-i-preserved c =
       ◌∙◌ {b = length l.distances} k.distances i.2,
       ◌∙◌ {b = length l.estimates} k.estimates i.3,
       ◌∙◌ {b = length l.cells} k.cells i.4,
-      sow_more l.lean (seed_in a.threshold (rows_of a.fused_keys.now a.fused_distances.now a.fused_weights.now a.fused_count))
+      sow_more l.lean (seed_in a.threshold (rows_of a.fused.now.keys.now a.fused.now.distances.now a.fused.now.weights.now a.fused.now.count))
           (lattice_of a.course) back a.threshold (rooms_of a.keys.now a.cells.now)
-          (rows_of a.fused_keys.now a.fused_distances.now a.fused_weights.now a.fused_count) l.i l.rows l.keys l.distances l.held
+          (rows_of a.fused.now.keys.now a.fused.now.distances.now a.fused.now.weights.now a.fused.now.count) l.i l.rows l.keys l.distances l.held
           l.estimates l.cells l.invariant.5
-          (row (get_or a.fused_keys.now l.i 0) (get_or a.fused_distances.now l.i nan) (get_or a.fused_weights.now l.i nan))
+          (row (get_or a.fused.now.keys.now l.i 0) (get_or a.fused.now.distances.now l.i nan) (get_or a.fused.now.weights.now l.i nan))
           here i.1 i.4 d.result d.new.keys
           d.new.distances d.new.estimates
           d.new.cells
@@ -110,8 +110,8 @@ pub returns : goal.returns
 returns c =
     let a = c.args in
     let l = c.loop-i in
-    sow_finish l.lean (seed_in a.threshold (rows_of a.fused_keys.now a.fused_distances.now a.fused_weights.now a.fused_count))
+    sow_finish l.lean (seed_in a.threshold (rows_of a.fused.now.keys.now a.fused.now.distances.now a.fused.now.weights.now a.fused.now.count))
     (lattice_of a.course) back a.threshold (rooms_of a.keys.now a.cells.now)
-    (rows_of a.fused_keys.now a.fused_distances.now a.fused_weights.now a.fused_count) l.i l.rows l.keys l.distances l.held
-    l.estimates l.cells l.invariant.5 (rows_past a.fused_keys.now a.fused_distances.now a.fused_weights.now a.fused_count l.i
+    (rows_of a.fused.now.keys.now a.fused.now.distances.now a.fused.now.weights.now a.fused.now.count) l.i l.rows l.keys l.distances l.held
+    l.estimates l.cells l.invariant.5 (rows_past a.fused.now.keys.now a.fused.now.distances.now a.fused.now.weights.now a.fused.now.count l.i
     c.loop-i-test.false)

@@ -11,11 +11,11 @@ use Rattle.racing.proofs.Marching.{SowAt}
 use Rattle.racing.proofs.sow_all.Given as goal
 
 abbrev pub invariant-loop-i : goal.invariant-loop-i
-invariant-loop-i l = (l.i ≤ l.fused_count)
+invariant-loop-i l = (l.i ≤ l.fn.fused.count)
     × (length l.keys ≡ length l.initial.keys)
     × (length l.distances ≡ length l.initial.distances)
     × (length l.estimates ≡ length l.initial.estimates)
     × (length l.cells ≡ length l.initial.cells)
-    × SowAt l.lean (seed_in l.threshold (rows_of l.fused_keys l.fused_distances l.fused_weights l.fused_count))
+    × SowAt l.lean (seed_in l.threshold (rows_of l.fn.fused.keys.now l.fn.fused.distances.now l.fn.fused.weights.now l.fn.fused.count))
     (lattice_of l.course) l.threshold (rooms_of l.initial.keys l.initial.cells)
-    (rows_of l.fused_keys l.fused_distances l.fused_weights l.fused_count) l.i l.rows l.keys l.distances l.held l.estimates l.cells
+    (rows_of l.fn.fused.keys.now l.fn.fused.distances.now l.fn.fused.weights.now l.fn.fused.count) l.i l.rows l.keys l.distances l.held l.estimates l.cells

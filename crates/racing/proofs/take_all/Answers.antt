@@ -34,7 +34,7 @@ surely_full-requires c =
     let at = l.invariant.4 p.sown.0 p.sown.1 in
     let keys-fit = c.well_formed.1.1.1.1.1.1.1.0.1 in
     let cells_fit = c.well_formed.1.1.1.1.1.1.1.1.1.1.1.0.1 in
-    let taken = take_few l.kind (seed_in a.threshold (rows_of a.fused_keys.now a.fused_distances.now a.fused_weights.now a.fused_count))
+    let taken = take_few l.kind (seed_in a.threshold (rows_of a.fused.now.keys.now a.fused.now.distances.now a.fused.now.weights.now a.fused.now.count))
     (lattice_of a.course) back (rooms_of a.keys.now a.cells.now) _ l.takings l.rows
     l.keys l.distances l.held l.estimates l.cells (l.invariant.4 p.sown.0 p.sown.1) in (
       omega (arith, keys-fit, l.invariant.0),
@@ -49,7 +49,7 @@ returns-then-surely_full c =
     let a = c.args in
     let l = c.loop-held in
     λ s h.
-    take_crowded l.kind (seed_in a.threshold (rows_of a.fused_keys.now a.fused_distances.now a.fused_weights.now a.fused_count))
+    take_crowded l.kind (seed_in a.threshold (rows_of a.fused.now.keys.now a.fused.now.distances.now a.fused.now.weights.now a.fused.now.count))
     (lattice_of a.course) back (rooms_of a.keys.now a.cells.now) _ l.takings l.rows
     l.keys l.distances l.held l.estimates l.cells (l.invariant.4 s h)
     l.invariant.0 l.invariant.3 at_most_14 (sym c.surely_full.ensures ∙ c.if-surely_full.true)
@@ -71,7 +71,7 @@ returns-in-Err c =
     let l = c.loop-held in
     let d = c.take_next in
     λ s h.
-    take_stop l.kind (seed_in a.threshold (rows_of a.fused_keys.now a.fused_distances.now a.fused_weights.now a.fused_count))
+    take_stop l.kind (seed_in a.threshold (rows_of a.fused.now.keys.now a.fused.now.distances.now a.fused.now.weights.now a.fused.now.count))
     (lattice_of a.course) back (rooms_of a.keys.now a.cells.now) _ l.takings l.rows
     l.keys l.distances l.held l.estimates l.cells (l.invariant.4 s h)
     l.invariant.0 l.invariant.3 c.loop-held-test.true d.result d.new.keys
@@ -86,7 +86,7 @@ overflow_add-takings c =
     omega (
       arith,
       c.well_formed.1.1.1.1.1.1.1.0.1,
-      take_few l.kind (seed_in a.threshold (rows_of a.fused_keys.now a.fused_distances.now a.fused_weights.now a.fused_count))
+      take_few l.kind (seed_in a.threshold (rows_of a.fused.now.keys.now a.fused.now.distances.now a.fused.now.weights.now a.fused.now.count))
           (lattice_of a.course) back (rooms_of a.keys.now a.cells.now) _ l.takings l.rows
           l.keys l.distances l.held l.estimates l.cells (l.invariant.4 p.sown.0 p.sown.1),
     )
@@ -99,7 +99,7 @@ loop-held-smaller c =
     omega (
       arith,
       c.well_formed.1.1.1.1.1.1.1.0.1,
-      take_few l.kind (seed_in a.threshold (rows_of a.fused_keys.now a.fused_distances.now a.fused_weights.now a.fused_count))
+      take_few l.kind (seed_in a.threshold (rows_of a.fused.now.keys.now a.fused.now.distances.now a.fused.now.weights.now a.fused.now.count))
           (lattice_of a.course) back (rooms_of a.keys.now a.cells.now) _ l.takings l.rows
           l.keys l.distances l.held l.estimates l.cells (l.invariant.4 p.sown.0 p.sown.1),
     )
@@ -116,7 +116,7 @@ loop-held-preserved c =
       ◌∙◌ {b = length l.estimates} k.estimates i.2,
       ◌∙◌ {b = length l.cells} k.cells i.3,
       λ s h.
-          take_more l.kind (seed_in a.threshold (rows_of a.fused_keys.now a.fused_distances.now a.fused_weights.now a.fused_count))
+          take_more l.kind (seed_in a.threshold (rows_of a.fused.now.keys.now a.fused.now.distances.now a.fused.now.weights.now a.fused.now.count))
           (lattice_of a.course) back (rooms_of a.keys.now a.cells.now) _ l.takings l.rows
           l.keys l.distances l.held l.estimates l.cells (i.4 s h)
           i.0 i.3 c.loop-held-test.true d.result d.new.keys
@@ -129,6 +129,6 @@ returns c =
     let a = c.args in
     let l = c.loop-held in
     λ s h.
-    take_finish l.kind (seed_in a.threshold (rows_of a.fused_keys.now a.fused_distances.now a.fused_weights.now a.fused_count))
+    take_finish l.kind (seed_in a.threshold (rows_of a.fused.now.keys.now a.fused.now.distances.now a.fused.now.weights.now a.fused.now.count))
     (lattice_of a.course) back (rooms_of a.keys.now a.cells.now) _ l.takings l.rows
     l.keys l.distances l.held l.estimates l.cells (l.invariant.4 s h) l.invariant.0 c.loop-held-test.false

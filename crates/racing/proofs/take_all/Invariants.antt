@@ -19,9 +19,9 @@ invariant-loop-held l = (length l.keys ≡ length l.initial.keys)
     × (length l.estimates ≡ length l.initial.estimates)
     × (length l.cells ≡ length l.initial.cells)
     × ((s : State)
-    → Sown (seeds l.threshold (rows_of l.fused_keys l.fused_distances l.fused_weights l.fused_count)) neighbours l.lean s
+    → Sown (seeds l.threshold (rows_of l.fn.fused.keys.now l.fn.fused.distances.now l.fn.fused.weights.now l.fn.fused.count)) neighbours l.lean s
     l.count l.initial.keys l.initial.distances l.waiting l.initial.estimates l.initial.cells
-    → TakeAt l.kind (seed_in l.threshold (rows_of l.fused_keys l.fused_distances l.fused_weights l.fused_count))
+    → TakeAt l.kind (seed_in l.threshold (rows_of l.fn.fused.keys.now l.fn.fused.distances.now l.fn.fused.weights.now l.fn.fused.count))
     (lattice_of l.course) (rooms_of l.initial.keys l.initial.cells)
     (take_up_to (lattice_of l.course) (rooms_of l.initial.keys l.initial.cells) (suc (length l.initial.keys)) s) l.takings l.rows l.keys l.distances
     l.held l.estimates l.cells)

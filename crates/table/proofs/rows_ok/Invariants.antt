@@ -8,7 +8,7 @@ use Rattle.table.specs.Table.{rows_of, rows_ok}
 use Rattle.table.proofs.rows_ok.Given as goal
 
 abbrev pub invariant-loop-i : goal.invariant-loop-i
-invariant-loop-i l = (l.i ≤ l.count) × (rows_ok l.most (rows_of l.keys l.distances l.weights l.count) ≡ rows_ok l.most (drop l.i (rows_of l.keys l.distances l.weights l.count)))
+invariant-loop-i l = (l.i ≤ l.fn.rows.count) × (rows_ok l.most (rows_of l.fn.rows.keys.now l.fn.rows.distances.now l.fn.rows.weights.now l.fn.rows.count) ≡ rows_ok l.most (drop l.i (rows_of l.fn.rows.keys.now l.fn.rows.distances.now l.fn.rows.weights.now l.fn.rows.count)))
 
 abbrev pub decreases-loop-i : goal.decreases-loop-i
-decreases-loop-i l = l.count - l.i
+decreases-loop-i l = l.fn.rows.count - l.i

@@ -36,25 +36,25 @@ returns-in_default c =
 
 pub offset_bounds-distances-i : goal.offset_bounds-distances-i
 offset_bounds-distances-i c =
-    let at = told c.args.key c.args.count c.args.keys.now c.requires.ascends c.find_row.ensures c.in-Some.is in
-    omega (arith, inside c.args.key c.args.count c.args.keys.now c.requires.fits at)
+    let at = told c.args.key c.args.rows.now.count c.args.rows.now.keys.now c.requires.ascends c.find_row.ensures c.in-Some.is in
+    omega (arith, inside c.args.key c.args.rows.now.count c.args.rows.now.keys.now c.requires.fits at)
 
 pub bounds-distances-i : goal.bounds-distances-i
 bounds-distances-i c =
-    let at = told c.args.key c.args.count c.args.keys.now c.requires.ascends c.find_row.ensures c.in-Some.is in
-    omega (arith, inside c.args.key c.args.count c.args.keys.now c.requires.fits at, c.requires.distances)
+    let at = told c.args.key c.args.rows.now.count c.args.rows.now.keys.now c.requires.ascends c.find_row.ensures c.in-Some.is in
+    omega (arith, inside c.args.key c.args.rows.now.count c.args.rows.now.keys.now c.requires.fits at, c.requires.distances)
 
 pub offset_bounds-weights-i : goal.offset_bounds-weights-i
 offset_bounds-weights-i c =
-    let at = told c.args.key c.args.count c.args.keys.now c.requires.ascends c.find_row.ensures c.in-Some.is in
-    omega (arith, inside c.args.key c.args.count c.args.keys.now c.requires.fits at)
+    let at = told c.args.key c.args.rows.now.count c.args.rows.now.keys.now c.requires.ascends c.find_row.ensures c.in-Some.is in
+    omega (arith, inside c.args.key c.args.rows.now.count c.args.rows.now.keys.now c.requires.fits at)
 
 pub bounds-weights-i : goal.bounds-weights-i
 bounds-weights-i c =
-    let at = told c.args.key c.args.count c.args.keys.now c.requires.ascends c.find_row.ensures c.in-Some.is in
-    omega (arith, inside c.args.key c.args.count c.args.keys.now c.requires.fits at, c.requires.weights)
+    let at = told c.args.key c.args.rows.now.count c.args.rows.now.keys.now c.requires.ascends c.find_row.ensures c.in-Some.is in
+    omega (arith, inside c.args.key c.args.rows.now.count c.args.rows.now.keys.now c.requires.fits at, c.requires.weights)
 
 pub returns : goal.returns
 unfolding row_of row_if row_at
 returns c =
-    rw (yes c.is_on_lattice.ensures (ap not c.if-not-is_on_lattice.false), told c.args.key c.args.count c.args.keys.now c.requires.ascends c.find_row.ensures c.in-Some.is)
+    rw (yes c.is_on_lattice.ensures (ap not c.if-not-is_on_lattice.false), told c.args.key c.args.rows.now.count c.args.rows.now.keys.now c.requires.ascends c.find_row.ensures c.in-Some.is)

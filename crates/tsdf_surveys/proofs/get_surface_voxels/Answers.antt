@@ -11,7 +11,7 @@ list_checked-listed-requires c = λ t. list_accepted _ _ _ _ _ _ _ (sym c.check_
 pub returns : goal.returns
 returns c =
     let a = c.args in
-    let t = table a.keys.now a.distances.now a.weights.now a.count in
+    let t = table a.rows.now.keys.now a.rows.now.distances.now a.rows.now.weights.now a.rows.now.count in
     let verdict = c.check_list-verdict.ensures in
     let done = c.list_checked-listed.ensures in record {
       value = answered a.settings t _ _ _ verdict _ done.value;

@@ -14,7 +14,7 @@ returns-in-Err c =
     let a = c.args in record {
       value = rw c.in-Err.is refl;
       out_after = refused_held 0 _ a.out.now
-          (surface_keys a.threshold (rows_of a.keys.now a.distances.now a.weights.now a.count));
+          (surface_keys a.threshold (rows_of a.rows.now.keys.now a.rows.now.distances.now a.rows.now.weights.now a.rows.now.count));
     }
 
 pub list_surface-n-requires : goal.list_surface-n-requires
@@ -24,7 +24,7 @@ pub returns : goal.returns
 returns c =
     let passed = c.in_default.is in
     let a = c.args in
-    let xs = surface_keys a.threshold (rows_of a.keys.now a.distances.now a.weights.now a.count) in
+    let xs = surface_keys a.threshold (rows_of a.rows.now.keys.now a.rows.now.distances.now a.rows.now.weights.now a.rows.now.count) in
     let w = c.list_surface-n.ensures in
     let e = c.room_for.ensures in
     record {

@@ -14,7 +14,7 @@ pub loop-i-preserved-then-is_surface : goal.loop-i-preserved-then-is_surface
 loop-i-preserved-then-is_surface c =
     let a = c.args in
     let k =
-    surface_taken a.keys.now a.distances.now a.weights.now a.count c.requires c.loop-i.i
+    surface_taken a.rows.now.keys.now a.rows.now.distances.now a.rows.now.weights.now a.rows.now.count c.requires c.loop-i.i
     c.loop-i-test.true a.threshold
     (sym c.is_surface.ensures ∙ c.if-is_surface.true) in (
       omega arith,
@@ -28,7 +28,7 @@ pub loop-i-preserved : goal.loop-i-preserved
 loop-i-preserved c =
     let a = c.args in
     let k =
-    surface_skipped a.keys.now a.distances.now a.weights.now a.count c.requires c.loop-i.i
+    surface_skipped a.rows.now.keys.now a.rows.now.distances.now a.rows.now.weights.now a.rows.now.count c.requires c.loop-i.i
     c.loop-i-test.true a.threshold
     (sym c.is_surface.ensures ∙ c.if-is_surface.false) in (
       omega arith,
@@ -41,7 +41,7 @@ loop-i-preserved c =
 pub returns : goal.returns
 returns c =
     let a = c.args in
-    let z = surface_ended a.keys.now a.distances.now a.weights.now a.count c.loop-i.i c.loop-i-test.false a.threshold in
+    let z = surface_ended a.rows.now.keys.now a.rows.now.distances.now a.rows.now.weights.now a.rows.now.count c.loop-i.i c.loop-i-test.false a.threshold in
     record {
       value = omega (arith, c.loop-i.invariant.2, ap length z);
       out_after = wrote_all _ _ _ _ c.loop-i.invariant.3 z;

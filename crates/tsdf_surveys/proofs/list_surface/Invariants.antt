@@ -10,13 +10,13 @@ use Rattle.tsdf_surveys.proofs.RowByRow.{rest}
 use Rattle.tsdf_surveys.proofs.list_surface.Given as goal
 
 abbrev pub invariant-loop-i : goal.invariant-loop-i
-invariant-loop-i l = (l.i ≤ l.count)
+invariant-loop-i l = (l.i ≤ l.fn.rows.count)
     × (l.n ≤ l.i)
-    × (length (surface_keys l.threshold (rows_of l.keys l.distances l.weights l.count))
-    ≡ l.n + length (surface_keys l.threshold (rest l.keys l.distances l.weights l.count l.i)))
-    × (sets l.initial.out 0 (surface_keys l.threshold (rows_of l.keys l.distances l.weights l.count))
-    ≡ sets l.out l.n (surface_keys l.threshold (rest l.keys l.distances l.weights l.count l.i)))
+    × (length (surface_keys l.threshold (rows_of l.fn.rows.keys.now l.fn.rows.distances.now l.fn.rows.weights.now l.fn.rows.count))
+    ≡ l.n + length (surface_keys l.threshold (rest l.fn.rows.keys.now l.fn.rows.distances.now l.fn.rows.weights.now l.fn.rows.count l.i)))
+    × (sets l.initial.out 0 (surface_keys l.threshold (rows_of l.fn.rows.keys.now l.fn.rows.distances.now l.fn.rows.weights.now l.fn.rows.count))
+    ≡ sets l.out l.n (surface_keys l.threshold (rest l.fn.rows.keys.now l.fn.rows.distances.now l.fn.rows.weights.now l.fn.rows.count l.i)))
     × (length l.out ≡ length l.initial.out)
 
 abbrev pub decreases-loop-i : goal.decreases-loop-i
-decreases-loop-i l = l.count - l.i
+decreases-loop-i l = l.fn.rows.count - l.i

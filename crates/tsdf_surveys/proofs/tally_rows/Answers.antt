@@ -21,22 +21,22 @@ loop-i-preserved c =
       omega arith,
       omega (
         arith,
-        tallied_near a.near c.loop-i.sum (get_or a.distances.now c.loop-i.i nan)
-            (get_or a.weights.now c.loop-i.i nan),
+        tallied_near a.near c.loop-i.sum (get_or a.rows.now.distances.now c.loop-i.i nan)
+            (get_or a.rows.now.weights.now c.loop-i.i nan),
         ap (λ (t : Tally). t.near) w,
         c.loop-i.invariant.1,
       ),
       c.loop-i.invariant.2
-          ∙ row_tallied a.keys.now a.distances.now a.weights.now a.count c.requires c.loop-i.i
+          ∙ row_tallied a.rows.now.keys.now a.rows.now.distances.now a.rows.now.weights.now a.rows.now.count c.requires c.loop-i.i
           c.loop-i-test.true a.near c.loop-i.sum
           ∙ ap (λ (t : Tally).
           tallied_all a.near t
-          (rest a.keys.now a.distances.now a.weights.now a.count (c.loop-i.i + 1))) (sym w),
+          (rest a.rows.now.keys.now a.rows.now.distances.now a.rows.now.weights.now a.rows.now.count (c.loop-i.i + 1))) (sym w),
     )
 
 pub returns : goal.returns
 returns c =
     let a = c.args in
     sym (c.loop-i.invariant.2
-    ∙ rows_tallied a.keys.now a.distances.now a.weights.now a.count c.loop-i.i c.loop-i-test.false
+    ∙ rows_tallied a.rows.now.keys.now a.rows.now.distances.now a.rows.now.weights.now a.rows.now.count c.loop-i.i c.loop-i-test.false
     a.near c.loop-i.sum)

@@ -8,9 +8,9 @@ use Rattle.tsdf_surveys.proofs.RowByRow.{rest}
 use Rattle.tsdf_surveys.proofs.tally_rows.Given as goal
 
 abbrev pub invariant-loop-i : goal.invariant-loop-i
-invariant-loop-i l = (l.i ≤ l.count)
+invariant-loop-i l = (l.i ≤ l.fn.rows.count)
     × (l.sum.near ≤ l.i)
-    × (tallied_all l.near no_tally (rows_of l.keys l.distances l.weights l.count) ≡ tallied_all l.near l.sum (rest l.keys l.distances l.weights l.count l.i))
+    × (tallied_all l.near no_tally (rows_of l.fn.rows.keys.now l.fn.rows.distances.now l.fn.rows.weights.now l.fn.rows.count) ≡ tallied_all l.near l.sum (rest l.fn.rows.keys.now l.fn.rows.distances.now l.fn.rows.weights.now l.fn.rows.count l.i))
 
 abbrev pub decreases-loop-i : goal.decreases-loop-i
-decreases-loop-i l = l.count - l.i
+decreases-loop-i l = l.fn.rows.count - l.i

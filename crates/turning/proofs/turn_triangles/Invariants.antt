@@ -9,7 +9,7 @@ use Rattle.turning.proofs.TurnLaws.{written}
 use Rattle.turning.proofs.turn_triangles.Given as goal
 
 abbrev pub invariant-loop-i : goal.invariant-loop-i
-invariant-loop-i l = let turned = turned_triangles (rows_of l.keys l.distances l.weights l.count) in
+invariant-loop-i l = let turned = turned_triangles (rows_of l.fn.rows.keys.now l.fn.rows.distances.now l.fn.rows.weights.now l.fn.rows.count) in
     (l.i ≤ l.triangles) × ((l.t1 ≡ written (column1 turned) l.i l.initial.t1) × (l.t2 ≡ written (column2 turned) l.i l.initial.t2))
 
 abbrev pub decreases-loop-i : goal.decreases-loop-i

@@ -1,0 +1,12 @@
+-- A table that is lent to be read.
+use Rattle.std.specs.Prelude.{List}
+use Rattle.table.specs.Table.{Row, Table, table, rows_of}
+use Rattle.table.specs.declared.Rows.{Rows}
+
+-- the table that the lent lists make
+abbrev pub table_of : Rows → Table
+table_of r = table r.keys.now r.distances.now r.weights.now r.count
+
+-- its rows
+abbrev pub rows_in : Rows → List Row
+rows_in r = rows_of r.keys.now r.distances.now r.weights.now r.count
