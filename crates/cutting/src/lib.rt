@@ -415,8 +415,8 @@ pub fn list_closed(
     let edges = edges::list_tested(Surface::Closed, verdict, rows, first, second);
     let triangles = cut_checked(edges, rows, first, second, t0, t1, t2);
     let n = lists::count_of(triangles);
-    lists::clear_from_u32(t0, n);
-    lists::clear_from_u32(t1, n);
-    lists::clear_from_u32(t2, n);
+    lists::clear_from(t0, n, 0);
+    lists::clear_from(t1, n, 0);
+    lists::clear_from(t2, n, 0);
     ClosedListed { edges, triangles }
 }

@@ -232,8 +232,8 @@ pub fn list_tested(
 {
     let listed = list_checked(surface, verdict, rows, first, second);
     let n = lists::count_of(listed);
-    lists::clear_from_u64(first, n);
-    lists::clear_from_u64(second, n);
+    lists::clear_from(first, n, 0);
+    lists::clear_from(second, n, 0);
     listed
 }
 

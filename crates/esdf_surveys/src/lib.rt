@@ -150,8 +150,8 @@ pub fn get_voxels_within_distance(
         out_distances,
     );
     let n = lists::count_of(listed);
-    lists::clear_from_u64(out_keys, n);
-    lists::clear_from_f32(out_distances, n);
+    lists::clear_from(out_keys, n, 0);
+    lists::clear_from(out_distances, n, 0.0);
     listed
 }
 

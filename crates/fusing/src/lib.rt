@@ -7,7 +7,7 @@ ghost use Rattle.table.specs.Table.{table, lengths_ok, table_check};
 ghost use Rattle.fusing.specs.Fusing.{outcome, effect, averaging_of, new_weight, fused_voxel, fused_near, effect_of, fused_of, fuse};
 
 use floats::{Metres, smaller, within};
-use lists::{insert_f32, insert_u64};
+use lists::insert;
 use measuring::{Measured, Reading, admit};
 use refusals::Refusal;
 use search::{find_row, place_of};
@@ -108,9 +108,9 @@ fn add_row(
         return Err(Refusal::TooLarge);
     }
     let place = place_of(keys, n, key);
-    insert_u64(keys, n, place, key);
-    insert_f32(distances, n, place, v.distance);
-    insert_f32(weights, n, place, v.weight);
+    insert(keys, n, place, key);
+    insert(distances, n, place, v.distance);
+    insert(weights, n, place, v.weight);
     *count = n + 1;
     Ok(Step::Added(place))
 }

@@ -2,8 +2,7 @@ pub mod Bools
 pub mod Table
 pub mod Writing
 pub mod Held
-pub mod Shifting
-pub mod Lowering
+pub mod Rotating
 pub mod PaddingLaws
 pub mod ListLaws
 pub mod Inserting

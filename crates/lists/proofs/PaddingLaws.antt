@@ -1,12 +1,12 @@
 -- Laws of lists in a room, for every element type: one more found, and a room that is written over from the front.
 -- Assumes nothing.
 use mathlib.Core.Path.{◌≡◌, refl, sym, ap, ◌∙◌}
-use mathlib.Core.List.{List, [], ◌∷◌, ◌++◌, append-nil, append_assoc}
-use Prim.Native.Nat.{ℕ, zero, suc, ◌+◌, ◌-◌, ◌<◌, ◌≤◌}
+use mathlib.Core.List.{List, [], ◌∷◌, ◌++◌, append-nil}
+use Prim.Native.Nat.{ℕ, zero, suc, ◌-◌, ◌<◌, ◌≤◌}
 use native.Mathlib.Nat.{not-suc-le-zero, le_of_suc-le-suc}
 use native.Mathlib.Omega.{arith}
-use lib.ListN.{length, set, get_or, take, drop, replicate, length-append, length-take, length-drop, drop_of_length-le, length-replicate, get_or-replicate, get_or-append, get_or-eq_default}
-use lib.Seq.{set-append_seam, take-append_seam, get_or-append-add, append_snoc, take_all}
+use lib.ListN.{length, set, get_or, take, drop, replicate, length-append, length-take, length-drop, drop_of_length-le, length-replicate}
+use lib.Seq.{set-append_seam, take-append_seam, append_snoc, take_all}
 use Rattle.lists.specs.Padding.{padded}
 
 module _ {A : Type 0} (v : A) (room : ℕ) where

@@ -1,7 +1,7 @@
 -- The answer to a list, and what the lent list then holds.
 use Rattle.std.specs.Prelude.{ℕ, cond, List, leb, replicate, Ok, Err, Result}
 use Rattle.refusals.specs.Refusals.{number_of}
-use Rattle.refusals.specs.declared.Refusal.TheVariants.{NoPlace, NoWaitingPlace}
+use Rattle.refusals.specs.declared.Refusal.TheVariants.{NoPlace}
 use Rattle.lists.specs.Padding.{padded}
 use Rattle.refusals.specs.declared.Refusal.{Refusal}
 

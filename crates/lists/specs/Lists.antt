@@ -1,6 +1,6 @@
 -- Lists: who stands in one, in which order, and lists made of lists.
-use Rattle.std.specs.Prelude.{ℕ, zero, suc, ◌+◌, ◌<◌, ◌≡◌, ◌⊎◌, Bool, cond}
-use mathlib.Core.List.{List, [], ◌∷◌, ◌++◌, map, Memᴰ}
+use Rattle.std.specs.Prelude.{ℕ, suc, ◌≡◌, ◌⊎◌, Bool, cond}
+use mathlib.Core.List.{List, [], ◌∷◌, ◌++◌, Memᴰ}
 
 infix 20 ◌∈◌
 -- x stands in l

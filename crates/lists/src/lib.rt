@@ -1,9 +1,8 @@
-// Lists of places that a caller lends: cleared, a value put in, the first one dropped. One function for each
-// element type in use; their proofs share one law over the type.
+// Lists of places that a caller lends: cleared, a value put in, the first one dropped, whatever the element type.
 #![tactic(auto)]
 
 ghost use Rattle.std.specs.Prelude.{◌≡◌};
-ghost use Rattle.lists.specs.Places.{zero_f, filled, cleared_from, inserted, first_dropped};
+ghost use Rattle.lists.specs.Places.{filled, cleared_from, inserted, first_dropped};
 ghost use Rattle.lists.specs.Listing.{room_for, count_of};
 
 use refusals::Refusal;
@@ -32,108 +31,42 @@ pub fn count_of(listed: Result<usize, Refusal>) -> usize
     }
 }
 
-// The places from `n` on become 0.
-pub fn clear_from_u64(list: &mut [u64], n: usize)
-    ensures { list.new ≡ cleared_from 0 n list.old }
+// The places from `n` on become `value`: by a loop, since `fill` asks that a clone can't fail, which `T: Copy` doesn't say.
+pub fn clear_from<T: Copy>(list: &mut [T], n: usize, value: T)
+    ensures { list.new ≡ cleared_from value n list.old }
 {
-    for i in n..list.len() {
-        list[i] = 0;
+    if n <= list.len() {
+        for place in list[n..].iter_mut() {
+            *place = value;
+        }
     }
 }
 
-pub fn clear_from_u32(list: &mut [u32], n: usize)
-    ensures { list.new ≡ cleared_from 0 n list.old }
+// Every place becomes `value`.
+pub fn clear<T: Copy>(list: &mut [T], value: T)
+    ensures { list.new ≡ filled value list.old }
 {
-    for i in n..list.len() {
-        list[i] = 0;
-    }
-}
-
-pub fn clear_from_f32(list: &mut [f32], n: usize)
-    ensures { list.new ≡ cleared_from zero_f n list.old }
-{
-    for i in n..list.len() {
-        list[i] = 0.0;
-    }
-}
-
-// Every place becomes 0.
-pub fn clear_u64(list: &mut [u64])
-    ensures { list.new ≡ filled 0 list.old }
-{
-    clear_from_u64(list, 0);
-}
-
-pub fn clear_f32(list: &mut [f32])
-    ensures { list.new ≡ filled zero_f list.old }
-{
-    clear_from_f32(list, 0);
+    clear_from(list, 0, value);
 }
 
 // `value` at `place` of the first `count`; those from `place` on move one place up. Nothing changes
 // where `place` is past `count`, or the list has no place for one more.
-pub fn insert_u64(list: &mut [u64], count: usize, place: usize, value: u64)
+pub fn insert<T: Copy>(list: &mut [T], count: usize, place: usize, value: T)
     ensures { list.new ≡ inserted list.old count place value }
 {
-    if place <= count {
-        if count < list.len() {
-            let mut i = count;
-            while place < i {
-                let below = i - 1;
-                list[i] = list[below];
-                i = below;
-            }
-            list[place] = value;
-        }
+    if place <= count && count < list.len() {
+        list[place..=count].rotate_right(1);
+        list[place] = value;
     }
 }
 
-pub fn insert_f32(list: &mut [f32], count: usize, place: usize, value: f32)
-    ensures { list.new ≡ inserted list.old count place value }
-{
-    if place <= count {
-        if count < list.len() {
-            let mut i = count;
-            while place < i {
-                let below = i - 1;
-                list[i] = list[below];
-                i = below;
-            }
-            list[place] = value;
-        }
-    }
-}
-
-// The first of `count` places goes, those after it move one place down, and the last becomes 0.
+// The first of `count` places goes, those after it move one place down, and the last becomes `value`.
 // Nothing changes where there is none.
-pub fn drop_first_u64(list: &mut [u64], count: usize)
-    ensures { list.new ≡ first_dropped 0 list.old count }
+pub fn drop_first<T: Copy>(list: &mut [T], count: usize, value: T)
+    ensures { list.new ≡ first_dropped value list.old count }
 {
-    if 0 < count {
-        if count <= list.len() {
-            let mut i = 0;
-            while i + 1 < count {
-                let above = i + 1;
-                list[i] = list[above];
-                i = above;
-            }
-            list[i] = 0;
-        }
-    }
-}
-
-pub fn drop_first_f32(list: &mut [f32], count: usize)
-    ensures { list.new ≡ first_dropped zero_f list.old count }
-{
-    if 0 < count {
-        if count <= list.len() {
-            let mut i = 0;
-            while i + 1 < count {
-                let above = i + 1;
-                list[i] = list[above];
-                i = above;
-            }
-            list[i] = 0.0;
-        }
+    if 0 < count && count <= list.len() {
+        list.copy_within(1..count, 0);
+        list[count - 1] = value;
     }
 }

@@ -111,7 +111,7 @@ fn draw_closed(
         t2.new }
 {
     let closed = cutting::list_closed(verdict, rows, first, second, t0, t1, t2);
-    lists::clear_from_u32(groups, 0);
+    lists::clear_from(groups, 0, 0);
     let edges = closed.edges;
     let built = closed.triangles;
     Drawn { edges, built }
@@ -217,8 +217,8 @@ fn settle_edges(meshed: Result<(usize, usize), Refusal>, first: &mut [u64], seco
 {
     let a = kept(meshed, first.len());
     let b = kept(meshed, second.len());
-    lists::clear_from_u64(first, a);
-    lists::clear_from_u64(second, b);
+    lists::clear_from(first, a, 0);
+    lists::clear_from(second, b, 0);
 }
 
 // The first `n` of three lists stay, none where the answer refuses.
@@ -234,9 +234,9 @@ fn settle_places(
     ensures z_after { z.new ≡ cleared_from zero_f (kept_of meshed n) z.old }
 {
     let k = kept(meshed, n);
-    lists::clear_from_f32(x, k);
-    lists::clear_from_f32(y, k);
-    lists::clear_from_f32(z, k);
+    lists::clear_from(x, k, 0.0);
+    lists::clear_from(y, k, 0.0);
+    lists::clear_from(z, k, 0.0);
 }
 
 // The groups and the triangles stay, or are wiped where the answer refuses.
@@ -256,10 +256,10 @@ fn settle_triangles(
     let a = kept(meshed, t0.len());
     let b = kept(meshed, t1.len());
     let c = kept(meshed, t2.len());
-    lists::clear_from_u32(groups, g);
-    lists::clear_from_u32(t0, a);
-    lists::clear_from_u32(t1, b);
-    lists::clear_from_u32(t2, c);
+    lists::clear_from(groups, g, 0);
+    lists::clear_from(t0, a, 0);
+    lists::clear_from(t1, b, 0);
+    lists::clear_from(t2, c, 0);
 }
 
 // The mesh of a surface, in twelve lists.

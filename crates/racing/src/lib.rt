@@ -19,7 +19,6 @@ ghost use Rattle.table.specs.Read.{table_of, rows_in};
 
 use fronts::{Stop, sow, take};
 use heap::sort_rows;
-use lists::{clear_f32, clear_u64};
 use marching::{Course, is_seed, surely_full};
 use table::Rows;
 use thinning::lighten;
@@ -217,10 +216,10 @@ pub fn clear(keys: &mut [u64], distances: &mut [f32], estimates: &mut [f32], cel
     ensures estimates_after { estimates.new ≡ filled zero32 estimates.old }
     ensures cells_after { cells.new ≡ filled 0 cells.old }
 {
-    clear_u64(keys);
-    clear_f32(distances);
-    clear_f32(estimates);
-    clear_u64(cells);
+    lists::clear(keys, 0);
+    lists::clear(distances, 0.0);
+    lists::clear(estimates, 0.0);
+    lists::clear(cells, 0);
 }
 
 // The march over a table whose rows are in order, into lists that are all zero: the seeds, the takings, then the rows by key.

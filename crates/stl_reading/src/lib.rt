@@ -36,8 +36,8 @@ pub fn import_mesh_stl(
     let passed = reading::read_facets(file, count_of(stated), px, py, pz);
     let answer = reading::answer(stated, passed, px.len());
     let n = count_of(answer);
-    lists::clear_from_f32(px, n);
-    lists::clear_from_f32(py, n);
-    lists::clear_from_f32(pz, n);
+    lists::clear_from(px, n, 0.0);
+    lists::clear_from(py, n, 0.0);
+    lists::clear_from(pz, n, 0.0);
     answer
 }

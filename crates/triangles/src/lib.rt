@@ -208,9 +208,9 @@ pub fn build_triangles(
     let listed = answer(ok, filled, groups.len(), t0.len());
     let numbers = kept(listed, filled.groups);
     let count = lists::count_of(listed);
-    lists::clear_from_u32(groups, numbers);
-    lists::clear_from_u32(t0, count);
-    lists::clear_from_u32(t1, count);
-    lists::clear_from_u32(t2, count);
+    lists::clear_from(groups, numbers, 0);
+    lists::clear_from(t0, count, 0);
+    lists::clear_from(t1, count, 0);
+    lists::clear_from(t2, count, 0);
     listed
 }

@@ -12,7 +12,7 @@ ghost use Rattle.tsdf_questions.specs.Steps.{Accepted};
 ghost use Rattle.table.specs.Read.{table_of, rows_in};
 
 use floats::{Metres, is_finite, larger, size, smaller};
-use lists::{LONGEST_LIST, clear_from_u64, count_of, room_for};
+use lists::{LONGEST_LIST, clear_from, count_of, room_for};
 use refusals::Refusal;
 use table::{Rows, Settings, check_table, check_with, then_test};
 
@@ -125,7 +125,7 @@ pub fn get_surface_voxels(
     let below = threshold.0;
     let verdict = check_list(settings, rows, below, out.len());
     let listed = list_checked(verdict, below, rows, out);
-    clear_from_u64(out, count_of(listed));
+    clear_from(out, count_of(listed), 0);
     listed
 }
 

@@ -27,7 +27,7 @@ returns c =
       first = held (λ (x : Edge). x.first) _ _ e.first_after;
       second = held (λ (x : Edge). x.second) _ _ e.second_after;
       triangles = triangles;
-      t0 = cleared_to _ _ triangles _ n _ _ _ _ c.clear_from_u32.ensures k.t0;
-      t1 = cleared_to _ _ triangles _ n _ _ _ _ c.clear_from_u32-2.ensures k.t1;
-      t2 = cleared_to _ _ triangles _ n _ _ _ _ c.clear_from_u32-3.ensures k.t2;
+      t0 = cleared_to _ _ triangles _ n _ _ _ _ c.clear_from.ensures k.t0;
+      t1 = cleared_to _ _ triangles _ n _ _ _ _ c.clear_from-2.ensures k.t1;
+      t2 = cleared_to _ _ triangles _ n _ _ _ _ c.clear_from-3.ensures k.t2;
     }

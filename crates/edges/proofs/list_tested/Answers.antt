@@ -9,6 +9,6 @@ returns c =
     let done = c.list_checked-listed.ensures in
     record {
       value = done.value;
-      first_after = cleared_held _ _ n _ _ _ _ c.clear_from_u64.ensures done.first_after;
-      second_after = cleared_held _ _ n _ _ _ _ c.clear_from_u64-2.ensures done.second_after;
+      first_after = cleared_held _ _ n _ _ _ _ c.clear_from.ensures done.first_after;
+      second_after = cleared_held _ _ n _ _ _ _ c.clear_from-2.ensures done.second_after;
     }

@@ -21,7 +21,7 @@ returns c =
     record {
       value = within_answer a.keys.now a.distances.now a.count a.threshold a.out_keys.now a.out_distances.now _ _ _ _ _ p q f;
       out_keys_after = within_keys_lem a.keys.now a.distances.now a.count a.threshold a.out_keys.now a.out_distances.now _ _ _ _ _ p q f _
-          k.out_keys n c.clear_from_u64.ensures;
+          k.out_keys n c.clear_from.ensures;
       out_distances_after = within_distances_lem a.keys.now a.distances.now a.count a.threshold a.out_keys.now a.out_distances.now
-          _ _ _ _ _ p q f _ k.out_distances n c.clear_from_f32.ensures;
+          _ _ _ _ _ p q f _ k.out_distances n c.clear_from-2.ensures;
     }

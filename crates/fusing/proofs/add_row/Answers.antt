@@ -18,4 +18,4 @@ returns c =
     added _ _ _ _ _ _ _ c.requires.keys_value_2 c.if-keys-n.false _
     c.fused_voxel-v.ensures (yes c.within.ensures (ap not c.if-not-within.false)) c.requires.count_value
     c.requires.keys_value
-    _ c.place_of-place.ensures _ _ _ c.insert_u64.ensures c.insert_f32.ensures c.insert_f32-2.ensures
+    _ c.place_of-place.ensures _ _ _ c.insert.ensures c.insert-2.ensures c.insert-3.ensures

@@ -7,4 +7,4 @@ use Rattle.mesh.proofs.draw_closed.Goals as goal
 pub returns : goal.returns
 returns c =
     let a = c.args in
-    λ fit. drawn_closed a.verdict _ _ _ _ fit _ _ _ _ _ _ c.list_closed-closed.ensures a.groups.now _ refl c.clear_from_u32.ensures
+    λ fit. drawn_closed a.verdict _ _ _ _ fit _ _ _ _ _ _ c.list_closed-closed.ensures a.groups.now _ refl c.clear_from.ensures

@@ -8,6 +8,6 @@ use Rattle.mesh.proofs.settle_edges.Goals as goal
 pub returns : goal.returns
 returns c =
     let a = c.args in record {
-      first_after = c.clear_from_u64.ensures ∙ ap (λ (k : ℕ). cleared_from 0 k a.first.now) c.kept-a.ensures;
-      second_after = c.clear_from_u64-2.ensures ∙ ap (λ (k : ℕ). cleared_from 0 k a.second.now) c.kept-b.ensures;
+      first_after = c.clear_from.ensures ∙ ap (λ (k : ℕ). cleared_from 0 k a.first.now) c.kept-a.ensures;
+      second_after = c.clear_from-2.ensures ∙ ap (λ (k : ℕ). cleared_from 0 k a.second.now) c.kept-b.ensures;
     }

@@ -10,7 +10,7 @@ returns c =
     let a = c.args in
     let e = c.kept-k.ensures in
     record {
-      x_after = c.clear_from_f32.ensures ∙ ap (λ (k : ℕ). cleared_from zero_f k a.x.now) e;
-      y_after = c.clear_from_f32-2.ensures ∙ ap (λ (k : ℕ). cleared_from zero_f k a.y.now) e;
-      z_after = c.clear_from_f32-3.ensures ∙ ap (λ (k : ℕ). cleared_from zero_f k a.z.now) e;
+      x_after = c.clear_from.ensures ∙ ap (λ (k : ℕ). cleared_from zero_f k a.x.now) e;
+      y_after = c.clear_from-2.ensures ∙ ap (λ (k : ℕ). cleared_from zero_f k a.y.now) e;
+      z_after = c.clear_from-3.ensures ∙ ap (λ (k : ℕ). cleared_from zero_f k a.z.now) e;
     }

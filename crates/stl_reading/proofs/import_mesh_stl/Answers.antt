@@ -21,11 +21,11 @@ returns c =
       value = answered;
       px_after =
           import_held a.file.now _ _ _ (λ (v : Vertex). v.x.0) a.px.now _ _ _ _ _ (λ k r. refl) m read.value read.column_read n
-          c.clear_from_f32.ensures;
+          c.clear_from.ensures;
       py_after =
           import_held a.file.now _ _ _ (λ (v : Vertex). v.y.0) a.py.now _ _ _ _ _ (λ k r. r.second) m read.value read.column_read_2 n
-          c.clear_from_f32-2.ensures;
+          c.clear_from-2.ensures;
       pz_after =
           import_held a.file.now _ _ _ (λ (v : Vertex). v.z.0) a.pz.now _ _ _ _ _ (λ k r. r.third) m read.value read.column_read_3 n
-          c.clear_from_f32-3.ensures;
+          c.clear_from-3.ensures;
     }

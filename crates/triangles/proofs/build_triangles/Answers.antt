@@ -27,17 +27,17 @@ returns c =
       groups_after = groups_settled a.keys.now a.rows a.first.now a.second.now a.edges a.groups.now a.t0.now a.t1.now a.t2.now
           c.lengths_ok-ok.result c.rows_taken-n.result c.fill-filled.result c.answer-listed.result l.groups l.t0 l.t1 l.t2
           c.lengths_ok-ok.ensures c.rows_taken-n.ensures f.value f.groups_after f.t0_after f.t1_after f.t2_after
-          c.answer-listed.ensures _ c.kept-numbers.ensures _ c.clear_from_u32.ensures;
+          c.answer-listed.ensures _ c.kept-numbers.ensures _ c.clear_from.ensures;
       t0_after = ones_settled a.keys.now a.rows a.first.now a.second.now a.edges a.groups.now a.t0.now a.t1.now a.t2.now
           c.lengths_ok-ok.result c.rows_taken-n.result c.fill-filled.result c.answer-listed.result l.groups l.t0 l.t1 l.t2
           c.lengths_ok-ok.ensures c.rows_taken-n.ensures f.value f.groups_after f.t0_after f.t1_after f.t2_after
-          c.answer-listed.ensures _ c.count_of-count.ensures _ c.clear_from_u32-2.ensures;
+          c.answer-listed.ensures _ c.count_of-count.ensures _ c.clear_from-2.ensures;
       t1_after = twos_settled a.keys.now a.rows a.first.now a.second.now a.edges a.groups.now a.t0.now a.t1.now a.t2.now
           c.lengths_ok-ok.result c.rows_taken-n.result c.fill-filled.result c.answer-listed.result l.groups l.t0 l.t1 l.t2
           c.lengths_ok-ok.ensures c.rows_taken-n.ensures f.value f.groups_after f.t0_after f.t1_after f.t2_after
-          c.answer-listed.ensures _ c.count_of-count.ensures _ c.clear_from_u32-3.ensures;
+          c.answer-listed.ensures _ c.count_of-count.ensures _ c.clear_from-3.ensures;
       t2_after = threes_settled a.keys.now a.rows a.first.now a.second.now a.edges a.groups.now a.t0.now a.t1.now a.t2.now
           c.lengths_ok-ok.result c.rows_taken-n.result c.fill-filled.result c.answer-listed.result l.groups l.t0 l.t1 l.t2
           c.lengths_ok-ok.ensures c.rows_taken-n.ensures f.value f.groups_after f.t0_after f.t1_after f.t2_after
-          c.answer-listed.ensures _ c.count_of-count.ensures _ c.clear_from_u32-4.ensures;
+          c.answer-listed.ensures _ c.count_of-count.ensures _ c.clear_from-4.ensures;
     }

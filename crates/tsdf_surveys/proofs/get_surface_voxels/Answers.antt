@@ -16,5 +16,5 @@ returns c =
     let done = c.list_checked-listed.ensures in record {
       value = answered a.settings t _ _ _ verdict _ done.value;
       out_after = cleared_to a.settings t _ _ _ verdict _ done.value _ c.count_of.ensures _ _
-          c.clear_from_u64.ensures done.out_after;
+          c.clear_from.ensures done.out_after;
     }
