@@ -10,10 +10,10 @@ use Rattle.table.specs.Table.{table}
 use Rattle.fusing.specs.declared.Fused.{Fused}
 use Rattle.fusing.specs.declared.Step.{Step}
 use Rattle.fusing.specs.Fusing.{Outcome, outcome, Effect, effect}
-use Rattle.fusing.proofs.averaging_of.Reads as averaging_of
+use Rattle.fusing.proofs.AveragingFromSettings.from.Reads as averaging_from
 use Rattle.fusing.proofs.fused_voxel.Reads as fused_voxel
 use Rattle.fusing.proofs.fuse_sound.Reads as fuse_sound
-use Rattle.fusing.proofs.fused_of.Reads as fused_of
+use Rattle.fusing.proofs.FusedFromStep.from.Reads as fused_from
 use Rattle.fusing.proofs.fuse.Reads as fuse
 use Rattle.fusing.proofs.update_from_depth.Reads as update_from_depth
 use Rattle.fusing.proofs.update_from_depth_ray.Reads as update_from_depth_ray
@@ -43,11 +43,11 @@ effect_parts e = (
   ap (λ (o : Effect). o.left.count) e,
 )
 
-pub averaging_of_determined : (κs : _) (a : _) (r r' : _) (s s' : _) → averaging_of.Post κs a r s → averaging_of.Post κs a r' s' → r ≡ r'
-averaging_of_determined κs a r r' s s' p q = p ∙ sym q
+pub averaging_from_determined : (κs : _) (a : _) (r r' : _) (s s' : _) → averaging_from.Post κs a r s → averaging_from.Post κs a r' s' → r ≡ r'
+averaging_from_determined κs a r r' s s' p q = p ∙ sym q
 
-pub fused_of_determined : (κs : _) (a : _) (r r' : _) (s s' : _) → fused_of.Post κs a r s → fused_of.Post κs a r' s' → r ≡ r'
-fused_of_determined κs a r r' s s' p q = p ∙ sym q
+pub fused_from_determined : (κs : _) (a : _) (r r' : _) (s s' : _) → fused_from.Post κs a r s → fused_from.Post κs a r' s' → r ≡ r'
+fused_from_determined κs a r r' s s' p q = p ∙ sym q
 
 pub fused_voxel_determined : (κs : _) (a : _) (r r' : _) (s s' : _) → fused_voxel.Post κs a r s → fused_voxel.Post κs a r' s' → r ≡ r'
 fused_voxel_determined κs a r r' s s' p q = p ∙ sym q

@@ -19,7 +19,7 @@ use Rattle.search.proofs.KeyLaws.{found_member, absent_member}
 use Rattle.table.specs.Table.{row, Table, rows, put, relaid, table_check}
 use Rattle.table.proofs.Checking.{sound}
 use Rattle.table.proofs.Putting.{relaid_set, relaid_open}
-use Rattle.fusing.specs.declared.Voxel.{Voxel}
+use Rattle.table.specs.declared.Voxel.{Voxel}
 use Rattle.measuring.specs.declared.Reading.{Reading}
 use Rattle.fusing.specs.declared.Fused.{Fused}
 use Rattle.measuring.specs.Readings.{admitted}

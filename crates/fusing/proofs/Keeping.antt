@@ -29,7 +29,7 @@ use Rattle.table.proofs.Checking.{sound}
 use Rattle.table.proofs.Putting.{rows_length}
 use Rattle.table.proofs.Keeping.{put-rows_ok, put_ascends, put_length, at_ok, relaid_check}
 use Rattle.measuring.specs.declared.Measured.{Measured}
-use Rattle.fusing.specs.declared.Voxel.{Voxel}
+use Rattle.table.specs.declared.Voxel.{Voxel}
 use Rattle.measuring.specs.declared.Reading.{Reading}
 use Rattle.fusing.specs.declared.Averaging.{Averaging}
 use Rattle.fusing.specs.declared.Step.{Step}

@@ -16,7 +16,7 @@ use Rattle.table.specs.Table.{table, lengths_ok}
 use Rattle.search.proofs.KeyLaws.{halved_place}
 use Rattle.table.proofs.Putting.{relaid_set, relaid_open}
 use Rattle.fusing.specs.declared.Averaging.{Averaging}
-use Rattle.fusing.specs.declared.Voxel.{Voxel}
+use Rattle.table.specs.declared.Voxel.{Voxel}
 use Rattle.measuring.specs.declared.Measured.{Measured}
 use Rattle.fusing.specs.Fusing.{Effect, effect, fused_voxel, voxel_at, has_place, step_at, stored, fused_near}
 use Rattle.fusing.specs.declared.Step.{Step}

@@ -9,7 +9,7 @@ use Rattle.table.specs.declared.Settings.{Settings}
 use Rattle.search.specs.Keys.{member, find, place_of}
 use Rattle.table.specs.Table.{row, Table, rows, table_check, put, relaid}
 use Rattle.fusing.specs.declared.Averaging.{Averaging}
-use Rattle.fusing.specs.declared.Voxel.{Voxel}
+use Rattle.table.specs.declared.Voxel.{Voxel}
 use Rattle.fusing.specs.declared.Step.{Step}
 use Rattle.measuring.specs.declared.Reading.{Reading}
 use Rattle.measuring.specs.declared.Measured.{Measured}
@@ -103,10 +103,14 @@ abbrev pub stored_key : ℕ → Table → Bool
 stored_key k t = member k (take t.count t.keys)
 
 -- a row that was added is answered New, and one that was stored Changed, even if its bits come out the same
+abbrev pub kind_of : Step → Fused
+kind_of (Step.Added i) = Fused.New
+kind_of (Step.Changed i) = Fused.Changed
+kind_of Step.Far = Fused.Far
+
+-- and a refusal stays a refusal
 abbrev pub fused_of : Result Step Refusal → Result Fused Refusal
-fused_of (Ok (Step.Added i)) = (Ok Fused.New)
-fused_of (Ok (Step.Changed i)) = (Ok Fused.Changed)
-fused_of (Ok Step.Far) = (Ok Fused.Far)
+fused_of (Ok step) = Ok (kind_of step)
 fused_of (Err why) = Err why
 
 abbrev pub answered : Effect → Outcome

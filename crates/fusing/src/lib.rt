@@ -4,14 +4,14 @@
 ghost use Rattle.std.specs.Prelude.{◌≡◌, true, length, take, Ok, None};
 ghost use Rattle.search.specs.Keys.{find, ascending};
 ghost use Rattle.table.specs.Table.{table, lengths_ok, table_check};
-ghost use Rattle.fusing.specs.Fusing.{outcome, effect, averaging_of, new_weight, fused_voxel, fused_near, effect_of, fused_of, fuse};
+ghost use Rattle.fusing.specs.Fusing.{outcome, effect, averaging_of, new_weight, fused_voxel, fused_near, effect_of, kind_of, fuse};
 
 use floats::{Metres, smaller, within};
 use lists::insert;
 use measuring::{Measured, Reading, admit};
 use refusals::Refusal;
 use search::{find_row, place_of};
-use table::{Rows, Settings, check_table};
+use table::{Rows, Settings, Voxel, check_table};
 
 // What a fuse that is not refused answers: a row is new, a stored one is changed, or the reading is far.
 #[derive(Clone, Copy)]
@@ -35,19 +35,13 @@ pub struct Averaging {
     pub most: f32,
 }
 
-// A row's distance and weight.
-#[derive(Clone, Copy)]
-pub struct Voxel {
-    pub distance: f32,
-    pub weight: f32,
-}
+impl From<Settings> for Averaging {
+    ghost from_gives = { λ settings how. how ≡ averaging_of settings };
 
-// How readings are averaged under settings.
-pub fn averaging_of(settings: Settings) -> Averaging
-    ensures { result ≡ averaging_of settings }
-{
-    Averaging {
-        most: settings.max_weight,
+    fn from(settings: Settings) -> Averaging {
+        Averaging {
+            most: settings.max_weight,
+        }
     }
 }
 
@@ -165,7 +159,7 @@ pub fn fuse_sound(
         return Ok(Step::Far);
     };
     fuse_near(
-        averaging_of(settings),
+        Averaging::from(settings),
         keys,
         distances,
         weights,
@@ -176,14 +170,15 @@ pub fn fuse_sound(
 }
 
 // What is answered to what a reading did.
-pub fn fused_of(step: Result<Step, Refusal>) -> Result<Fused, Refusal>
-    ensures { result ≡ fused_of step }
-{
-    match step {
-        Ok(Step::Added(_)) => Ok(Fused::New),
-        Ok(Step::Changed(_)) => Ok(Fused::Changed),
-        Ok(Step::Far) => Ok(Fused::Far),
-        Err(why) => Err(why),
+impl From<Step> for Fused {
+    ghost from_gives = { λ step fused. fused ≡ kind_of step };
+
+    fn from(step: Step) -> Fused {
+        match step {
+            Step::Added(_) => Fused::New,
+            Step::Changed(_) => Fused::Changed,
+            Step::Far => Fused::Far,
+        }
     }
 }
 
@@ -209,8 +204,8 @@ pub fn fuse(
             count: *count,
         },
     )?;
-    let step = fuse_sound(settings, keys, distances, weights, count, key, reading);
-    fused_of(step)
+    let step = fuse_sound(settings, keys, distances, weights, count, key, reading)?;
+    Ok(Fused::from(step))
 }
 
 // A direct reading.

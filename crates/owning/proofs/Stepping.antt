@@ -30,7 +30,7 @@ use Rattle.table.proofs.Checking.{sound}
 use Rattle.table.proofs.Putting.{same_table, rows_length}
 use Rattle.table.proofs.Keeping.{relaid_rows, relaid_keys}
 use Rattle.fusing.specs.declared.Averaging.{Averaging}
-use Rattle.fusing.specs.declared.Voxel.{Voxel}
+use Rattle.table.specs.declared.Voxel.{Voxel}
 use Rattle.measuring.specs.declared.Measured.{Measured}
 use Rattle.fusing.specs.declared.Fused.{Fused}
 use Rattle.batching.specs.declared.Ending.TheVariants as Ending

@@ -8,7 +8,7 @@ use Rattle.table.specs.declared.Settings.{Settings}
 use Rattle.search.specs.Keys.{find, ascending}
 use Rattle.table.specs.Table.{Table, rows_of, rows, lengths_ok, table_check, relaid}
 use Rattle.fusing.specs.declared.Averaging.{Averaging}
-use Rattle.fusing.specs.declared.Voxel.{Voxel}
+use Rattle.table.specs.declared.Voxel.{Voxel}
 use Rattle.measuring.specs.declared.Measured.{Measured}
 use Rattle.owning.specs.declared.Owned.{Owned}
 use Rattle.owning.specs.declared.Run.{Run}

@@ -12,12 +12,12 @@ ghost use Rattle.owning.specs.Runs.{old_voxel, Placed, Stepped, passed_far, OwnS
 ghost use Rattle.table.specs.Read.{table_of};
 
 use floats::{Metres, between, within};
-use fusing::{Averaging, Voxel, averaging_of, fused_voxel};
+use fusing::{Averaging, fused_voxel};
 use gathering::{hold_back, load_f32, locate, settle};
 use measuring::{Measured, Reading, admit};
 use refusals::Refusal;
 use sorting::{distinct, sort};
-use table::{Rows, Settings};
+use table::{Rows, Settings, Voxel};
 
 // What a reading does to the own rows of a batch: nothing where it is far; a row is added or changed; it is left to
 // others where its row has no place in the table; or why it is refused.
@@ -120,7 +120,7 @@ fn fuse_own(
         Ok(Some(near)) => {
             let place = slot as usize - 1;
             fuse_place(
-                averaging_of(settings),
+                Averaging::from(settings),
                 own_distances,
                 own_weights,
                 place,

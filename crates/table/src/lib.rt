@@ -21,6 +21,13 @@ pub struct Settings {
     pub max_distance: Metres,
 }
 
+// A row's distance and weight.
+#[derive(Clone, Copy)]
+pub struct Voxel {
+    pub distance: f32,
+    pub weight: f32,
+}
+
 // The settings of four numbers, in their one order.
 pub fn settings_of(truncation: f32, max_weight: f32, voxel_size: f32, max_distance: f32) -> Settings
     ensures { result ≡ settings_of truncation max_weight voxel_size max_distance }

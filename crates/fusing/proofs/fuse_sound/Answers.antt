@@ -28,5 +28,5 @@ returns-in_default c = rw (c.requires, ← c.admit.ensures, c.in_ok-near.was, c.
 pub returns : goal.returns
 unfolding effect_of fuse_if fused_if
 returns c =
-    rw (c.requires, ← c.admit.ensures, c.in_ok-near.was, c.in-Some.is, ← c.averaging_of.ensures)
+    rw (c.requires, ← c.admit.ensures, c.in_ok-near.was, c.in-Some.is, ← c.from.ensures)
     c.fuse_near.ensures

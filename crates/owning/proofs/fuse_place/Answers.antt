@@ -5,7 +5,7 @@ use mathlib.Core.Path.{refl, sym, ap, ◌∙◌}
 use lib.ListN.{set}
 use Rattle.floats.specs.Floats.{million, within}
 use Rattle.lists.proofs.Bools.{yes, no}
-use Rattle.fusing.specs.declared.Voxel.{Voxel}
+use Rattle.table.specs.declared.Voxel.{Voxel}
 use Rattle.owning.specs.Runs.{Placed}
 use Rattle.owning.proofs.Stepping.{after, either, other}
 use Rattle.owning.proofs.fuse_place.Goals as goal
