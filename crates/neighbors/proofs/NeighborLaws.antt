@@ -1,20 +1,21 @@
 -- Laws of steps and neighbours.
 -- Assumes nothing.
 use Rattle.std.specs.Prelude.{Ok, Err, Some, None, Option, Result}
-use mathlib.Core.Path.{◌≡◌, refl, sym}
+use mathlib.Core.Path.{◌≡◌, refl, sym, ◌∙◌}
 use mathlib.Core.Bool.{Bool, true, false, cond}
 use Prim.Native.Nat.{ℕ, suc, ◌+◌, ◌<◌, ◌≤◌, zero-le}
 use native.Mathlib.Omega.{arith}
 use borrow.Author.Tests.{lt-ltb, le-ltb, le-leb, leb-true}
 use mathlib.Core.List.{List, [], ◌∷◌, ◌++◌, append-nil, append_assoc}
 use lib.ListN.{length, get_or, set, take, replicate, length-append, length-take}
-use lib.Seq.{take-suc}
+use lib.Seq.{take-suc, take-length, length-take-le}
 use native.Mathlib.Numerals.{add-one}
 use Rattle.lists.specs.Padding.{padded}
 use Rattle.lists.specs.Listing.{count_of, held_for}
 use Rattle.refusals.specs.declared.Refusal.TheVariants.{Lengths, OffLattice, NoPlace}
 use Rattle.lists.proofs.PaddingLaws.{padded_more, padded_front}
-use Rattle.neighbors.specs.Neighbors.{Offset, offsets, offset_at, in_box, reached, shown, neighbours_by, neighbours, listed_of, listing_of}
+use Rattle.neighbors.specs.Neighbors.{Offset, offsets, offset_at, in_box, reached, shown, neighbours_by, neighbours, near_of, listed_of, listing_of}
+use Rattle.neighbors.specs.declared.Near.{Near}
 use Rattle.ids.specs.Key.{on_lattice}
 use lib.Dec.{ltb, leb}
 use native.Mathlib.Nat.{sub-zero}
@@ -95,6 +96,10 @@ module _ (k n : ℕ) (l : n < 14) {a : Option ℕ} (e : a ≡ reached k (offset_
 pub at_most_14 : (k : ℕ) → length (neighbours k) ≤ 14
 at_most_14 k = rw fourteen at (neighbours_few k offsets)
 
+-- the cells of what is around a key are its neighbours
+pub cells_known : (k : ℕ) {near : Near} {cells : List ℕ} → near ≡ near_of k → cells ≡ take near.count near.keys → cells ≡ neighbours k
+cells_known k e f = f ∙ rw e (padded_front 0 14 (neighbours k))
+
 -- what is put into the room is what the answer says
 module _ (k room : ℕ) where
   said : Bool → Bool → Bool → Result ℕ Refusal
@@ -103,7 +108,7 @@ module _ (k room : ℕ) where
       (cond on (cond fits (Ok (length (neighbours k))) (Err NoPlace)) (Err OffLattice))
 
   front : Result ℕ Refusal → List ℕ
-  front a = padded 0 room (take (count_of a) (padded 0 14 (neighbours k)))
+  front a = padded 0 room (take (count_of a) (neighbours k))
 
   none : padded {A = ℕ} 0 room [] ≡ replicate room 0
   unfolding padded
@@ -114,9 +119,9 @@ module _ (k room : ℕ) where
   held_said true on fits = none
   held_said false false fits = none
   held_said false true false = none
-  held_said false true true = rw (padded_front 0 14 (neighbours k))
+  held_said false true true = rw (take-length (neighbours k))
 
-  pub listing : padded 0 room (take (count_of (listed_of k room)) (padded 0 14 (neighbours k))) ≡ listing_of k room
+  pub listing : padded 0 room (take (count_of (listed_of k room)) (neighbours k)) ≡ listing_of k room
   unfolding listed_of said front
   listing = held_said (ltb 1048576 room) (on_lattice k) (leb (length (neighbours k)) room)
 
@@ -127,20 +132,26 @@ module _ (k room : ℕ) where
   said_fits false true false e = zero-le
   said_fits false true true e = leb-true _ _ e
 
-  pub count_fits : count_of (listed_of k room) ≤ room
+  count_fits : count_of (listed_of k room) ≤ room
   unfolding listed_of said
   count_fits = said_fits (ltb 1048576 room) (on_lattice k) (leb (length (neighbours k)) room) refl
 
-  said_few : (long on fits : Bool) → count_of (said long on fits) ≤ 14
+  said_few : (long on fits : Bool) → count_of (said long on fits) ≤ length (neighbours k)
   unfolding said
   said_few true on fits = zero-le
   said_few false false fits = zero-le
   said_few false true false = zero-le
-  said_few false true true = at_most_14 k
+  said_few false true true = omega arith
 
-  pub count_few : count_of (listed_of k room) ≤ 14
+  count_few : count_of (listed_of k room) ≤ length (neighbours k)
   unfolding listed_of said
   count_few = said_few (ltb 1048576 room) (on_lattice k) (leb (length (neighbours k)) room)
+
+  pub answered_length : length (take (count_of (listed_of k room)) (neighbours k)) ≡ count_of (listed_of k room)
+  answered_length = length-take-le (count_of (listed_of k room)) (neighbours k) count_few
+
+  pub answered_fits : length (take (count_of (listed_of k room)) (neighbours k)) ≤ room
+  answered_fits = rw answered_length count_fits
 
 -- a lattice key in a room that suffices
 module _ (k room : ℕ) (on : on_lattice k ≡ true) (h : length (neighbours k) ≤ room) (l : room ≤ 1048576) where

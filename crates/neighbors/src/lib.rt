@@ -35,6 +35,15 @@ pub struct Near {
     pub count: usize,
 }
 
+impl Near {
+    // The neighbours themselves.
+    pub fn cells(&self) -> &[u64]
+        ensures { result.now ≡ take self.now.count self.now.keys }
+    {
+        &self.keys[..self.count.min(14)]
+    }
+}
+
 // The steps along the axis that begins at the lowest bit. What is added is the step over 17 bits, with ones between them, so that a carry passes.
 fn steps_along(m: u64) -> Along
     ensures value { result ≡ steps_along (gather 16 m) }
@@ -101,10 +110,9 @@ pub fn around(key: u64) -> Near
     let parts = lower_parts(key);
     let mut keys = [0u64; 14];
     let mut count = 0;
-    for place in 0..14 {
-        let n = cell_of(key, parts[place]);
-        if let Some(k) = n {
-            keys[count] = k;
+    for low in parts {
+        if let Some(cell) = cell_of(key, low) {
+            keys[count] = cell;
             count += 1;
         }
     }
@@ -154,18 +162,14 @@ pub fn are_adjacent(a: u64, b: u64) -> bool
     (a / HEAD == b / HEAD) & is_step(x, y, z)
 }
 
-// The first n keys, then zeros.
-fn put(keys: [u64; 14], n: usize, out: &mut [u64])
-    requires { (n ≤ 14) × (n ≤ length out.old) }
-    ensures { out.new ≡ padded 0 (length out.old) (take n keys) }
+// Some keys, then zeros.
+fn put(keys: &[u64], out: &mut [u64])
+    requires { length keys.now ≤ length out.old }
+    ensures { out.new ≡ padded 0 (length out.old) keys.now }
 {
-    for i in 0..out.len() {
-        let mut v = 0;
-        if i < n {
-            v = keys[i];
-        }
-        out[i] = v;
-    }
+    let (front, rest) = out.split_at_mut(keys.len());
+    front.copy_from_slice(keys);
+    rest.fill(0);
 }
 
 // What is answered for a key of `count` neighbours and a list of `room` places.
@@ -188,8 +192,7 @@ pub fn neighbors_index64(index: u64, out: &mut [u64]) -> Result<usize, Refusal>
     ensures out_after { out.new ≡ listing_of index (length out.old) }
 {
     let near = around(index);
-    let keys = near.keys;
     let listed = answer(index, near.count, out.len());
-    put(keys, lists::count_of(listed), out);
+    put(&near.cells()[..lists::count_of(listed)], out);
     listed
 }

@@ -9,19 +9,19 @@ use Rattle.neighbors.proofs.StepLaws.{cell_reached}
 use Rattle.neighbors.proofs.around.Goals.{in-Some, in_default}
 use Rattle.neighbors.proofs.around.Goals as goal
 
-pub loop-place-init : goal.loop-place-init
+pub loop-low-init : goal.loop-low-init
 unfolding padded neighbours_by
-loop-place-init c = (search rules, refl, refl, search rules)
+loop-low-init c = (search rules, refl, refl, search rules)
 
-pub loop-place-preserved : goal.loop-place-preserved
-loop-place-preserved c =
+pub loop-low-preserved : goal.loop-low-preserved
+loop-low-preserved c =
     let k = c.args.key in
-    let n = c.loop-place.place in
-    let t = c.loop-place-test.true in
-    let e : c.cell_of-n.result ≡ reached k (offset_at n) = rw (c.cell_of-n.ensures, c.lower_parts-parts.ensures) (cell_reached _ _ t) in
-    let ks = c.loop-place.invariant.1 in
-    let cs = c.loop-place.invariant.2 in
-    elim c.match-n.branch [
+    let n = c.loop-low.low-index in
+    let t = c.loop-low-test.true in
+    let e : c.cell_of.result ≡ reached k (offset_at n) = rw (c.cell_of.ensures, c.lower_parts-parts.ensures) (cell_reached _ _ t) in
+    let ks = c.loop-low.invariant.1 in
+    let cs = c.loop-low.invariant.2 in
+    elim c.match-cell_of.branch [
       | in-Some w ↦
           let f = w.in-Some.is in
           (omega arith, w.keys-is ∙ keys_one k n t e _ _ ks cs f, w.count-is ∙ count_one k n t e _ _ ks cs f, omega (arith, w.count-is))
@@ -32,5 +32,5 @@ loop-place-preserved c =
 
 pub returns : goal.returns
 returns c =
-    let e : c.loop-place.place ≡ 14 = omega arith in
-    rw (c.loop-place.invariant.1, c.loop-place.invariant.2, e, first_all)
+    let e : c.loop-low.low-index ≡ 14 = omega arith in
+    rw (c.loop-low.invariant.1, c.loop-low.invariant.2, e, first_all)
