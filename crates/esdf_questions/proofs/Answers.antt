@@ -1,8 +1,7 @@
 -- The answers: each by what the tests and the looking up say. Assumes nothing.
-use Rattle.std.specs.Prelude.{Ok, Err, Some, None, Result}
+use Rattle.std.specs.Prelude.{Ok, Err, Some, None, Result, Option}
 use mathlib.Core.Path.{◌≡◌, sym, ap, ◌∙◌}
 use mathlib.Core.Bool.{true, false}
-use mathlib.Core.Option.{Option, none, some}
 use Prim.Native.Nat.{ℕ, ◌+◌, ◌-◌, ◌<◌, ◌≤◌}
 use borrow.Author.Tests.{le-leb, lt-leb, eq-eqb, ne_eqb}
 use lib.Ieee.{Float, binary32, add, sub, mul, div, neg, lt}
@@ -75,11 +74,11 @@ module _ (t : MarchedTable) (k : ℕ) (threshold : Float) (v : Result (Unit {0})
 
     pub free_of : {d : Float} → s ≡ Some d → Ok (lt threshold d) ≡ is_free_space t k threshold
     unfolding is_above
-    free_of {d} h = answers (some d) (stored_some (distance_of k (marched_rows t)) s g h)
+    free_of {d} h = answers (Some d) (stored_some (distance_of k (marched_rows t)) s g h)
 
     pub free_absent : s ≡ None → Ok false ≡ is_free_space t k threshold
     unfolding is_above
-    free_absent h = answers none (stored_none (distance_of k (marched_rows t)) s g h)
+    free_absent h = answers None (stored_none (distance_of k (marched_rows t)) s g h)
 
 -- ---- the gradient's parts
 
@@ -105,13 +104,13 @@ pub slopes_of :
       z = add binary32 sum.z (mul binary32 (sub binary32 e d) z);
       count = sum.count + 1;
     })
-    (slopes_with k d sum n (some e))
+    (slopes_with k d sum n (Some e))
 unfolding slopes_with
 slopes_of k d sum n e a b x y z i j p q r = rw (p, q, r, i, j)
 
 -- one neighbour more, by what is stored of it
 module _ (k : ℕ) (d : Float) (sum : Slopes) (n : ℕ) (o : Option Float) (s : Option Float) (g : s ≡ stored_as o) where
-  pub slopes_stored : (r : Slopes) {e : Float} → s ≡ Some e → r ≡ slopes_with k d sum n (some e) → r ≡ slopes_with k d sum n o
+  pub slopes_stored : (r : Slopes) {e : Float} → s ≡ Some e → r ≡ slopes_with k d sum n (Some e) → r ≡ slopes_with k d sum n o
   slopes_stored r h i = i ∙ ap (slopes_with k d sum n) (sym (stored_some o s g h))
 
   pub slopes_absent : s ≡ None → sum ≡ slopes_with k d sum n o

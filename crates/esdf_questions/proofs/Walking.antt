@@ -1,7 +1,7 @@
 -- The sums over a cell's neighbours, one after another. Assumes nothing.
+use Rattle.std.specs.Prelude.{None, Option, Some}
 use mathlib.Core.Path.{◌≡◌, sym, ap, ◌∙◌}
 use mathlib.Core.List.{List}
-use mathlib.Core.Option.{Option, none, some}
 use Prim.Native.Nat.{ℕ, suc, ◌+◌, ◌<◌, ◌≤◌}
 use native.Mathlib.Numerals.{add-one}
 use native.Mathlib.Omega.{arith}
@@ -43,5 +43,5 @@ module _ (rs : List MarchedRow) (k : ℕ) (d : Float) (ns list : List ℕ) (fill
 
 pub slopes_few : (k : ℕ) (d : Float) (sum : Slopes) (n : ℕ) (o : Option Float) (i : ℕ) → sum.count ≤ i → (slopes_with k d sum n o).count ≤ i + 1
 unfolding slopes_with
-slopes_few k d sum n none i h = omega arith
-slopes_few k d sum n (some e) i h = omega arith
+slopes_few k d sum n None i h = omega arith
+slopes_few k d sum n (Some e) i h = omega arith

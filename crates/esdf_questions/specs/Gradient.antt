@@ -1,6 +1,5 @@
 -- The gradient at a cell: the mean over its stored neighbours of the distance's change along each axis, made as long as 1.
-use Rattle.std.specs.Prelude.{ℕ, ◌+◌, ◌-◌, cond, List, [], ◌∷◌, eqb, leb, pos, Float, Ok, Err, Some, None, Result}
-use Rattle.std.proofs.Math.Option.{Option, none, some}
+use Rattle.std.specs.Prelude.{ℕ, ◌+◌, ◌-◌, cond, List, [], ◌∷◌, eqb, leb, pos, Float, Ok, Err, Some, None, Result, Option}
 use Rattle.std.specs.Float.{binary32}
 use Rattle.std.specs.Float.Ieee.{add, sub, mul, div, neg, lt, of_int}
 use Rattle.floats.specs.Floats.{f32, zero32}
@@ -35,8 +34,8 @@ no_slopes = record { x = zero32; y = zero32; z = zero32; count = 0 }
 
 -- one neighbour n of the cell k at distance d more, where n is stored
 unfoldable pub slopes_with : ℕ → Float → Slopes → ℕ → Option Float → Slopes
-slopes_with k d sum n none = sum
-slopes_with k d sum n (some e) =
+slopes_with k d sum n None = sum
+slopes_with k d sum n (Some e) =
     let dd = sub binary32 e d in
     record {
       x = climbed sum.x dd (x_of k) (x_of n);
@@ -71,8 +70,8 @@ mean_of sum =
 
 -- Absent where the cell is not stored
 unfoldable pub gradient_at : List MarchedRow → ℕ → Option Float → Result (Option (Float × Float × Float)) Refusal
-gradient_at rs k none = (Ok None)
-gradient_at rs k (some d) = mean_of (slopes_from rs k d no_slopes (neighbours k))
+gradient_at rs k None = (Ok None)
+gradient_at rs k (Some d) = mean_of (slopes_from rs k d no_slopes (neighbours k))
 
 unfoldable pub gradient_said : Result (Unit {0}) Refusal → Result (Option (Float × Float × Float)) Refusal → Result (Option (Float × Float × Float)) Refusal
 gradient_said (Ok tt) g = g

@@ -1,6 +1,5 @@
 -- Questions about a cell: its distance, and whether it is free.
-use Rattle.std.specs.Prelude.{ℕ, Bool, false, Float, Ok, Err, Some, None, Result}
-use Rattle.std.proofs.Math.Option.{Option, none, some}
+use Rattle.std.specs.Prelude.{ℕ, Bool, false, Float, Ok, Err, Some, None, Result, Option}
 use Rattle.std.specs.Float.Ieee.{lt}
 use Rattle.refusals.specs.Refusals.{number_of, absent_number}
 use Rattle.marching.specs.March.{distance_of}
@@ -9,8 +8,8 @@ use Rattle.refusals.specs.declared.Refusal.{Refusal}
 
 -- the distance that is stored, or Absent
 unfoldable pub distance_said : Result (Unit {0}) Refusal → Option Float → Result (Option Float) Refusal
-distance_said (Ok tt) (some d) = Ok (Some d)
-distance_said (Ok tt) none = (Ok None)
+distance_said (Ok tt) (Some d) = Ok (Some d)
+distance_said (Ok tt) None = (Ok None)
 distance_said (Err why) d = Err why
 
 abbrev pub get_distance : MarchedTable → ℕ → Result (Option Float) Refusal
@@ -18,8 +17,8 @@ get_distance t k = distance_said (key_check t k) (distance_of k (marched_rows t)
 
 -- a stored distance above the threshold; no where none is stored
 unfoldable pub is_above : Float → Option Float → Bool
-is_above threshold (some d) = lt threshold d
-is_above threshold none = false
+is_above threshold (Some d) = lt threshold d
+is_above threshold None = false
 
 unfoldable pub free_said : Result (Unit {0}) Refusal → Bool → Result Bool Refusal
 free_said (Ok tt) b = Ok b

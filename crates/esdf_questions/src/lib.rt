@@ -1,8 +1,7 @@
 // Questions about a cell of a marched table: its distance, whether it is free, its gradient (src/layers/esdf.rs).
 #![tactic(auto)]
 
-ghost use Rattle.std.specs.Prelude.{◌≡◌, ◌<◌, length};
-ghost use Rattle.std.proofs.Math.Option.{some};
+ghost use Rattle.std.specs.Prelude.{◌≡◌, ◌<◌, length, Some};
 ghost use Rattle.marching.specs.March.{distance_of};
 ghost use Rattle.neighbors.specs.Neighbors.{neighbours};
 ghost use Rattle.marched.specs.Marched.{marched_table, marched_rows_of};
@@ -74,7 +73,7 @@ fn step(from: u16, to: u16) -> f32
 // A stored neighbour's part in the sums.
 fn slopes_with(key: u64, distance: f32, sum: Slopes, neighbour: u64, found: f32) -> Slopes
     requires { sum.count < 100 }
-    ensures { result ≡ slopes_with key distance sum neighbour (some found) }
+    ensures { result ≡ slopes_with key distance sum neighbour (Some found) }
 {
     let a = morton_decode(key);
     let b = morton_decode(neighbour);

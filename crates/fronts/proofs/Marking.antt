@@ -1,9 +1,8 @@
 -- Marks hold a state: what one more mark, or another one, changes. Assumes nothing.
-use Rattle.std.specs.Prelude.{Ok, Err, Result}
+use Rattle.std.specs.Prelude.{Ok, Err, Result, None, Option, Some}
 use mathlib.Core.Path.{◌≡◌, refl, sym, ap, subst, ◌∙◌}
 use mathlib.Core.Bool.{Bool, true, false, cond, ◌||◌, or-true, true≢false}
 use mathlib.Core.List.{List, [], ◌∷◌}
-use mathlib.Core.Option.{Option, none, some}
 use Prim.Native.Nat.{ℕ, ◌+◌, ◌<◌, ◌≤◌}
 use native.Mathlib.Omega.{arith}
 use borrow.Author.Tests.{eqb-true, eqb-false, lt-ltb, le-ltb, eq-eqb}
@@ -33,23 +32,23 @@ use Rattle.fronts.specs.declared.Stop.{Stop}
 
 -- ---- stored cells
 
-pub stored_some : (k : ℕ) (rs : List MarchedRow) (d : Float) → distance_of k rs ≡ some d → is_stored k rs ≡ true
+pub stored_some : (k : ℕ) (rs : List MarchedRow) (d : Float) → distance_of k rs ≡ Some d → is_stored k rs ≡ true
 stored_some k rs d e =
     cases (λ (b : Bool). is_stored k rs ≡ b → b ≡ true) (is_stored k rs) (λ _ _. refl)
     (λ _ q. absurd (let o = no_distance k rs q in let z : ◌≡◌ {A = ℕ} 0 1 = cc in omega arith)) refl
 
-pub stored_here : (k : ℕ) (rs : List MarchedRow) → is_stored k rs ≡ true → (d : Float) × (distance_of k rs ≡ some d)
+pub stored_here : (k : ℕ) (rs : List MarchedRow) → is_stored k rs ≡ true → (d : Float) × (distance_of k rs ≡ Some d)
 stored_here k rs e = go (distance_of k rs) refl
   where
-    go : (o : Option Float) → distance_of k rs ≡ o → (d : Float) × (o ≡ some d)
-    go none q = absurd (true≢false (sym e ∙ no_stored k rs q))
-    go (some d) q = (d, refl)
+    go : (o : Option Float) → distance_of k rs ≡ o → (d : Float) × (o ≡ Some d)
+    go None q = absurd (true≢false (sym e ∙ no_stored k rs q))
+    go (Some d) q = (d, refl)
 
 -- ---- one mark more, or another
 
 module _ (rs : List MarchedRow) (ws : List ℕ) (ks : List ℕ) (ds : List Float) (h : Marked rs ws ks ds) (k : ℕ) (real : k ≡ 1 → ⊥)
     (v : Float) (ks' : List ℕ) (ds' : List Float) (kept : Kept ks') (long : length ds' ≡ length ks')
-    (new : look k ks' ds' ≡ some v) (others : (j : ℕ) → (label j ≡ label k → ⊥) → look j ks' ds' ≡ look j ks ds) where
+    (new : look k ks' ds' ≡ Some v) (others : (j : ℕ) → (label j ≡ label k → ⊥) → look j ks' ds' ≡ look j ks ds) where
   -- another key has the mark that it had
   other : (j : ℕ) → (j ≡ 1 → ⊥) → eqb k j ≡ false → look j ks' ds' ≡ look j ks ds
   other j n e = others j (λ q. eqb-false k j e (sym (label_own j k n real q)))
@@ -69,29 +68,29 @@ module _ (rs : List MarchedRow) (ws : List ℕ) (ks : List ℕ) (ds : List Float
             λ j n.
             cases (λ (b : Bool).
             eqb k j ≡ b
-            → look j ks' ds' ≡ or_waits (cond b (some v) (distance_of j rs)) (member j vs)
+            → look j ks' ds' ≡ or_waits (cond b (Some v) (distance_of j rs)) (member j vs)
             → look j ks' ds' ≡ mark_of (insert row_before r rs) vs j) (eqb k j)
             (λ _ e q. q ∙ rw (distance_insert j r rs o, e))
             (λ _ e q. q ∙ rw (distance_insert j r rs o, e)) refl
-            (cases (λ (b : Bool). eqb k j ≡ b → look j ks' ds' ≡ or_waits (cond b (some v) (distance_of j rs)) (member j vs)) (eqb k j)
+            (cases (λ (b : Bool). eqb k j ≡ b → look j ks' ds' ≡ or_waits (cond b (Some v) (distance_of j rs)) (member j vs)) (eqb k j)
             (λ _ e. rw (← (eqb-true k j e)) new)
             (λ _ e. other j n e ∙ h.marks j n ∙ rw (same j (eqb-false k j e))) refl);
         kept = kept;
         long = long;
         finite =
             λ j d e.
-            cases (λ (b : Bool). cond b (some v) (distance_of j rs) ≡ some d → is_finite d ≡ true) (eqb k j)
+            cases (λ (b : Bool). cond b (Some v) (distance_of j rs) ≡ Some d → is_finite d ≡ true) (eqb k j)
             (λ _ q. let x : v ≡ d = cc in rw x at f) (λ _ q. h.finite j d q) (sym (distance_insert j r rs o) ∙ e);
         ascends = ascending_insert r rs h.ascends o;
       }
 
   -- k waits
-  marked_wait : (vs : List ℕ) → ((j : ℕ) → member j vs ≡ eqb k j || member j ws) → distance_of k rs ≡ none → v ≡ waiting_mark → Marked rs vs ks' ds'
+  marked_wait : (vs : List ℕ) → ((j : ℕ) → member j vs ≡ eqb k j || member j ws) → distance_of k rs ≡ None → v ≡ waiting_mark → Marked rs vs ks' ds'
   unfolding or_waits
   marked_wait vs more o f =
       record {
         marks = λ j n. cases (λ (b : Bool). eqb k j ≡ b → look j ks' ds' ≡ or_waits (distance_of j rs) (b || member j ws)) (eqb k j)
-            (λ _ e. let q = eqb-true k j e in rw (← q, o) (new ∙ ap some f))
+            (λ _ e. let q = eqb-true k j e in rw (← q, o) (new ∙ ap Some f))
             (λ _ e. other j n e ∙ h.marks j n) refl
             ∙ rw (more j);
         kept = kept;
@@ -103,7 +102,7 @@ module _ (rs : List MarchedRow) (ws : List ℕ) (ks : List ℕ) (ds : List Float
 -- a stored cell's waiting changes no mark
 pub marked_skip :
     (k : ℕ) (rs : List MarchedRow) (ws : List ℕ) (ks : List ℕ) (ds : List Float) (d : Float)
-    → distance_of k rs ≡ some d
+    → distance_of k rs ≡ Some d
     → Marked rs (k ∷ ws) ks ds
     → Marked rs ws ks ds
 unfolding or_waits member
@@ -163,15 +162,15 @@ unfolding or_waits marking member
 wait_marked lean e k real s w ks ds es cs h i a =
     wait_skips lean e k s w ks ds es cs h (known (distance_of k s.stored) refl (sym (value_at_lem (label k) ks ds i a) ∙ h.marked.marks k real))
   where
-    bit : (l b : Bool) {x : Float} → some x ≡ or_waits none (member k (marking l s.waiting)) → waits k s.waiting ≡ b → b ≡ true
+    bit : (l b : Bool) {x : Float} → Some x ≡ or_waits None (member k (marking l s.waiting)) → waits k s.waiting ≡ b → b ≡ true
     bit true b p q = absurd (let z : ◌≡◌ {A = ℕ} 0 1 = cc in omega arith)
     bit false true p q = refl
-    bit false false p q = absurd (let r = p ∙ ap (or_waits none) q in let z : ◌≡◌ {A = ℕ} 0 1 = cc in omega arith)
+    bit false false p q = absurd (let r = p ∙ ap (or_waits None) q in let z : ◌≡◌ {A = ℕ} 0 1 = cc in omega arith)
 
-    known : (o : Option Float) {x : Float} → distance_of k s.stored ≡ o → some x ≡ or_waits (distance_of k s.stored) (member k (marking lean s.waiting))
+    known : (o : Option Float) {x : Float} → distance_of k s.stored ≡ o → Some x ≡ or_waits (distance_of k s.stored) (member k (marking lean s.waiting))
         → is_stored k s.stored || waits k s.waiting ≡ true
-    known (some d) q p = rw (stored_some k s.stored d q)
-    known none q p = rw (bit lean (waits k s.waiting) (p ∙ rw q) refl) (or-true (is_stored k s.stored))
+    known (Some d) q p = rw (stored_some k s.stored d q)
+    known None q p = rw (bit lean (waits k s.waiting) (p ∙ rw q) refl) (or-true (is_stored k s.stored))
 
 -- ---- in a march with marks of waiting cells
 
@@ -270,7 +269,7 @@ module _ (k : ℕ) (on-lattice : on_lattice k ≡ true) (v : Float) (f : is_fini
         (ks' : List ℕ) (ds' : List Float)
         → Kept ks'
         → length ds' ≡ length ks'
-        → look k ks' ds' ≡ some v
+        → look k ks' ds' ≡ Some v
         → ((j : ℕ) → (label j ≡ label k → ⊥) → look j ks' ds' ≡ look j ks ds)
         → LeftRows (store (length ks) (marched_row k v) s) s vs (Ok (n + 1)) ks' ds'
     unfolding store LeftRows

@@ -1,9 +1,8 @@
 -- Steps on all four lists: a row is stored, then cells wait; and a cell is taken. Assumes nothing.
-use Rattle.std.specs.Prelude.{Ok, Err, Result}
+use Rattle.std.specs.Prelude.{Ok, Err, Result, Some}
 use mathlib.Core.Path.{◌≡◌, refl, sym, ap, subst, ◌∙◌}
 use mathlib.Core.Bool.{Bool, true, false, or-true}
 use mathlib.Core.List.{List, [], ◌∷◌}
-use mathlib.Core.Option.{some}
 use Prim.Native.Nat.{ℕ, suc, ◌+◌, ◌-◌, ◌<◌}
 use native.Mathlib.Nat.{not-suc-le-zero}
 use native.Mathlib.Omega.{arith}
@@ -183,7 +182,7 @@ also true c l = refl
 also false c l = refl
 
 skips : (lean : Bool) (k : ℕ) (l : List Cell) (rs : List MarchedRow) (ks : List ℕ) (ds : List Float) (d : Float)
-    → distance_of k rs ≡ some d
+    → distance_of k rs ≡ Some d
     → Marked rs (marking_also lean k l) ks ds
     → Marked rs (marking lean l) ks ds
 unfolding marking marking_also
@@ -227,7 +226,7 @@ module _ (lean : Bool) (seed : ℕ → Bool) (f : Field) (s : State) (n : ℕ) (
   pub take_skips : is_finite d ≡ true → Left lean (take f (rooms_of ks cs) s) (Ok (n, w - 1)) ks ds es' cs'
   unfolding Left visit
   take_skips a =
-      let e : distance_of (get_or cs 0 0) s.stored ≡ some d = here ∙ rw a in (
+      let e : distance_of (get_or cs 0 0) s.stored ≡ Some d = here ∙ rw a in (
         after,
         (
           taken ∙ rw (stored_some (get_or cs 0 0) s.stored d e),

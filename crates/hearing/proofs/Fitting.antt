@@ -1,10 +1,10 @@
 -- Marks are no more than the cells that have one. Assumes nothing.
+use Rattle.std.specs.Prelude.{None}
 use mathlib.Core.Path.{◌≡◌, refl, sym, ap, ◌∙◌}
 use mathlib.Core.Bool.{Bool, true, false, cond, not}
 use mathlib.Core.List.Memᴰ
 use mathlib.Core.List.{List, [], ◌∷◌, ◌++◌}
 use mathlib.Core.Logic.{⊎_elim}
-use mathlib.Core.Option.{none}
 use Prim.Native.Nat.{ℕ, zero, suc, ◌+◌, ◌<◌, ◌≤◌, zero-le, suc-le-suc}
 use native.Mathlib.Nat.{suc-ne-zero}
 use native.Mathlib.Omega.{arith}
@@ -90,11 +90,11 @@ module _ (rs : List MarchedRow) (ws : List ℕ) (ks : List ℕ) (ds : List Float
           absurd
           (let l = key_for_lem (get_or ks i 0) n in
           let found = value_at_lem (label k) ks ds i (kept_found ks h.kept (label k) (λ z. n (sym l ∙ z)) i (sym l)) in
-          let none_there : look k ks ds ≡ none = h.marks k (key_real (get_or ks i 0)) ∙ rw (no_distance k rs p, q) in
+          let none_there : look k ks ds ≡ None = h.marks k (key_real (get_or ks i 0)) ∙ rw (no_distance k rs p, q) in
           let o : ◌≡◌ {A = ℕ} 0 1 = cc in
           omega arith)
 
-  -- Stored cells and those with the mark of a waiting one are at least the marks.
+  -- Option cells and those with the mark of a waiting one are at least the marks.
   pub marks_fit : occupied ks ≤ length rs + length ws
   marks_fit =
       let most =

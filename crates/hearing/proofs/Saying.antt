@@ -1,9 +1,8 @@
 -- What a mark says of a cell. Assumes nothing.
-use Rattle.std.specs.Prelude.{Ok, Err}
+use Rattle.std.specs.Prelude.{Ok, Err, None, Option, Some}
 use mathlib.Core.Path.{◌≡◌, refl, sym, ◌∙◌}
 use mathlib.Core.Bool.{Bool, true, false}
 use mathlib.Core.List.{List}
-use mathlib.Core.Option.{Option, none, some}
 use Prim.Native.Nat.{ℕ, ◌<◌}
 use native.Mathlib.Omega.{arith}
 use lib.ListN.{length, get_or}
@@ -24,28 +23,28 @@ module _ (rs : List MarchedRow) (ws : List ℕ) (ks : List ℕ) (ds : List Float
   unfolding or_waits of_bits
   known_at i e = go (distance_of k rs) (member k ws) refl (sym (value_at_lem (label k) ks ds i e) ∙ h.marks k real)
     where
-      go : (o : Option Float) (b : Bool) → distance_of k rs ≡ o → some (get_or ds i nan) ≡ or_waits o b → o ≡ said (get_or ds i nan)
-      go (some d) b p q = let x : get_or ds i nan ≡ d = cc in rw (x, h.finite k d p)
-      go none true p q = let x : get_or ds i nan ≡ waiting_mark = cc in rw x
-      go none false p q = absurd (let z : ◌≡◌ {A = ℕ} 0 1 = cc in omega arith)
+      go : (o : Option Float) (b : Bool) → distance_of k rs ≡ o → Some (get_or ds i nan) ≡ or_waits o b → o ≡ said (get_or ds i nan)
+      go (Some d) b p q = let x : get_or ds i nan ≡ d = cc in rw (x, h.finite k d p)
+      go None true p q = let x : get_or ds i nan ≡ waiting_mark = cc in rw x
+      go None false p q = absurd (let z : ◌≡◌ {A = ℕ} 0 1 = cc in omega arith)
 
   -- a cell without a mark is not stored, and does not wait with one
-  pub unmarked : look k ks ds ≡ none → (distance_of k rs ≡ none) × (member k ws ≡ false)
+  pub unmarked : look k ks ds ≡ None → (distance_of k rs ≡ None) × (member k ws ≡ false)
   unfolding or_waits
   unmarked e = go (distance_of k rs) (member k ws) (sym (h.marks k real) ∙ e)
     where
-      go : (o : Option Float) (b : Bool) → or_waits o b ≡ none → (o ≡ none) × (b ≡ false)
-      go (some d) b q = absurd (let z : ◌≡◌ {A = ℕ} 0 1 = cc in omega arith)
-      go none true q = absurd (let z : ◌≡◌ {A = ℕ} 0 1 = cc in omega arith)
-      go none false q = (refl, refl)
+      go : (o : Option Float) (b : Bool) → or_waits o b ≡ None → (o ≡ None) × (b ≡ false)
+      go (Some d) b q = absurd (let z : ◌≡◌ {A = ℕ} 0 1 = cc in omega arith)
+      go None true q = absurd (let z : ◌≡◌ {A = ℕ} 0 1 = cc in omega arith)
+      go None false q = (refl, refl)
 
   pub known_absent : (p : ℕ) → spot_of k ks ≡ Err p → distance_of k rs ≡ said waiting_mark
   unfolding of_bits
   known_absent p e = (unmarked (value_absent (label k) ks ds p e)).0
 
 -- what a mark says of a stored cell
-pub said_some : (d : Float) (o : Option Float) → o ≡ said d → is_finite d ≡ true → o ≡ some d
+pub said_some : (d : Float) (o : Option Float) → o ≡ said d → is_finite d ≡ true → o ≡ Some d
 said_some d o e f = e ∙ rw f
 
-pub said_none : (d : Float) (o : Option Float) → o ≡ said d → is_finite d ≡ false → o ≡ none
+pub said_none : (d : Float) (o : Option Float) → o ≡ said d → is_finite d ≡ false → o ≡ None
 said_none d o e f = e ∙ rw f

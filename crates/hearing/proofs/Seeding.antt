@@ -3,7 +3,6 @@ use Rattle.std.specs.Prelude.{Some, None}
 use mathlib.Core.Path.{◌≡◌, refl, sym, ◌∙◌}
 use mathlib.Core.Bool.{Bool, true, false, ◌||◌, or-true}
 use mathlib.Core.List.{List}
-use mathlib.Core.Option.{some}
 use Prim.Native.Nat.{ℕ, ◌<◌}
 use lib.ListN.{get_or, take}
 use lib.Seq.{get_or-take, length-take-le}
@@ -41,11 +40,11 @@ module _ (t : Float) (ks : List ℕ) (ds ws : List Float) (n : ℕ) (lent : Lent
 -- ---- a stored row has spread
 
 module _ (seed : ℕ → Bool) (f : Field) (k : ℕ) (d e : Float) (at : e ≡ onward f d) (b : Bool) (told : b ≡ le e f.most) where
-  pub spread_on : b ≡ true → true ≡ has_spread seed f k (some d)
+  pub spread_on : b ≡ true → true ≡ has_spread seed f k (Some d)
   unfolding has_spread
   spread_on h = sym (rw (← at, ← told, h) (or-true (seed k)))
 
-  pub spread_seed : b ≡ false → (s : Bool) → s ≡ seed k → s ≡ has_spread seed f k (some d)
+  pub spread_seed : b ≡ false → (s : Bool) → s ≡ seed k → s ≡ has_spread seed f k (Some d)
   unfolding has_spread
   spread_seed h s q = q ∙ sym (rw (← at, ← told, h) (or_no (seed k)))
     where

@@ -2,8 +2,7 @@
 // them has spread. A stored cell's mark is its distance, a waiting one's is +infinity.
 #![tactic(auto)]
 
-ghost use Rattle.std.specs.Prelude.{◌≡◌, true, not, ◌&&◌, List, ℕ, eqb, length};
-ghost use Rattle.std.proofs.Math.Option.{some};
+ghost use Rattle.std.specs.Prelude.{◌≡◌, true, not, ◌&&◌, List, ℕ, eqb, length, Some};
 ghost use Rattle.ids.specs.Key.{on_lattice};
 ghost use Rattle.neighbors.specs.Neighbors.{neighbours};
 ghost use Rattle.table.specs.Table.{rows_of};
@@ -92,7 +91,7 @@ fn has_spread(fused: &Rows, threshold: f32, course: Course, key: u64, distance: 
     requires { Lent (table_of fused.now) }
     ensures { result ≡ has_spread (seed_in threshold
         (rows_in fused.now))
-        (lattice_of course) key (some distance) }
+        (lattice_of course) key (Some distance) }
 {
     if spreads(course, onward(course, distance)) {
         return true;

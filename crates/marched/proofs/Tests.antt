@@ -1,8 +1,7 @@
 -- The tests of a key and a threshold, after those of the table, and what is stored. Assumes nothing.
-use Rattle.std.specs.Prelude.{Ok, Err, Option as Stored, Some, None, Result}
+use Rattle.std.specs.Prelude.{Ok, Err, Some, None, Result, Option}
 use mathlib.Core.Path.{◌≡◌, refl, sym, ◌∙◌}
 use mathlib.Core.Bool.{true, false}
-use mathlib.Core.Option.{Option, none, some}
 use Prim.Native.Nat.{ℕ}
 use native.Mathlib.Omega.{arith}
 use lib.Ieee.{Float}
@@ -37,12 +36,12 @@ module _ (t : MarchedTable) (k : ℕ) (v : Result (Unit {0}) Refusal) where
 
 -- ---- what is stored
 
-pub stored_some : (o : Option Float) (s : Stored Float) {d : Float} → s ≡ stored_as o → s ≡ Some d → o ≡ some d
+pub stored_some : (o : Option Float) (s : Option Float) {d : Float} → s ≡ stored_as o → s ≡ Some d → o ≡ Some d
 unfolding stored_as
-stored_some none s e f = absurd (let z : ◌≡◌ {A = ℕ} 0 1 = cc in omega arith)
-stored_some (some x) s e f = cc
+stored_some None s e f = absurd (let z : ◌≡◌ {A = ℕ} 0 1 = cc in omega arith)
+stored_some (Some x) s e f = cc
 
-pub stored_none : (o : Option Float) (s : Stored Float) → s ≡ stored_as o → s ≡ None → o ≡ none
+pub stored_none : (o : Option Float) (s : Option Float) → s ≡ stored_as o → s ≡ None → o ≡ None
 unfolding stored_as
-stored_none none s e f = refl
-stored_none (some x) s e f = absurd (let z : ◌≡◌ {A = ℕ} 0 1 = cc in omega arith)
+stored_none None s e f = refl
+stored_none (Some x) s e f = absurd (let z : ◌≡◌ {A = ℕ} 0 1 = cc in omega arith)

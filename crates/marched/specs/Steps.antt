@@ -1,6 +1,5 @@
 -- What the private functions promise each other.
-use Rattle.std.specs.Prelude.{ℕ, ◌≤◌, ◌≡◌, true, List, length, take, Float, Option as Stored, Some, None}
-use Rattle.std.proofs.Math.Option.{Option, none, some}
+use Rattle.std.specs.Prelude.{ℕ, ◌≤◌, ◌≡◌, true, List, length, take, Float, Some, None, Option}
 use Rattle.search.specs.Keys.{ascending}
 
 -- two lists of one length, with n rows whose keys ascend
@@ -10,6 +9,6 @@ pub record Accepted (ks : List ℕ) (ds : List Float) (n : ℕ) : Type 0 where
   pub ascends : ascending (take n ks) ≡ true
 
 -- what is stored of a cell
-unfoldable pub stored_as : Option Float → Stored Float
-stored_as none = None
-stored_as (some d) = Some d
+unfoldable pub stored_as : Option Float → Option Float
+stored_as None = None
+stored_as (Some d) = Some d

@@ -1,9 +1,9 @@
 -- A settled distance is at most the maximum distance in size: what wins is no NaN, and it is clamped. Assumes nothing.
+use Rattle.std.specs.Prelude.{None, Option, Some}
 use mathlib.Core.Path.{◌≡◌, refl}
 use mathlib.Core.Logic.{◌⊎◌, inl, inr}
 use mathlib.Core.Bool.{Bool, true, false, cond, false≢true}
 use mathlib.Core.List.{List, [], ◌∷◌}
-use mathlib.Core.Option.{Option, none, some}
 use Prim.Native.Nat.{ℕ, suc}
 use lib.Ieee.{Float, nan, inf, fin, lt, le, is_nan, of_bits}
 use Rattle.floats.specs.Floats.{zero32, largest, size_of, within}
@@ -28,8 +28,8 @@ better_number best c h =
 
 heard_number : (size l best : Float) (d : Option Float) → is_nan best ≡ false → is_nan (heard size l best d) ≡ false
 unfolding heard
-heard_number size l best none h = h
-heard_number size l best (some d) h = better_number best (candidate size l d) h
+heard_number size l best None h = h
+heard_number size l best (Some d) h = better_number best (candidate size l d) h
 
 settling_number : (f : Field) (rs : List MarchedRow) (k p : ℕ) (best : Float) (ns : List ℕ) → is_nan best ≡ false → is_nan (settling f rs k p best ns) ≡ false
 unfolding settling

@@ -1,11 +1,11 @@
 -- Every waiting cell has a stored neighbour, so a settled cell's distance is what one says of it, never the value that the search starts at.
 -- Assumes nothing.
+use Rattle.std.specs.Prelude.{None, Option, Some}
 use mathlib.Core.Path.{◌≡◌, refl, sym, ap, subst, ◌∙◌}
 use mathlib.Core.Logic.{◌⊎◌, inl, inr, ⊎_elim}
 use mathlib.Core.Bool.{Bool, true, false, cond, ◌||◌, or-true, true≢false}
 use mathlib.Core.List.Memᴰ
 use mathlib.Core.List.{List, [], ◌∷◌}
-use mathlib.Core.Option.{Option, none, some}
 use Prim.Native.Nat.{ℕ, zero, suc}
 use native.Mathlib.Omega.{arith}
 use borrow.Author.Tests.{eqb-true, eq-eqb}
@@ -33,19 +33,19 @@ all_map P Q (x ∷ xs) h a = (h x a.0, all_map P Q xs h a.1)
 -- ---- what is stored
 
 -- a cell that has a distance is stored (one that has none is not: no_stored)
-stored_distance : (k : ℕ) (rs : List MarchedRow) {d : Float} → distance_of k rs ≡ some d → is_stored k rs ≡ true
+stored_distance : (k : ℕ) (rs : List MarchedRow) {d : Float} → distance_of k rs ≡ Some d → is_stored k rs ≡ true
 unfolding distance_of member
 stored_distance k [] {d} h = absurd (let z : ◌≡◌ {A = ℕ} 0 1 = cc in omega arith)
 stored_distance k (r ∷ rs) {d} h =
-    cases (λ (b : Bool). cond b (some r.distance) (distance_of k rs) ≡ some d → b || is_stored k rs ≡ true) (eqb r.key k)
+    cases (λ (b : Bool). cond b (Some r.distance) (distance_of k rs) ≡ Some d → b || is_stored k rs ≡ true) (eqb r.key k)
     (λ e g. refl) (λ e g. stored_distance k rs g) h
 
 -- what holds of every row holds of the one with this distance
-at_distance : (P : Float → Type 0) (k : ℕ) (rs : List MarchedRow) {d : Float} → distance_of k rs ≡ some d → All (λ (r : MarchedRow). P r.distance) rs → P d
+at_distance : (P : Float → Type 0) (k : ℕ) (rs : List MarchedRow) {d : Float} → distance_of k rs ≡ Some d → All (λ (r : MarchedRow). P r.distance) rs → P d
 unfolding distance_of All
 at_distance P k [] {d} h a = absurd (let z : ◌≡◌ {A = ℕ} 0 1 = cc in omega arith)
 at_distance P k (r ∷ rs) {d} h a =
-    cases (λ (b : Bool). cond b (some r.distance) (distance_of k rs) ≡ some d → P d) (eqb r.key k)
+    cases (λ (b : Bool). cond b (Some r.distance) (distance_of k rs) ≡ Some d → P d) (eqb r.key k)
     (λ e g. let q : r.distance ≡ d = cc in subst P q a.0) (λ e g. at_distance P k rs g a.1) h
 
 -- ---- one row more
@@ -59,19 +59,19 @@ stored_new r rs = insert_member row_before r (λ (x : MarchedRow). x.key) r.key 
 distance_grows :
     (n : ℕ) (r : MarchedRow) (rs : List MarchedRow) {d : Float}
     → is_stored r.key rs ≡ false
-    → distance_of n rs ≡ some d
-    → distance_of n (insert row_before r rs) ≡ some d
+    → distance_of n rs ≡ Some d
+    → distance_of n (insert row_before r rs) ≡ Some d
 unfolding distance_of insert member
 distance_grows n r [] {d} o h = absurd (let z : ◌≡◌ {A = ℕ} 0 1 = cc in omega arith)
 distance_grows n r (s ∷ rs) {d} o h =
-    cases (λ (b : Bool). distance_of n (cond b (s ∷ insert row_before r rs) (r ∷ (s ∷ rs))) ≡ some d) (ltb s.key r.key)
+    cases (λ (b : Bool). distance_of n (cond b (s ∷ insert row_before r rs) (r ∷ (s ∷ rs))) ≡ Some d) (ltb s.key r.key)
     (λ e.
     cases (λ (b : Bool).
-    cond b (some s.distance) (distance_of n rs) ≡ some d
-    → cond b (some s.distance) (distance_of n (insert row_before r rs)) ≡ some d) (eqb s.key n)
+    cond b (Some s.distance) (distance_of n rs) ≡ Some d
+    → cond b (Some s.distance) (distance_of n (insert row_before r rs)) ≡ Some d) (eqb s.key n)
     (λ f g. g) (λ f g. distance_grows n r rs (or_second (eqb s.key r.key) (is_stored r.key rs) o) g) h)
     (λ e.
-    cases (λ (b : Bool). eqb r.key n ≡ b → cond b (some r.distance) (distance_of n (s ∷ rs)) ≡ some d) (eqb r.key n)
+    cases (λ (b : Bool). eqb r.key n ≡ b → cond b (Some r.distance) (distance_of n (s ∷ rs)) ≡ Some d) (eqb r.key n)
     (λ _ f. absurd (true≢false (sym (stored_distance n (s ∷ rs) h) ∙ subst (λ (j : ℕ). is_stored j (s ∷ rs) ≡ false) (eqb-true r.key n f) o)))
     (λ _ f. h)
     refl)
@@ -87,8 +87,8 @@ module _ (f : Field) (rs : List MarchedRow) (k : ℕ) where
       settling_any Q (suc p) (heard f.size (f.reach k p) best (distance_of n rs)) ns (one (distance_of n rs) refl) (λ x s. a x (inr s))
     where
       one : (o : Option Float) → distance_of n rs ≡ o → Q (heard f.size (f.reach k p) best o)
-      one none e = h
-      one (some d) e =
+      one None e = h
+      one (Some d) e =
           cases (λ (b : Bool). Q (cond b (candidate f.size (f.reach k p) d) best)) (lt (size_of (candidate f.size (f.reach k p) d)) (size_of best))
           (λ g. a _ (inl (d, (e, refl)))) (λ g. h)
 
@@ -116,11 +116,11 @@ settling_said f rs k p (n ∷ ns) l i h a = one (distance_of n rs) refl (λ j. s
         → distance_of n rs ≡ o
         → (l ∈ ns → Said f rs k (suc p) ns (settling f rs k (suc p) largest ns))
         → Said f rs k p (n ∷ ns) (settling f rs k (suc p) (heard f.size (f.reach k p) largest o) ns)
-    one none e later =
+    one None e later =
         inr (later (⊎_elim (λ (q : l ≡ n).
         absurd (true≢false (sym h ∙ ap (λ (x : ℕ). is_stored x rs) q ∙ no_stored n rs e))) (λ j. j)
         (Memᴰ.cases_cons i)))
-    one (some d) e later =
+    one (Some d) e later =
         let c = candidate f.size (f.reach k p) d in
         let w : lt (size_of c) (size_of largest) ≡ true = at_distance (Sure f) n rs e a k p in
         let b : better largest c ≡ c = rw w in

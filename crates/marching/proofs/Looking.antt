@@ -1,9 +1,8 @@
 -- Looking a cell up among rows is looking its key up among theirs: the place that is found is the row's. Assumes nothing.
-use Rattle.std.specs.Prelude.{Option as Found, Some, None}
+use Rattle.std.specs.Prelude.{Some, None, Option}
 use mathlib.Core.Path.{◌≡◌, refl, sym, ◌∙◌}
 use mathlib.Core.Bool.{Bool, true, false, cond, ◌||◌}
 use mathlib.Core.List.{List, [], ◌∷◌}
-use mathlib.Core.Option.{Option, none, some}
 use Prim.Native.Nat.{ℕ}
 use lib.Dec.{eqb}
 use lib.ListN.{get_or}
@@ -13,11 +12,11 @@ use Rattle.search.specs.Keys.{member, find, next}
 use Rattle.marching.specs.March.{MarchedRow, keys_of, distances_of, distance_of}
 
 -- whether something was found
-unfoldable pub stands : Found ℕ → Bool
+unfoldable pub stands : Option ℕ → Bool
 stands (Some i) = true
 stands None = false
 
-stands_next : (f : Found ℕ) → stands (next f) ≡ stands f
+stands_next : (f : Option ℕ) → stands (next f) ≡ stands f
 unfolding next stands
 stands_next (Some i) = refl
 stands_next None = refl
@@ -30,11 +29,11 @@ member_find k (l ∷ ls) =
     (λ e. refl) (λ e. member_find k ls ∙ sym (stands_next (find k ls)))
 
 -- the value at the place that was found
-unfoldable pub at : Found ℕ → List Float → Option Float
-at (Some i) ds = some (get_or ds i nan)
-at None ds = none
+unfoldable pub at : Option ℕ → List Float → Option Float
+at (Some i) ds = Some (get_or ds i nan)
+at None ds = None
 
-at_next : (f : Found ℕ) (d : Float) (ds : List Float) → at (next f) (d ∷ ds) ≡ at f ds
+at_next : (f : Option ℕ) (d : Float) (ds : List Float) → at (next f) (d ∷ ds) ≡ at f ds
 unfolding next at
 at_next (Some i) d ds = refl
 at_next None d ds = refl
@@ -44,6 +43,6 @@ unfolding distance_of find at
 distance_find k [] = refl
 distance_find k (r ∷ rs) =
     cases (λ (b : Bool).
-    cond b (some r.distance) (distance_of k rs)
+    cond b (Some r.distance) (distance_of k rs)
     ≡ at (cond b (Some 0) (next (find k (keys_of rs)))) (r.distance ∷ distances_of rs)) (eqb r.key k)
     (λ e. refl) (λ e. distance_find k rs ∙ sym (at_next (find k (keys_of rs)) r.distance (distances_of rs)))

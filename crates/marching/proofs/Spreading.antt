@@ -1,10 +1,10 @@
 -- The key fact: of the cells that are not stored, exactly those wait that have a stored neighbour that has spread. Assumes nothing.
+use Rattle.std.specs.Prelude.{None, Option, Some}
 use mathlib.Core.Path.{◌≡◌, refl, sym, ap, ◌∙◌}
 use mathlib.Core.Logic.{◌⊎◌, ⊎_elim}
 use mathlib.Core.Bool.{Bool, true, false, cond, not, ◌&&◌, ◌||◌, or-true, true≢false, false≢true}
 use mathlib.Core.List.Memᴰ
 use mathlib.Core.List.{List, [], ◌∷◌, ◌++◌, append-nil}
-use mathlib.Core.Option.{Option, none, some}
 use Prim.Native.Nat.{ℕ, zero, suc}
 use native.Mathlib.Omega.{arith}
 use borrow.Author.Tests.{eqb-true, eqb-false, eq-eqb, ne_eqb}
@@ -54,17 +54,17 @@ in_member k (l ∷ ls) m =
 
 -- ---- what is stored
 
-pub no_distance : (k : ℕ) (rs : List MarchedRow) → is_stored k rs ≡ false → distance_of k rs ≡ none
+pub no_distance : (k : ℕ) (rs : List MarchedRow) → is_stored k rs ≡ false → distance_of k rs ≡ None
 unfolding distance_of member
 no_distance k [] h = refl
 no_distance k (r ∷ rs) h =
     rw (or_first (eqb r.key k) (is_stored k rs) h) (no_distance k rs (or_second (eqb r.key k) (is_stored k rs) h))
 
-pub no_stored : (k : ℕ) (rs : List MarchedRow) → distance_of k rs ≡ none → is_stored k rs ≡ false
+pub no_stored : (k : ℕ) (rs : List MarchedRow) → distance_of k rs ≡ None → is_stored k rs ≡ false
 unfolding distance_of member
 no_stored k [] h = refl
 no_stored k (r ∷ rs) h =
-    cases (λ (b : Bool). cond b (some r.distance) (distance_of k rs) ≡ none → b || is_stored k rs ≡ false) (eqb r.key k)
+    cases (λ (b : Bool). cond b (Some r.distance) (distance_of k rs) ≡ None → b || is_stored k rs ≡ false) (eqb r.key k)
     (λ e g. absurd (let z : ◌≡◌ {A = ℕ} 0 1 = cc in omega arith)) (λ e g. no_stored k rs g) h
 
 pub stored_more : (n : ℕ) (r : MarchedRow) (rs : List MarchedRow) → is_stored n (insert row_before r rs) ≡ eqb r.key n || is_stored n rs
@@ -73,16 +73,16 @@ stored_more n r rs = insert_member row_before r (λ (x : MarchedRow). x.key) n r
 -- a new row's key has the row's distance, and every other key what it had
 pub distance_insert : (n : ℕ) (r : MarchedRow) (rs : List MarchedRow)
     → is_stored r.key rs ≡ false
-    → distance_of n (insert row_before r rs) ≡ cond (eqb r.key n) (some r.distance) (distance_of n rs)
+    → distance_of n (insert row_before r rs) ≡ cond (eqb r.key n) (Some r.distance) (distance_of n rs)
 unfolding distance_of insert member
 distance_insert n r [] o = refl
 distance_insert n r (s ∷ rs) o =
-    let before = cond (eqb s.key n) (some s.distance) (distance_of n rs) in
+    let before = cond (eqb s.key n) (Some s.distance) (distance_of n rs) in
     let new : eqb s.key r.key ≡ false = or_first (eqb s.key r.key) (member r.key (keys_of rs)) o in
-    cases (λ (b : Bool). distance_of n (cond b (s ∷ insert row_before r rs) (r ∷ (s ∷ rs))) ≡ cond (eqb r.key n) (some r.distance) before)
+    cases (λ (b : Bool). distance_of n (cond b (s ∷ insert row_before r rs) (r ∷ (s ∷ rs))) ≡ cond (eqb r.key n) (Some r.distance) before)
     (ltb s.key r.key)
     (λ e. rw (distance_insert n r rs (or_second (eqb s.key r.key) (member r.key (keys_of rs)) o))
-    (swap (eqb s.key n) (eqb r.key n) (some s.distance) (some r.distance) (distance_of n rs)
+    (swap (eqb s.key n) (eqb r.key n) (Some s.distance) (Some r.distance) (distance_of n rs)
     (λ p q. eqb-false s.key r.key new (eqb-true s.key n p ∙ sym (eqb-true r.key n q)))))
     (λ e. refl)
   where
@@ -95,12 +95,12 @@ distance_insert n r (s ∷ rs) o =
 -- ---- the test over a cell's neighbours, in words
 
 module _ (seed : ℕ → Bool) (f : Field) (rs : List MarchedRow) where
-  spread_of : (l : ℕ) (o : Option Float) → has_spread seed f l o ≡ true → (d : Float) × ((o ≡ some d) × ((seed l ≡ true) ⊎ (le (onward f d) f.most ≡ true)))
+  spread_of : (l : ℕ) (o : Option Float) → has_spread seed f l o ≡ true → (d : Float) × ((o ≡ Some d) × ((seed l ≡ true) ⊎ (le (onward f d) f.most ≡ true)))
   unfolding has_spread
-  spread_of l none e = absurd (false≢true e)
-  spread_of l (some d) e = (d, (refl, or_cases (seed l) (le (onward f d) f.most) e))
+  spread_of l None e = absurd (false≢true e)
+  spread_of l (Some d) e = (d, (refl, or_cases (seed l) (le (onward f d) f.most) e))
 
-  of_spread : (l : ℕ) (d : Float) → (seed l ≡ true) ⊎ (le (onward f d) f.most ≡ true) → has_spread seed f l (some d) ≡ true
+  of_spread : (l : ℕ) (d : Float) → (seed l ≡ true) ⊎ (le (onward f d) f.most ≡ true) → has_spread seed f l (Some d) ≡ true
   unfolding has_spread
   of_spread l d h = ⊎_elim (λ e. rw e) (λ e. rw e (or-true (seed l))) h
 
@@ -137,16 +137,16 @@ module _ (seed : ℕ → Bool) (f : Field) (r : MarchedRow) (rs : List MarchedRo
 
   -- the new row adds its own neighbours, if it has spread
   pub any_insert : (ls : List ℕ)
-      → any_spread seed f (insert row_before r rs) ls ≡ any_spread seed f rs ls || (has_spread seed f r.key (some r.distance) && member r.key ls)
+      → any_spread seed f (insert row_before r rs) ls ≡ any_spread seed f rs ls || (has_spread seed f r.key (Some r.distance) && member r.key ls)
   unfolding any_spread member
-  any_insert [] = cases (λ (b : Bool). false ≡ b && false) (has_spread seed f r.key (some r.distance)) (λ e. refl) (λ e. refl)
+  any_insert [] = cases (λ (b : Bool). false ≡ b && false) (has_spread seed f r.key (Some r.distance)) (λ e. refl) (λ e. refl)
   any_insert (l ∷ ls) =
-      let own = has_spread seed f r.key (some r.distance) in
+      let own = has_spread seed f r.key (Some r.distance) in
       let any = any_spread seed f rs ls in
       rw (distance_insert l r rs new, any_insert ls)
       (cases (λ (b : Bool).
       eqb r.key l ≡ b
-      → has_spread seed f l (cond b (some r.distance) (distance_of l rs)) || (any || (own && member r.key ls))
+      → has_spread seed f l (cond b (Some r.distance) (distance_of l rs)) || (any || (own && member r.key ls))
       ≡ (has_spread seed f l (distance_of l rs) || any) || (own && (eqb l r.key || member r.key ls))) (eqb r.key l)
       (λ _ e.
       let q : r.key ≡ l = eqb-true r.key l e in
@@ -166,7 +166,7 @@ module _ (seed : ℕ → Bool) (f : Field) (r : MarchedRow) (rs : List MarchedRo
       rw (distance_insert l r rs new, other_insert ls)
       (cases (λ (b : Bool).
       eqb r.key l ≡ b
-      → (not (eqb l r.key) && has_spread seed f l (cond b (some r.distance) (distance_of l rs))) || any_spread seed f rs ls
+      → (not (eqb l r.key) && has_spread seed f l (cond b (Some r.distance) (distance_of l rs))) || any_spread seed f rs ls
       ≡ has_spread seed f l (distance_of l rs) || any_spread seed f rs ls) (eqb r.key l)
       (λ _ e. let q : r.key ≡ l = eqb-true r.key l e in rw (← q, quiet r.key new, eq-eqb r.key r.key refl))
       (λ _ e. rw (ne_eqb l r.key (λ q. eqb-false r.key l e (sym q))))
@@ -250,7 +250,7 @@ module _ (f : Field) (seed : ℕ → Bool) where
     pub sown : (k : ℕ) → seed k ≡ true → is_stored k s.stored ≡ true
 
   -- a seed has spread
-  seed_spread : (k : ℕ) (d : Float) → seed k ≡ true → has_spread seed f k (some d) ≡ true
+  seed_spread : (k : ℕ) (d : Float) → seed k ≡ true → has_spread seed f k (Some d) ≡ true
   unfolding has_spread
   seed_spread k d e = rw e
 
@@ -267,7 +267,7 @@ module _ (f : Field) (seed : ℕ → Bool) where
       → seed r.key ≡ false
       → (n : ℕ)
       → member n (cond (le (onward f r.distance) f.most) (f.near r.key) [])
-      ≡ has_spread seed f r.key (some r.distance) && member n (f.near r.key)
+      ≡ has_spread seed f r.key (Some r.distance) && member n (f.near r.key)
   unfolding has_spread member
   adds r e n =
       rw e
@@ -332,7 +332,7 @@ module _ (f : Field) (m : Rooms) (back : (k l : ℕ) → l ∈ f.near k → k �
       → is_stored r.key s.stored ≡ false
       → t.stored ≡ insert row_before r s.stored
       → ((n : ℕ) → is_stored n t.stored ≡ false → waits n t.waiting ≡ any_spread seed f s.stored (f.near n))
-      → ((n : ℕ) → member n ks ≡ has_spread seed f r.key (some r.distance) && member n (f.near r.key))
+      → ((n : ℕ) → member n ks ≡ has_spread seed f r.key (Some r.distance) && member n (f.near r.key))
       → Waited ks t u
       → WaitsExactly seed f u
   grown r s t u ks new e h is w n o =

@@ -1,6 +1,5 @@
 -- Marching: distances carried outwards from the rows near the surface.
-use Rattle.std.specs.Prelude.{ℕ, zero, suc, Bool, cond, ◌&&◌, ◌||◌, List, [], ◌∷◌, map, ltb, eqb, length, Float}
-use Rattle.std.proofs.Math.Option.{Option, none, some}
+use Rattle.std.specs.Prelude.{ℕ, zero, suc, Bool, cond, ◌&&◌, ◌||◌, List, [], ◌∷◌, map, ltb, eqb, length, Float, None, Option, Some}
 use Rattle.std.specs.Float.{binary32}
 use Rattle.std.specs.Float.Ieee.{add, mul, lt, eq, le, neg}
 use Rattle.floats.specs.Floats.{f32, zero32, largest, size_of, sign_of, clamp_of}
@@ -67,8 +66,8 @@ row_before r s = ltb r.key s.key
 
 -- the distance of k, where it is stored
 unfoldable pub distance_of : ℕ → List MarchedRow → Option Float
-distance_of k [] = none
-distance_of k (r ∷ rs) = cond (eqb r.key k) (some r.distance) (distance_of k rs)
+distance_of k [] = None
+distance_of k (r ∷ rs) = cond (eqb r.key k) (Some r.distance) (distance_of k rs)
 
 abbrev pub keys_of : List MarchedRow → List ℕ
 keys_of rs = map (λ (r : MarchedRow). r.key) rs
@@ -147,8 +146,8 @@ better best c = cond (lt (size_of c) (size_of best)) c best
 
 -- a neighbour that is not stored says nothing
 unfoldable pub heard : Float → Float → Float → Option Float → Float
-heard size l best none = best
-heard size l best (some d) = better best (candidate size l d)
+heard size l best None = best
+heard size l best (Some d) = better best (candidate size l d)
 
 -- the best over the neighbours from place p on
 unfoldable pub settling : Field → List MarchedRow → ℕ → ℕ → Float → List ℕ → Float

@@ -1,6 +1,5 @@
 -- What a march gives: which rows, and where their distances come from.
-use Rattle.std.specs.Prelude.{ℕ, suc, ◌≤◌, ◌≡◌, ◌⊎◌, true, List, [], ◌∷◌, length, Float}
-use Rattle.std.proofs.Math.Option.{some}
+use Rattle.std.specs.Prelude.{ℕ, suc, ◌≤◌, ◌≡◌, ◌⊎◌, true, List, [], ◌∷◌, length, Float, Some}
 use Rattle.std.specs.Float.Ieee.{neg}
 use Rattle.floats.specs.Floats.{clamp_of, within}
 use Rattle.ids.specs.Key.{on_lattice}
@@ -12,7 +11,7 @@ use Rattle.marching.specs.March.{MarchedRow, State, Field, Rooms, keys_of, dista
 unfoldable pub Said : Field → List MarchedRow → ℕ → ℕ → List ℕ → Float → Type 0
 Said f rs k p [] x = ⊥
 Said f rs k p (n ∷ ns) x =
-    ((d : Float) × ((distance_of n rs ≡ some d) × (x ≡ candidate f.size (f.reach k p) d))) ⊎ Said f rs k (suc p) ns x
+    ((d : Float) × ((distance_of n rs ≡ Some d) × (x ≡ candidate f.size (f.reach k p) d))) ⊎ Said f rs k (suc p) ns x
 
 -- a row's distance is what a stored neighbour of its cell says, clamped
 abbrev pub From : Field → List MarchedRow → MarchedRow → Type 0

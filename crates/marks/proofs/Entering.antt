@@ -1,8 +1,8 @@
 -- A label is put in from the place on where its search ended: what the label in hand has passed, and what each turn leaves. Assumes nothing.
+use Rattle.std.specs.Prelude.{Option, Some}
 use mathlib.Core.Path.{◌≡◌, refl, sym, ap, ◌∙◌}
 use mathlib.Core.Bool.{Bool, cond}
 use mathlib.Core.List.{List}
-use mathlib.Core.Option.{Option, some}
 use Prim.Native.Nat.{ℕ, suc, ◌<◌, ◌≤◌}
 use native.Mathlib.Omega.{arith}
 use borrow.Author.Tests.{eqb-true, eqb-false, eq-eqb, ne_eqb}
@@ -21,7 +21,7 @@ use Rattle.marks.proofs.Circling.{occupied_full, occupied_more, here, split, Aro
 
 -- the value of the label j, where x with the value d is in hand
 abbrev in_hand : ℕ → Float → ℕ → List ℕ → List Float → Option Float
-in_hand x d j ks ds = cond (eqb j x) (some d) (value_of j ks ds)
+in_hand x d j ks ds = cond (eqb j x) (Some d) (value_of j ks ds)
 
 module _ (ks : List ℕ) (i x : ℕ) (l : i < length ks) where
   module _ (h : Kept ks) (less : get_or ks i 0 < x) where
@@ -44,11 +44,11 @@ module _ (ks : List ℕ) (i x : ℕ) (l : i < length ks) where
       -- every label but the one that stood there has the value that it had, x the one from the hand
       value_set : (j : ℕ) → (j ≡ 0 → ⊥) → (get_or ks i 0 ≡ j → ⊥) → value_of j (set ks i x) (set ds i d) ≡ in_hand x d j ks ds
       value_set j n m =
-          cases (λ (b : Bool). eqb j x ≡ b → value_of j (set ks i x) (set ds i d) ≡ cond b (some d) (value_of j ks ds)) (eqb j x)
+          cases (λ (b : Bool). eqb j x ≡ b → value_of j (set ks i x) (set ds i d) ≡ cond b (Some d) (value_of j ks ds)) (eqb j x)
           (λ _ e.
           let z = eqb-true j x e in
           value_at_lem j (set ks i x) (set ds i d) i (kept_found (set ks i x) (kept_set o) j n i (here ks i x l ∙ sym z))
-          ∙ ap some (get_or-set_same ds i d nan (rw long l)))
+          ∙ ap Some (get_or-set_same ds i d nan (rw long l)))
           (λ _ e.
           let z = eqb-false j x e in
           value_same j n ks ds (set ks i x) (set ds i d) h (kept_set o)
@@ -123,7 +123,7 @@ module _ (w : ℕ) (v : Float) (p : ℕ) (ks₀ : List ℕ) (ds₀ : List Float)
       where
         other : (k : ℕ) → (k ≡ 0 → ⊥) → in_hand (get_or ks i 0) (get_or ds i nan) k (set ks i x) (set ds i d) ≡ in_hand x d k ks ds
         other k o =
-            cases (λ (b : Bool). cond b (some (get_or ds i nan)) (value_of k (set ks i x) (set ds i d)) ≡ in_hand x d k ks ds) (eqb k (get_or ks i 0))
+            cases (λ (b : Bool). cond b (Some (get_or ds i nan)) (value_of k (set ks i x) (set ds i d)) ≡ in_hand x d k ks ds) (eqb k (get_or ks i 0))
             (λ f.
             let z = eqb-true k (get_or ks i 0) f in
             rw (ne_eqb k x (λ y. let g : get_or ks i 0 ≡ x = sym z ∙ y in omega arith))

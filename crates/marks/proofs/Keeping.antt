@@ -1,9 +1,8 @@
 -- Labels that stand on their paths, and the values beside them. Assumes nothing.
-use Rattle.std.specs.Prelude.{Ok, Err, Result}
+use Rattle.std.specs.Prelude.{Ok, Err, Result, None, Option, Some}
 use mathlib.Core.Path.{◌≡◌, refl, sym, ap, ◌∙◌}
 use mathlib.Core.Bool.{Bool, cond}
 use mathlib.Core.List.{List}
-use mathlib.Core.Option.{Option, none, some}
 use Prim.Native.Nat.{ℕ, zero, suc, ◌<◌, ◌≤◌}
 use native.Mathlib.Omega.{arith}
 use borrow.Author.Tests.{eqb-true, eqb-false, eq-eqb, ne_eqb, ltb-true, ltb-false}
@@ -94,29 +93,29 @@ module _ (ks : List ℕ) (h : Kept ks) where
 abbrev pub value_of : ℕ → List ℕ → List Float → Option Float
 value_of k ks ds = value_at (standing k ks) ds
 
-pub value_at_lem : (k : ℕ) (ks : List ℕ) (ds : List Float) (i : ℕ) → standing k ks ≡ Ok i → value_of k ks ds ≡ some (get_or ds i nan)
+pub value_at_lem : (k : ℕ) (ks : List ℕ) (ds : List Float) (i : ℕ) → standing k ks ≡ Ok i → value_of k ks ds ≡ Some (get_or ds i nan)
 unfolding value_at
 value_at_lem k ks ds i e = rw e
 
-pub value_absent : (k : ℕ) (ks : List ℕ) (ds : List Float) (p : ℕ) → standing k ks ≡ Err p → value_of k ks ds ≡ none
+pub value_absent : (k : ℕ) (ks : List ℕ) (ds : List Float) (p : ℕ) → standing k ks ≡ Err p → value_of k ks ds ≡ None
 unfolding value_at
 value_absent k ks ds p e = rw e
 
 -- a label that has a value stands somewhere
-pub looked : (k : ℕ) (ks : List ℕ) (ds : List Float) (d : Float) → value_of k ks ds ≡ some d → (i : ℕ) × ((standing k ks ≡ Ok i) × (get_or ds i nan ≡ d))
+pub looked : (k : ℕ) (ks : List ℕ) (ds : List Float) (d : Float) → value_of k ks ds ≡ Some d → (i : ℕ) × ((standing k ks ≡ Ok i) × (get_or ds i nan ≡ d))
 unfolding value_at
 looked k ks ds d e = go (standing k ks) refl e
   where
-    go : (s : Result ℕ ℕ) → standing k ks ≡ s → value_at s ds ≡ some d → (i : ℕ) × ((standing k ks ≡ Ok i) × (get_or ds i nan ≡ d))
+    go : (s : Result ℕ ℕ) → standing k ks ≡ s → value_at s ds ≡ Some d → (i : ℕ) × ((standing k ks ≡ Ok i) × (get_or ds i nan ≡ d))
     go (Ok i) f e = (i, (f, cc))
     go (Err i) f e = absurd (let o : ◌≡◌ {A = ℕ} 0 1 = cc in omega arith)
 
 -- one that stands nowhere has none
-pub value_none : (k : ℕ) (ks : List ℕ) (ds : List Float) → ((i : ℕ) → get_or ks i 0 ≡ k → ⊥) → value_of k ks ds ≡ none
+pub value_none : (k : ℕ) (ks : List ℕ) (ds : List Float) → ((i : ℕ) → get_or ks i 0 ≡ k → ⊥) → value_of k ks ds ≡ None
 unfolding value_at
 value_none k ks ds n = go (standing k ks) refl
   where
-    go : (s : Result ℕ ℕ) → standing k ks ≡ s → value_at s ds ≡ none
+    go : (s : Result ℕ ℕ) → standing k ks ≡ s → value_at s ds ≡ None
     go (Ok i) f = absurd (n i (standing_at k ks i f))
     go (Err i) f = refl
 
@@ -133,7 +132,7 @@ module _ (k : ℕ) (n : k ≡ 0 → ⊥) (ks : List ℕ) (ds : List Float) (ks' 
       go : (s : Result ℕ ℕ) → standing k ks ≡ s → value_of k ks' ds' ≡ value_of k ks ds
       go (Ok i) e =
           let b = f (get_or ds i nan) (i, (standing_at k ks i e, refl)) in
-          value_at_lem k ks' ds' b.0 (kept_found ks' h' k n b.0 b.1.0) ∙ ap some b.1.1 ∙ sym (value_at_lem k ks ds i e)
+          value_at_lem k ks' ds' b.0 (kept_found ks' h' k n b.0 b.1.0) ∙ ap Some b.1.1 ∙ sym (value_at_lem k ks ds i e)
       go (Err p) e =
           let o = kept_absent ks h k n p e in
           value_none k ks' ds' (λ i x. let b = g (get_or ds' i nan) (i, (x, refl)) in o b.0 b.1.0) ∙ sym (value_none k ks ds o)
@@ -157,16 +156,16 @@ module _ (n : ℕ) (ks : List ℕ) (e : ks ≡ replicate n 0) where
   pub kept_none : Kept ks
   kept_none i h = absurd (h (ap (λ (l : List ℕ). get_or l i 0) e ∙ blank n i))
 
-  pub look_none : (k : ℕ) (ds : List Float) → look k ks ds ≡ none
+  pub look_none : (k : ℕ) (ds : List Float) → look k ks ds ≡ None
   look_none k ds = value_none (label k) ks ds (λ i f. label_real k (sym f ∙ ap (λ (l : List ℕ). get_or l i 0) e ∙ blank n i))
 
 -- ---- another value
 
 module _ (k : ℕ) (ks : List ℕ) (ds : List Float) (i : ℕ) (e : spot_of k ks ≡ Ok i) (same : length ds ≡ length ks) (v : Float) where
-  pub look_set : look k ks (set ds i v) ≡ some v
+  pub look_set : look k ks (set ds i v) ≡ Some v
   look_set =
       let l = within ks i (λ z. label_real k (sym (standing_at (label k) ks i e) ∙ z)) in
-      value_at_lem (label k) ks (set ds i v) i e ∙ ap some (get_or-set_same ds i v nan (rw same l))
+      value_at_lem (label k) ks (set ds i v) i e ∙ ap Some (get_or-set_same ds i v nan (rw same l))
 
   pub look_set_other : (j : ℕ) → (label j ≡ label k → ⊥) → look j ks (set ds i v) ≡ look j ks ds
   unfolding value_at
@@ -174,7 +173,7 @@ module _ (k : ℕ) (ks : List ℕ) (ds : List Float) (i : ℕ) (e : spot_of k ks
     where
       go : (s : Result ℕ ℕ) → spot_of j ks ≡ s → value_at s (set ds i v) ≡ value_at s ds
       go (Ok m) f =
-          ap some (get_or-set_other ds i m v nan
+          ap Some (get_or-set_other ds i m v nan
           (λ q. n (sym (standing_at (label j) ks m f) ∙ ap (λ (x : ℕ). get_or ks x 0) q ∙ standing_at (label k) ks i e)))
       go (Err m) f = refl
 

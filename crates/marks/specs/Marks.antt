@@ -1,8 +1,7 @@
 -- A list of keys as a table with open addressing. A key's label stands for it: 1 for key 0, else the key itself; key 1 is on no lattice.
 -- 0 is an empty place. A label's path goes from its home to the end of the list, and then from the first place to its home; before a label
 -- stand only larger ones on its path.
-use Rattle.std.specs.Prelude.{ℕ, zero, suc, ◌+◌, ◌*◌, ◌/◌, ◌%◌, ◌^◌, ◌-◌, ◌<◌, ◌≡◌, Bool, cond, ◌&&◌, ◌||◌, List, [], ◌∷◌, eqb, leb, ltb, length, get_or, Float, Ok, Err, Result}
-use Rattle.std.proofs.Math.Option.{Option, none, some}
+use Rattle.std.specs.Prelude.{ℕ, zero, suc, ◌+◌, ◌*◌, ◌/◌, ◌%◌, ◌^◌, ◌-◌, ◌<◌, ◌≡◌, Bool, cond, ◌&&◌, ◌||◌, List, [], ◌∷◌, eqb, leb, ltb, length, get_or, Float, Ok, Err, Result, None, Option, Some}
 use Rattle.std.specs.Float.{nan}
 
 -- what stands in the list for the key k
@@ -71,8 +70,8 @@ spot_of k ks = standing (label k) ks
 
 -- the value at a key's place
 unfoldable pub value_at : Result ℕ ℕ → List Float → Option Float
-value_at (Ok i) ds = some (get_or ds i nan)
-value_at (Err i) ds = none
+value_at (Ok i) ds = Some (get_or ds i nan)
+value_at (Err i) ds = None
 
 -- the value of the key k, where it stands
 abbrev pub look : ℕ → List ℕ → List Float → Option Float
@@ -101,7 +100,7 @@ pub record Entered (k : ℕ) (v : Float) (ks : List ℕ) (ds : List Float) (ks' 
   pub kept : Kept ks'
   pub places : length ks' ≡ length ks
   pub values : length ds' ≡ length ks
-  pub value : look k ks' ds' ≡ some v
+  pub value : look k ks' ds' ≡ Some v
   pub others : (j : ℕ) → (label j ≡ label k → ⊥) → look j ks' ds' ≡ look j ks ds
   pub fuller : occupied ks' ≡ suc (occupied ks)
 
@@ -122,7 +121,7 @@ pub record Gone (k : ℕ) (ks : List ℕ) (ds : List Float) (ks' : List ℕ) (ds
   pub kept : Kept ks'
   pub places : length ks' ≡ length ks
   pub values : length ds' ≡ length ks
-  pub value : look k ks' ds' ≡ none
+  pub value : look k ks' ds' ≡ None
   pub others : (j : ℕ) → (label j ≡ label k → ⊥) → look j ks' ds' ≡ look j ks ds
   pub emptier : occupied ks ≡ suc (occupied ks')
 

@@ -1,11 +1,10 @@
 -- The beginning and the end of the march: blank lists hold nothing, and once no cell waits the marks are the stored rows, scattered. Assumes nothing.
-use Rattle.std.specs.Prelude.{Ok, Err, Result}
+use Rattle.std.specs.Prelude.{Ok, Err, Result, None, Option, Some}
 use mathlib.Core.Path.{◌≡◌, refl, sym, ap, subst, ◌∙◌}
 use mathlib.Core.Bool.{Bool, true, false, or-true}
 use mathlib.Core.List.Memᴰ
 use mathlib.Core.List.{List, [], ◌∷◌}
 use mathlib.Core.Logic.{⊎_elim}
-use mathlib.Core.Option.{Option, none, some}
 use Prim.Native.Nat.{ℕ, suc, ◌-◌, ◌<◌, ◌≤◌}
 use native.Mathlib.Omega.{arith}
 use borrow.Author.Tests.{eq-eqb, ne_eqb}
@@ -94,7 +93,7 @@ blank_ready lean ks ds es cs h =
       spare = λ _ l. absurd (omega arith);
     }
   where
-    unmarked : (l : Bool) (k : ℕ) → or_waits none (member k (marking l [])) ≡ none
+    unmarked : (l : Bool) (k : ℕ) → or_waits None (member k (marking l [])) ≡ None
     unmarked true k = refl
     unmarked false k = refl
 
@@ -155,9 +154,9 @@ module _ (s : State) (n : ℕ) (ks : List ℕ) (ds es : List Float) (cs : List �
         once = λ i j l m z e. kept_once ks bare.kept i j z e;
       }
     where
-      only : (o : Option Float) (x : Float) → or_waits o false ≡ some x → o ≡ some x
-      only none x e = absurd (let z : ◌≡◌ {A = ℕ} 0 1 = cc in omega arith)
-      only (some d) x e = e
+      only : (o : Option Float) (x : Float) → or_waits o false ≡ Some x → o ≡ Some x
+      only None x e = absurd (let z : ◌≡◌ {A = ℕ} 0 1 = cc in omega arith)
+      only (Some d) x e = e
 
   -- sorted and with the first key unlabelled, they are the march's rows
   pub laid :

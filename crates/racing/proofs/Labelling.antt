@@ -1,10 +1,10 @@
 -- Rows by the labels of their keys: in the same order, and only key 0 has another label. Assumes nothing.
+use Rattle.std.specs.Prelude.{Some}
 use mathlib.Core.Path.{◌≡◌, refl, sym, ap}
 use mathlib.Core.Bool.{Bool, true, cond}
 use mathlib.Core.List.Memᴰ
 use mathlib.Core.List.{List, [], ◌∷◌, ◌++◌, map}
 use mathlib.Core.Logic.{⊎_elim}
-use mathlib.Core.Option.{some}
 use Prim.Native.Nat.{ℕ, zero, suc, ◌-◌, ◌<◌}
 use native.Mathlib.Omega.{arith}
 use borrow.Author.Tests.{ltb-true, lt-ltb, eqb-true, eqb-false, eq-eqb, ne_eqb}
@@ -81,7 +81,7 @@ pub distance_labelled : (k : ℕ) (rs : List MarchedRow) → (k ≡ 1 → ⊥) �
 unfolding distance_of All
 distance_labelled k [] n a = refl
 distance_labelled k (r ∷ rs) n a =
-    cases (λ (b : Bool). eqb r.key k ≡ b → distance_of (label k) (labelled (r ∷ rs)) ≡ cond b (some r.distance) (distance_of k rs)) (eqb r.key k)
+    cases (λ (b : Bool). eqb r.key k ≡ b → distance_of (label k) (labelled (r ∷ rs)) ≡ cond b (Some r.distance) (distance_of k rs)) (eqb r.key k)
     (λ _ e. rw (eq-eqb (label r.key) (label k) (ap label (eqb-true r.key k e))))
     (λ _ e.
     rw
