@@ -8,7 +8,7 @@ use Rattle.neighbors.specs.Neighbors.{neighbours}
 use Rattle.refusals.specs.Refusals.{number_of, absent_number}
 use Rattle.root.specs.Root.{root_answer}
 use Rattle.marching.specs.March.{MarchedRow, distance_of}
-use Rattle.marched.specs.Marched.{MarchedTable, marched_rows, key_check}
+use Rattle.marched.specs.Marched.{MarchedTable, marched_rows, key_check, once_passed}
 use Rattle.esdf_questions.specs.declared.Slopes.{Slopes}
 use Rattle.refusals.specs.declared.Refusal.{Refusal}
 
@@ -53,32 +53,28 @@ slopes_from rs k d sum (n ∷ ns) = slopes_from rs k d (slopes_with k d sum n (d
 abbrev pub squares : Float → Float → Float → Float
 squares x y z = add binary32 (add binary32 (mul binary32 x x) (mul binary32 y y)) (mul binary32 z z)
 
--- divided by a length; Absent if that is not above 1e-6, or no number
-unfoldable pub unit_by : Float → Float → Float → Result Float Refusal → Result (Option (Float × Float × Float)) Refusal
-unit_by x y z (Ok l) = cond (lt tiny l) (Ok (Some (div binary32 x l, div binary32 y l, div binary32 z l))) (Ok None)
-unit_by x y z (Err why) = (Ok None)
+-- divided by a length; none if that is not above 1e-6, or no number
+unfoldable pub unit_by : Float → Float → Float → Result Float Refusal → Option (Float × Float × Float)
+unit_by x y z (Ok l) = cond (lt tiny l) (Some (div binary32 x l, div binary32 y l, div binary32 z l)) None
+unit_by x y z (Err why) = None
 
 -- the direction of x, y, z
-abbrev pub direction_of : Float → Float → Float → Result (Option (Float × Float × Float)) Refusal
+abbrev pub direction_of : Float → Float → Float → Option (Float × Float × Float)
 direction_of x y z = unit_by x y z (root_answer (squares x y z))
 
--- the direction of the mean; Absent over no neighbour
-unfoldable pub mean_of : Slopes → Result (Option (Float × Float × Float)) Refusal
+-- the direction of the mean; none over no neighbour
+unfoldable pub mean_of : Slopes → Option (Float × Float × Float)
 mean_of sum =
     let n = whole sum.count in
-    cond (eqb sum.count 0) (Ok None) (direction_of (div binary32 sum.x n) (div binary32 sum.y n) (div binary32 sum.z n))
+    cond (eqb sum.count 0) None (direction_of (div binary32 sum.x n) (div binary32 sum.y n) (div binary32 sum.z n))
 
--- Absent where the cell is not stored
-unfoldable pub gradient_at : List MarchedRow → ℕ → Option Float → Result (Option (Float × Float × Float)) Refusal
-gradient_at rs k None = (Ok None)
+-- none where the cell is not stored
+unfoldable pub gradient_at : List MarchedRow → ℕ → Option Float → Option (Float × Float × Float)
+gradient_at rs k None = None
 gradient_at rs k (Some d) = mean_of (slopes_from rs k d no_slopes (neighbours k))
 
-unfoldable pub gradient_said : Result (Unit {0}) Refusal → Result (Option (Float × Float × Float)) Refusal → Result (Option (Float × Float × Float)) Refusal
-gradient_said (Ok tt) g = g
-gradient_said (Err why) g = Err why
-
 abbrev pub get_gradient : MarchedTable → ℕ → Result (Option (Float × Float × Float)) Refusal
-get_gradient t k = gradient_said (key_check t k) (gradient_at (marched_rows t) k (distance_of k (marched_rows t)))
+get_gradient t k = once_passed (key_check t k) (gradient_at (marched_rows t) k (distance_of k (marched_rows t)))
 
 -- the number of an answer: 0 where there is one, Absent's, or document 01's of the refusal
 abbrev pub gradient_number : Result (Option (Float × Float × Float)) Refusal → ℕ

@@ -31,13 +31,8 @@ pub fn get_distance(
 ) -> Result<Option<f32>, Refusal>
     ensures { result ≡ get_distance (marched_table keys.now distances.now count) key }
 {
-    match check_key(keys, distances, count, key) {
-        Err(why) => Err(why),
-        Ok(()) => match stored_at(keys, distances, count, key) {
-            Some(d) => Ok(Some(d)),
-            None => Ok(None),
-        },
-    }
+    check_key(keys, distances, count, key)?;
+    Ok(stored_at(keys, distances, count, key))
 }
 
 // Whether a cell's distance is above a threshold.
@@ -50,13 +45,8 @@ pub fn is_free_space(
 ) -> Result<bool, Refusal>
     ensures { result ≡ is_free_space (marched_table keys.now distances.now count) key threshold }
 {
-    match check_free(keys, distances, count, key, threshold) {
-        Err(why) => Err(why),
-        Ok(()) => match stored_at(keys, distances, count, key) {
-            Some(d) => Ok(threshold < d),
-            None => Ok(false),
-        },
-    }
+    check_free(keys, distances, count, key, threshold)?;
+    Ok(stored_at(keys, distances, count, key).is_some_and(|d| threshold < d))
 }
 
 // How far it is from one coordinate to another, with its sign.
@@ -99,10 +89,10 @@ fn slopes_next(
     requires { Accepted keys.now distances.now count × (sum.count < 100) }
     ensures { result ≡ slopes_with key distance sum neighbour (distance_of neighbour (marched_rows_of keys.now distances.now count)) }
 {
-    match stored_at(keys, distances, count, neighbour) {
-        Some(found) => slopes_with(key, distance, sum, neighbour, found),
-        None => sum,
-    }
+    let Some(found) = stored_at(keys, distances, count, neighbour) else {
+        return sum;
+    };
+    slopes_with(key, distance, sum, neighbour, found)
 }
 
 // The sums over the stored neighbours of a cell.
@@ -126,27 +116,25 @@ fn sum_slopes(keys: &[u64], distances: &[f32], count: usize, key: u64, distance:
 }
 
 // The direction of x, y, z, unless they are too short.
-fn direction(x: f32, y: f32, z: f32) -> Result<Option<(f32, f32, f32)>, Refusal>
+fn direction(x: f32, y: f32, z: f32) -> Option<(f32, f32, f32)>
     ensures { result ≡ direction_of x y z }
 {
-    match root::root(x * x + y * y + z * z) {
-        Err(_) => Ok(None),
-        Ok(length) => {
-            if 1e-6 < length {
-                Ok(Some((x / length, y / length, z / length)))
-            } else {
-                Ok(None)
-            }
-        }
+    let Ok(length) = root::root(x * x + y * y + z * z) else {
+        return None;
+    };
+    if 1e-6 < length {
+        Some((x / length, y / length, z / length))
+    } else {
+        None
     }
 }
 
 // The direction of the mean.
-fn mean(sum: Slopes) -> Result<Option<(f32, f32, f32)>, Refusal>
+fn mean(sum: Slopes) -> Option<(f32, f32, f32)>
     ensures { result ≡ mean_of sum }
 {
     if sum.count == 0 {
-        return Ok(None);
+        return None;
     }
     let n = sum.count as f32;
     direction(sum.x / n, sum.y / n, sum.z / n)
@@ -161,11 +149,9 @@ pub fn get_gradient(
 ) -> Result<Option<(f32, f32, f32)>, Refusal>
     ensures { result ≡ get_gradient (marched_table keys.now distances.now count) key }
 {
-    match check_key(keys, distances, count, key) {
-        Err(why) => Err(why),
-        Ok(()) => match stored_at(keys, distances, count, key) {
-            None => Ok(None),
-            Some(distance) => mean(sum_slopes(keys, distances, count, key, distance)),
-        },
-    }
+    check_key(keys, distances, count, key)?;
+    let Some(distance) = stored_at(keys, distances, count, key) else {
+        return Ok(None);
+    };
+    Ok(mean(sum_slopes(keys, distances, count, key, distance)))
 }

@@ -22,7 +22,7 @@ use Rattle.marching.specs.March.{MarchedRow, marched_row, keys_of, distances_of,
 use Rattle.marching.proofs.Looking.{at, distance_find}
 use Rattle.table.proofs.Checking.{need_passed}
 use Rattle.marched.specs.Marched.{MarchedTable, marched_table, pairs, marched_rows_of, pair_ok, marched_lengths_ok, marched_row_ok, marched_rows_ok, marched_ok, marched_then, marched_check, key_check, list_check}
-use Rattle.marched.specs.Steps.{Accepted, stored_as}
+use Rattle.marched.specs.Steps.{Accepted}
 
 -- ---- rows
 
@@ -196,9 +196,9 @@ module _ (ks : List ℕ) (ds : List Float) (n : ℕ) (h : Accepted ks ds n) (k :
       ∙ ap (λ (x : Option ℕ). at x (distances_of (marched_rows_of ks ds n))) (sym is)
       ∙ ap (at f) c.1
 
-  pub not_stored : f ≡ None → None ≡ stored_as (distance_of k (marched_rows_of ks ds n))
-  unfolding stored_as at
-  not_stored a = sym (ap stored_as (says ∙ ap (λ (x : Option ℕ). at x (take n ds)) a))
+  pub not_stored : f ≡ None → None ≡ distance_of k (marched_rows_of ks ds n)
+  unfolding at
+  not_stored a = sym (says ∙ ap (λ (x : Option ℕ). at x (take n ds)) a)
 
   module _ (i : ℕ) (a : f ≡ Some i) where
     below : i < n
@@ -207,7 +207,6 @@ module _ (ks : List ℕ) (ds : List Float) (n : ℕ) (h : Accepted ks ds n) (k :
     pub in_distances : i < length ds
     in_distances = let b = below in let g = h.fits in let d = h.distances in omega arith
 
-    pub is_stored : Some (get_or ds i nan) ≡ stored_as (distance_of k (marched_rows_of ks ds n))
-    unfolding stored_as at
-    is_stored =
-        ap Some (sym (get_or-take n ds i nan below)) ∙ sym (ap stored_as (says ∙ ap (λ (x : Option ℕ). at x (take n ds)) a))
+    pub is_stored : Some (get_or ds i nan) ≡ distance_of k (marched_rows_of ks ds n)
+    unfolding at
+    is_stored = ap Some (sym (get_or-take n ds i nan below)) ∙ sym (says ∙ ap (λ (x : Option ℕ). at x (take n ds)) a)

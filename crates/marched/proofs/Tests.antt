@@ -1,16 +1,14 @@
--- The tests of a key and a threshold, after those of the table, and what is stored. Assumes nothing.
-use Rattle.std.specs.Prelude.{Ok, Err, Some, None, Result, Option}
-use mathlib.Core.Path.{◌≡◌, refl, sym, ◌∙◌}
+-- The tests of a key and a threshold, after those of the table. Assumes nothing.
+use Rattle.std.specs.Prelude.{Ok, Err, Result}
+use mathlib.Core.Path.{◌≡◌, sym, ◌∙◌}
 use mathlib.Core.Bool.{true, false}
 use Prim.Native.Nat.{ℕ}
-use native.Mathlib.Omega.{arith}
 use lib.Ieee.{Float}
 use Rattle.floats.specs.Floats.{is_finite}
 use Rattle.ids.specs.Key.{on_lattice}
 use Rattle.refusals.specs.declared.Refusal.TheVariants.{OffLattice, BadReading}
 use Rattle.table.specs.Table.{need}
 use Rattle.marched.specs.Marched.{MarchedTable, marched_check, key_check, free_check}
-use Rattle.marched.specs.Steps.{stored_as}
 use Rattle.marched.proofs.MarchedLaws.{passes_on, passes_after}
 use Rattle.refusals.specs.declared.Refusal.{Refusal}
 
@@ -33,15 +31,3 @@ module _ (t : MarchedTable) (k : ℕ) (v : Result (Unit {0}) Refusal) where
     pub free_fails : is_finite threshold ≡ false → Err BadReading ≡ free_check t k threshold
     unfolding need
     free_fails h = sym (rw h) ∙ passes_after t v k (need (is_finite threshold) BadReading (Ok tt)) e f
-
--- ---- what is stored
-
-pub stored_some : (o : Option Float) (s : Option Float) {d : Float} → s ≡ stored_as o → s ≡ Some d → o ≡ Some d
-unfolding stored_as
-stored_some None s e f = absurd (let z : ◌≡◌ {A = ℕ} 0 1 = cc in omega arith)
-stored_some (Some x) s e f = cc
-
-pub stored_none : (o : Option Float) (s : Option Float) → s ≡ stored_as o → s ≡ None → o ≡ None
-unfolding stored_as
-stored_none None s e f = refl
-stored_none (Some x) s e f = absurd (let z : ◌≡◌ {A = ℕ} 0 1 = cc in omega arith)

@@ -1,5 +1,5 @@
 -- A marched table: rows side by side in two lists, ascending by key, and the tests before a question about it.
-use Rattle.std.specs.Prelude.{ℕ, Bool, true, ◌&&◌, List, [], ◌∷◌, eqb, leb, length, take, Float, Ok, Result}
+use Rattle.std.specs.Prelude.{ℕ, Bool, true, ◌&&◌, List, [], ◌∷◌, eqb, leb, length, take, Float, Ok, Err, Result}
 use Rattle.floats.specs.Floats.{million, within, is_finite}
 use Rattle.ids.specs.Key.{on_lattice}
 use Rattle.refusals.specs.declared.Refusal.TheVariants.{Lengths, BadRow, OffLattice, BadReading}
@@ -67,6 +67,11 @@ key_check t k = marched_then t (need (on_lattice k) OffLattice (Ok tt))
 -- 2, 3, 4 and 5
 abbrev pub free_check : MarchedTable → ℕ → Float → Result (Unit {0}) Refusal
 free_check t k threshold = marched_then t (need (on_lattice k) OffLattice (need (is_finite threshold) BadReading (Ok tt)))
+
+-- once the tests have passed, this is answered
+unfoldable pub once_passed : {A : Type 0} → Result (Unit {0}) Refusal → A → Result A Refusal
+once_passed (Ok tt) a = Ok a
+once_passed (Err why) a = Err why
 
 -- 2, of the lists to be filled too, 3 and 5
 unfoldable pub list_check : MarchedTable → Bool → Float → Result (Unit {0}) Refusal

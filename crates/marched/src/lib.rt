@@ -4,7 +4,7 @@
 ghost use Rattle.std.specs.Prelude.{◌≡◌, ◌≤◌, ◌<◌, length};
 ghost use Rattle.marching.specs.March.{distance_of};
 ghost use Rattle.marched.specs.Marched.{marched_table, marched_rows_of, pair_ok, marched_lengths_ok, marched_row_ok, marched_rows_ok, marched_ok, marched_check, key_check, free_check, list_check};
-ghost use Rattle.marched.specs.Steps.{Accepted, stored_as};
+ghost use Rattle.marched.specs.Steps.{Accepted};
 
 use floats::is_finite;
 use ids::is_on_lattice;
@@ -96,16 +96,11 @@ pub fn check(keys: &[u64], distances: &[f32], count: usize) -> Result<(), Refusa
 pub fn check_key(keys: &[u64], distances: &[f32], count: usize, key: u64) -> Result<(), Refusal>
     ensures { result ≡ key_check (marched_table keys.now distances.now count) key }
 {
-    match check(keys, distances, count) {
-        Err(why) => Err(why),
-        Ok(()) => {
-            if is_on_lattice(key) {
-                Ok(())
-            } else {
-                Err(Refusal::OffLattice)
-            }
-        }
+    check(keys, distances, count)?;
+    if !is_on_lattice(key) {
+        return Err(Refusal::OffLattice);
     }
+    Ok(())
 }
 
 // Refusals 2, 3, 4 and 5.
@@ -118,25 +113,18 @@ pub fn check_free(
 ) -> Result<(), Refusal>
     ensures { result ≡ free_check (marched_table keys.now distances.now count) key threshold }
 {
-    match check_key(keys, distances, count, key) {
-        Err(why) => Err(why),
-        Ok(()) => {
-            if is_finite(threshold) {
-                Ok(())
-            } else {
-                Err(Refusal::BadReading)
-            }
-        }
+    check_key(keys, distances, count, key)?;
+    if !is_finite(threshold) {
+        return Err(Refusal::BadReading);
     }
+    Ok(())
 }
 
 // What is stored of a cell.
 pub fn stored_at(keys: &[u64], distances: &[f32], count: usize, key: u64) -> Option<f32>
     requires { Accepted keys.now distances.now count }
-    ensures { result ≡ stored_as (distance_of key (marched_rows_of keys.now distances.now count)) }
+    ensures { result ≡ distance_of key (marched_rows_of keys.now distances.now count) }
 {
-    let Some(at) = find_row(keys, count, key) else {
-        return None;
-    };
+    let at = find_row(keys, count, key)?;
     Some(distances[at])
 }

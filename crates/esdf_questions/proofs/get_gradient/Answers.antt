@@ -1,37 +1,32 @@
 -- `esdf_questions::get_gradient` meets its contract: the verdict, what is stored, and the mean over the neighbours.
 -- Assumes nothing.
-use Rattle.marched.specs.Marched.{marched_table}
+use Rattle.std.proofs.lemmas.Result.{err_from_is_err_and}
+use Rattle.marched.specs.Marched.{once_passed}
 use Rattle.marched.proofs.MarchedLaws.{accepted}
-use Rattle.esdf_questions.proofs.Answers.{gradient_refused, gradient_of, gradient_absent}
+use Rattle.esdf_questions.specs.Gradient.{gradient_at}
 use Rattle.esdf_questions.proofs.get_gradient.Goals as goal
 
 pub stored_at-requires : goal.stored_at-requires
 stored_at-requires c =
     let a = c.args in
-    accepted a.keys.now a.distances.now a.count _ _ c.check_key.ensures c.in-Ok.is
+    accepted a.keys.now a.distances.now a.count _ _ c.check_key.ensures c.in_ok-check_key.was
 
 pub sum_slopes-requires : goal.sum_slopes-requires
 sum_slopes-requires c =
     let a = c.args in
-    accepted a.keys.now a.distances.now a.count _ _ c.check_key.ensures c.in-Ok.is
+    accepted a.keys.now a.distances.now a.count _ _ c.check_key.ensures c.in_ok-check_key.was
 
-pub returns-in-Err : goal.returns-in-Err
-returns-in-Err c =
-    let a = c.args in
-    gradient_refused (marched_table a.keys.now a.distances.now a.count) a.key _
-    c.check_key.ensures c.in-Err.is
+pub returns-in_err-check_key : goal.returns-in_err-check_key
+unfolding once_passed
+returns-in_err-check_key c =
+    let p = err_from_is_err_and c.from_residual.result c.from_residual.ensures.1 in
+    rw (p.1, p.2, ← c.check_key.ensures, c.in_err-check_key.was)
 
-pub returns-in-Ok-None : goal.returns-in-Ok-None
-returns-in-Ok-None c =
-    let a = c.args in
-    gradient_absent (marched_table a.keys.now a.distances.now a.count) a.key _
-    c.check_key.ensures c.in-Ok.is _
-    c.stored_at.ensures c.in-Ok-None.is
+pub returns-in_default : goal.returns-in_default
+unfolding once_passed gradient_at
+returns-in_default c = rw (← c.check_key.ensures, c.in_ok-check_key.was, ← c.stored_at.ensures, c.in_default.is)
 
-pub returns-in-Some : goal.returns-in-Some
-returns-in-Some c =
-    let a = c.args in
-    gradient_of (marched_table a.keys.now a.distances.now a.count) a.key _
-    c.check_key.ensures c.in-Ok.is _
-    c.stored_at.ensures _ _
-    c.in-Some.is c.sum_slopes.ensures c.mean.ensures
+pub returns : goal.returns
+unfolding once_passed gradient_at
+returns c =
+    rw (← c.check_key.ensures, c.in_ok-check_key.was, ← c.stored_at.ensures, c.in-Some.is, c.mean.ensures, c.sum_slopes.ensures)

@@ -1,6 +1,6 @@
 -- `esdf_questions::sum_slopes` meets its contract: the neighbours that are left say what all say.
 -- Assumes nothing.
-use Prim.Native.Nat.{◌≤◌, ◌-◌}
+use Prim.Native.Nat.{◌≤◌}
 use mathlib.Core.Path.{◌≡◌}
 use lib.ListN.{length, drop}
 use Rattle.lists.specs.Padding.{padded}
@@ -17,6 +17,3 @@ invariant-loop-i l = (l.list ≡ padded 0 14 (neighbours l.key))
     × (l.sum.count ≤ l.i)
     × (slopes_from (marched_rows_of l.keys l.distances l.count) l.key l.distance no_slopes (neighbours l.key)
     ≡ slopes_from (marched_rows_of l.keys l.distances l.count) l.key l.distance l.sum (drop l.i (neighbours l.key)))
-
-abbrev pub decreases-loop-i : goal.decreases-loop-i
-decreases-loop-i l = l.n - l.i

@@ -1,6 +1,6 @@
 -- `marched::rows_ok` meets its contract: the rows that are left pass exactly when all do.
 -- Assumes nothing.
-use Prim.Native.Nat.{◌≤◌, ◌-◌}
+use Prim.Native.Nat.{◌≤◌}
 use mathlib.Core.Path.{◌≡◌}
 use lib.ListN.{drop}
 use Rattle.marched.specs.Marched.{marched_rows_of, marched_rows_ok}
@@ -10,6 +10,3 @@ abbrev pub invariant-loop-i : goal.invariant-loop-i
 invariant-loop-i l = (l.i ≤ l.count)
     × (marched_rows_ok (marched_rows_of l.keys l.distances l.count)
     ≡ marched_rows_ok (drop l.i (marched_rows_of l.keys l.distances l.count)))
-
-abbrev pub decreases-loop-i : goal.decreases-loop-i
-decreases-loop-i l = l.count - l.i
