@@ -32,8 +32,8 @@ surely_full-requires c =
     let p = c.requires in
     let l = c.loop-held in
     let at = l.invariant.4 p.sown.0 p.sown.1 in
-    let keys-fit = c.well_formed.1.1.1.1.1.1.1.0.1 in
-    let cells_fit = c.well_formed.1.1.1.1.1.1.1.1.1.1.1.0.1 in
+    let keys-fit = c.well_formed.1.1.1.1.0.1 in
+    let cells_fit = c.well_formed.1.1.1.1.1.1.1.1.0.1 in
     let taken = take_few l.kind (seed_in a.threshold (rows_of a.fused.now.keys.now a.fused.now.distances.now a.fused.now.weights.now a.fused.now.count))
     (lattice_of a.course) back (rooms_of a.keys.now a.cells.now) _ l.takings l.rows
     l.keys l.distances l.held l.estimates l.cells (l.invariant.4 p.sown.0 p.sown.1) in (
