@@ -17,44 +17,33 @@ struct Replay {
 }
 
 fn started() -> Replay {
-    let field = vectors::empty([0; 16]);
-    let given = questions::none_given();
-    let score = vectors::unscored();
     Replay {
-        field: field,
-        given: given,
-        score: score,
+        field: vectors::empty([0; 16]),
+        given: questions::none_given(),
+        score: vectors::unscored(),
     }
 }
 
 // One line more.
 fn after(replay: Replay, line: Line) -> Replay {
     let before = replay.field;
-    let fed = readings::read_in(before, line);
+    let (field, fed) = readings::read_in(before, line);
     let given = questions::given_after(before, replay.given, line);
-    let good = questions::statistics_again(before, line) | fed.agrees | given.agrees;
+    let good = questions::statistics_again(before, line) || fed || given.agrees;
     let score = vectors::scored(replay.score, line.letter, good);
-    let field = fed.field;
-    Replay {
-        field: field,
-        given: given,
-        score: score,
-    }
+    Replay { field, given, score }
 }
 
 fn replayed(bytes: &[u8]) -> Score {
     let mut replay = started();
-    let mut place = 0;
-    while place < bytes.len() {
-        let taken = vectors::line_from(bytes, place);
-        replay = after(replay, taken.line);
-        place = taken.next;
+    for text in bytes.split_inclusive(|byte| *byte == b'\n') {
+        replay = after(replay, vectors::line_from(text, 0).line);
     }
     replay.score
 }
 
-fn main() {
+fn main(rt: HostRuntime) -> std::io::Result<()> {
     let mut buffer = io::large_buffer();
     let n = io::read_full(0, &mut buffer);
-    vectors::say(replayed(&buffer[..n]));
+    println!(rt; "{}", replayed(&buffer[..n]))
 }

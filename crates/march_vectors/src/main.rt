@@ -3,7 +3,6 @@
 #![tactic(auto)]
 
 use refusals::Refusal;
-use table::Rows;
 use vectors::{Field, Line, Score, float, same};
 
 // The rows that a march gave, the next of them to compare, and whether the last line's answer came out again.
@@ -24,82 +23,74 @@ struct Replay {
 }
 
 fn is_march(marched: Result<(usize, usize), Refusal>, rows: u64, takings: u64) -> bool {
-    match marched {
-        Ok((n, taken)) => (n as u64 == rows) & (taken as u64 == takings),
-        Err(_) => false,
+    marched.is_ok_and(|(n, taken)| n as u64 == rows && taken as u64 == takings)
+}
+
+fn none_given() -> Given {
+    Given {
+        keys: [0; 64],
+        distances: [0.0; 64],
+        place: 0,
+        agrees: false,
     }
 }
 
 fn march(field: Field, words: [u64; 16]) -> Given {
-    let settings = field.settings;
-    let keys = field.keys;
-    let distances = field.distances;
-    let weights = field.weights;
-    let mut marched_keys = [0u64; 64];
-    let mut marched_distances = [0.0f32; 64];
+    let mut given = none_given();
     let mut estimates = [0.0f32; 512];
     let mut waiting = [0u64; 512];
     let answer = esdf::compute_from_tsdf(
-        settings,
-        &Rows {
-            keys: &keys,
-            distances: &distances,
-            weights: &weights,
-            count: field.rows,
-        },
+        field.settings,
+        &field.keys,
+        &field.distances,
+        &field.weights,
+        field.rows,
         float(words[0]),
-        &mut marched_keys,
-        &mut marched_distances,
+        &mut given.keys,
+        &mut given.distances,
         &mut estimates,
         &mut waiting,
     );
-    let agrees = is_march(answer, words[1], words[2]);
-    Given {
-        keys: marched_keys,
-        distances: marched_distances,
-        place: 0,
-        agrees: agrees,
-    }
+    given.agrees = is_march(answer, words[1], words[2]);
+    given
 }
 
 // The next row of the march.
 fn next_row(given: Given, words: [u64; 16]) -> Given {
-    let mut next = given;
-    let keys = given.keys;
-    let distances = given.distances;
     let place = given.place;
-    if place < 64 {
-        next.agrees = (keys[place] == words[0]) & same(distances[place], float(words[1]));
-        next.place = place + 1;
-        return next;
+    if place < given.keys.len() {
+        Given {
+            agrees: given.keys[place] == words[0] && same(given.distances[place], float(words[1])),
+            place: place + 1,
+            ..given
+        }
+    } else {
+        unasked(given)
     }
-    next.agrees = false;
-    next
 }
 
 fn unasked(given: Given) -> Given {
-    let mut left = given;
-    left.agrees = false;
-    left
+    Given {
+        agrees: false,
+        ..given
+    }
 }
 
 fn given_after(field: Field, before: Given, line: Line) -> Given {
-    let words = line.words;
-    let letter = line.letter;
-    match letter {
-        b'M' => march(field, words),
-        b'm' => next_row(before, words),
+    match line.letter {
+        b'M' => march(field, line.words),
+        b'm' => next_row(before, line.words),
         _ => unasked(before),
     }
 }
 
 fn gradient_again(field: Field, words: [u64; 16]) -> bool {
-    let keys = field.keys;
-    let distances = field.distances;
-    match esdf_questions::get_gradient(&keys, &distances, field.rows, words[0]) {
+    match esdf_questions::get_gradient(&field.keys, &field.distances, field.rows, words[0]) {
         Ok(Some((x, y, z))) => {
-            let first = (words[1] == 0) & same(x, float(words[2]));
-            first & same(y, float(words[3])) & same(z, float(words[4]))
+            words[1] == 0
+                && same(x, float(words[2]))
+                && same(y, float(words[3]))
+                && same(z, float(words[4]))
         }
         Ok(None) => words[1] == 101,
         Err(_) => false,
@@ -107,44 +98,30 @@ fn gradient_again(field: Field, words: [u64; 16]) -> bool {
 }
 
 fn statistics_again(field: Field, words: [u64; 16]) -> bool {
-    let keys = field.keys;
-    let distances = field.distances;
-    match esdf_surveys::stats(&keys, &distances, field.rows) {
-        Ok(s) => {
-            let rows = (s.voxel_count as u64 == words[0])
-                & (s.obstacle_voxel_count as u64 == words[1]);
-            let free = s.free_voxel_count as u64 == words[2];
-            let least = same(s.min_distance, float(words[3]));
-            rows & free & least & same(s.max_distance, float(words[4]))
-        }
-        Err(_) => false,
-    }
+    let asked = esdf_surveys::stats(&field.keys, &field.distances, field.rows);
+    asked.is_ok_and(|s| {
+        s.voxel_count as u64 == words[0]
+            && s.obstacle_voxel_count as u64 == words[1]
+            && s.free_voxel_count as u64 == words[2]
+            && same(s.min_distance, float(words[3]))
+            && same(s.max_distance, float(words[4]))
+    })
 }
 
 // A question about a marched table, whose answer comes out again.
 fn again(field: Field, line: Line) -> bool {
-    let words = line.words;
-    let letter = line.letter;
-    match letter {
-        b'B' => gradient_again(field, words),
-        b'X' => statistics_again(field, words),
+    match line.letter {
+        b'B' => gradient_again(field, line.words),
+        b'X' => statistics_again(field, line.words),
         _ => false,
     }
 }
 
 fn started() -> Replay {
-    let field = vectors::empty([0; 16]);
-    let given = Given {
-        keys: [0; 64],
-        distances: [0.0; 64],
-        place: 0,
-        agrees: false,
-    };
-    let score = vectors::unscored();
     Replay {
-        field: field,
-        given: given,
-        score: score,
+        field: vectors::empty([0; 16]),
+        given: none_given(),
+        score: vectors::unscored(),
     }
 }
 
@@ -152,29 +129,24 @@ fn started() -> Replay {
 fn after(replay: Replay, line: Line) -> Replay {
     let before = replay.field;
     let given = given_after(before, replay.given, line);
-    let good = again(before, line) | given.agrees;
-    let score = vectors::scored(replay.score, line.letter, good);
-    let field = vectors::field_after(before, line);
+    let good = again(before, line) || given.agrees;
     Replay {
-        field: field,
-        given: given,
-        score: score,
+        field: vectors::field_after(before, line),
+        given,
+        score: vectors::scored(replay.score, line.letter, good),
     }
 }
 
 fn replayed(bytes: &[u8]) -> Score {
     let mut replay = started();
-    let mut place = 0;
-    while place < bytes.len() {
-        let taken = vectors::line_from(bytes, place);
-        replay = after(replay, taken.line);
-        place = taken.next;
+    for text in bytes.split_inclusive(|byte| *byte == b'\n') {
+        replay = after(replay, vectors::line_from(text, 0).line);
     }
     replay.score
 }
 
-fn main() {
+fn main(rt: HostRuntime) -> std::io::Result<()> {
     let mut buffer = io::large_buffer();
     let n = io::read_full(0, &mut buffer);
-    vectors::say(replayed(&buffer[..n]));
+    println!(rt; "{}", replayed(&buffer[..n]))
 }
