@@ -3,7 +3,8 @@
 #![tactic(auto)]
 
 use refusals::Refusal;
-use table::{Rows, Settings, settings_of};
+use std::io;
+use table::{Settings, settings_of};
 
 // The sample's settings: truncation 1, maximum weight 100, size 1.
 fn settings() -> Settings {
@@ -20,41 +21,25 @@ fn edges_of(count: usize, first: &mut [u64], second: &mut [u64]) -> Result<usize
     let weights = [1.0f32; 15];
     edges::get_zero_crossing_edges(
         settings(),
-        &Rows {
-            keys: &keys,
-            distances: &distances,
-            weights: &weights,
-            count,
-        },
+        &keys,
+        &distances,
+        &weights,
+        count,
         first,
         second,
     )
 }
 
 // A line for an answer.
-fn say(listed: Result<usize, Refusal>) {
+fn say(rt: &impl Print, listed: Result<usize, Refusal>) -> io::Result<()> {
     match listed {
-        Ok(n) => {
-            io::write_all(1, b"edges ");
-            io::print_decimal(1, n as u64);
-            io::write_all(1, b"\n");
-        }
-        Err(why) => {
-            io::write_all(1, b"refused ");
-            io::print_decimal(1, u32::from(why) as u64);
-            io::write_all(1, b"\n");
-        }
+        Ok(n) => println!(rt; "edges {n}"),
+        Err(why) => println!(rt; "refused {}", u32::from(why)),
     }
 }
 
-fn main() {
-    let mut first = [0u64; 14];
-    let mut second = [0u64; 14];
-    say(edges_of(15, &mut first, &mut second));
-    let mut short_first = [0u64; 13];
-    let mut short_second = [0u64; 13];
-    say(edges_of(15, &mut short_first, &mut short_second));
-    let mut no_first = [0u64; 0];
-    let mut no_second = [0u64; 0];
-    say(edges_of(0, &mut no_first, &mut no_second));
+fn main(rt: HostRuntime) -> io::Result<()> {
+    say(&rt, edges_of(15, &mut [0; 14], &mut [0; 14]))?;
+    say(&rt, edges_of(15, &mut [0; 13], &mut [0; 13]))?;
+    say(&rt, edges_of(0, &mut [0; 0], &mut [0; 0]))
 }

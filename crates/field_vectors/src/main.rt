@@ -31,7 +31,11 @@ fn after(replay: Replay, line: Line) -> Replay {
     let given = questions::given_after(before, replay.given, line);
     let good = questions::statistics_again(before, line) || fed || given.agrees;
     let score = vectors::scored(replay.score, line.letter, good);
-    Replay { field, given, score }
+    Replay {
+        field,
+        given,
+        score,
+    }
 }
 
 fn replayed(bytes: &[u8]) -> Score {

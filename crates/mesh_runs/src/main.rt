@@ -3,7 +3,8 @@
 #![tactic(auto)]
 
 use refusals::Refusal;
-use table::{Rows, Settings, settings_of};
+use std::io;
+use table::{Settings, settings_of};
 
 // The sample's settings: truncation 1, maximum weight 100, size 1.
 fn settings() -> Settings {
@@ -24,30 +25,20 @@ fn mesh_of(
     let mut distances = [-0.25f32; 15];
     distances[10] = 0.25;
     let weights = [1.0f32; 15];
-    let mut first = [0u64; 14];
-    let mut second = [0u64; 14];
-    let mut px = [0.0f32; 14];
-    let mut py = [0.0f32; 14];
-    let mut pz = [0.0f32; 14];
-    let mut nx = [0.0f32; 14];
-    let mut ny = [0.0f32; 14];
-    let mut nz = [0.0f32; 14];
     mesh::extract_mesh_from_tsdf(
         settings(),
-        &Rows {
-            keys: &keys,
-            distances: &distances,
-            weights: &weights,
-            count,
-        },
-        &mut first,
-        &mut second,
-        &mut px,
-        &mut py,
-        &mut pz,
-        &mut nx,
-        &mut ny,
-        &mut nz,
+        &keys,
+        &distances,
+        &weights,
+        count,
+        &mut [0; 14],
+        &mut [0; 14],
+        &mut [0.0; 14],
+        &mut [0.0; 14],
+        &mut [0.0; 14],
+        &mut [0.0; 14],
+        &mut [0.0; 14],
+        &mut [0.0; 14],
         groups,
         t0,
         t1,
@@ -56,34 +47,24 @@ fn mesh_of(
 }
 
 // A line for an answer.
-fn say(meshed: Result<(usize, usize), Refusal>) {
+fn say(rt: &impl Print, meshed: Result<(usize, usize), Refusal>) -> io::Result<()> {
     match meshed {
-        Ok((edges, triangles)) => {
-            io::write_all(1, b"edges ");
-            io::print_decimal(1, edges as u64);
-            io::write_all(1, b" triangles ");
-            io::print_decimal(1, triangles as u64);
-            io::write_all(1, b"\n");
-        }
-        Err(why) => {
-            io::write_all(1, b"refused ");
-            io::print_decimal(1, u32::from(why) as u64);
-            io::write_all(1, b"\n");
-        }
+        Ok((edges, triangles)) => println!(rt; "edges {edges} triangles {triangles}"),
+        Err(why) => println!(rt; "refused {}", u32::from(why)),
     }
 }
 
-fn main() {
+fn main(rt: HostRuntime) -> io::Result<()> {
     let mut groups = [0u32; 28];
     let mut t0 = [0u32; 364];
     let mut t1 = [0u32; 364];
     let mut t2 = [0u32; 364];
-    say(mesh_of(15, &mut groups, &mut t0, &mut t1, &mut t2));
+    say(&rt, mesh_of(15, &mut groups, &mut t0, &mut t1, &mut t2))?;
     let mut few = [0u32; 27];
-    say(mesh_of(15, &mut few, &mut t0, &mut t1, &mut t2));
+    say(&rt, mesh_of(15, &mut few, &mut t0, &mut t1, &mut t2))?;
     let mut u0 = [0u32; 363];
     let mut u1 = [0u32; 363];
     let mut u2 = [0u32; 363];
-    say(mesh_of(15, &mut groups, &mut u0, &mut u1, &mut u2));
-    say(mesh_of(0, &mut groups, &mut t0, &mut t1, &mut t2));
+    say(&rt, mesh_of(15, &mut groups, &mut u0, &mut u1, &mut u2))?;
+    say(&rt, mesh_of(0, &mut groups, &mut t0, &mut t1, &mut t2))
 }

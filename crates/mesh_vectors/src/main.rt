@@ -161,7 +161,11 @@ fn given_after(field: Field, before: Given, line: Line) -> Given {
 }
 
 fn area_again(given: Given, words: [u64; 16]) -> bool {
-    let Given { places, corners, .. } = given;
+    let Given {
+        places,
+        corners,
+        ..
+    } = given;
     let asked = surfaces::surface_area(
         &places.x,
         &places.y,
