@@ -4,7 +4,7 @@
 
 use refusals::Refusal;
 use std::io;
-use table::{Settings, settings_of};
+use table::{Rows, Settings, settings_of};
 
 // The sample's settings: truncation 1, maximum weight 100, size 1.
 fn settings() -> Settings {
@@ -21,10 +21,12 @@ fn edges_of(count: usize, first: &mut [u64], second: &mut [u64]) -> Result<usize
     let weights = [1.0f32; 15];
     edges::get_zero_crossing_edges(
         settings(),
-        &keys,
-        &distances,
-        &weights,
-        count,
+        &Rows {
+            keys: &keys,
+            distances: &distances,
+            weights: &weights,
+            count,
+        },
         first,
         second,
     )

@@ -4,7 +4,7 @@
 
 use refusals::Refusal;
 use std::io;
-use table::{Settings, settings_of};
+use table::{Rows, Settings, settings_of};
 
 // Truncation 1, maximum weight 100, size 1, maximum distance 2.
 fn settings() -> Settings {
@@ -21,10 +21,12 @@ fn march(
 ) -> Result<(usize, usize), Refusal> {
     esdf::compute_from_tsdf(
         settings(),
-        &[3640],
-        &[0.0],
-        &[1.0],
-        count,
+        &Rows {
+            keys: &[3640],
+            distances: &[0.0],
+            weights: &[1.0],
+            count,
+        },
         0.5,
         keys,
         distances,

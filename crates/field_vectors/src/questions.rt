@@ -29,10 +29,7 @@ fn near_surface(field: Field, words: [u64; 16]) -> Given {
     let mut first = [0u64; 64];
     let listed = tsdf_surveys::get_surface_voxels(
         field.settings,
-        &field.keys,
-        &field.distances,
-        &field.weights,
-        field.rows,
+        &field.table(),
         Metres(float(words[0])),
         &mut first,
     );
@@ -48,10 +45,7 @@ fn crossing(field: Field, words: [u64; 16]) -> Given {
     let mut second = [0u64; 64];
     let listed = edges::get_zero_crossing_edges(
         field.settings,
-        &field.keys,
-        &field.distances,
-        &field.weights,
-        field.rows,
+        &field.table(),
         &mut first,
         &mut second,
     );
@@ -100,13 +94,7 @@ pub(crate) fn statistics_again(field: Field, line: Line) -> bool {
         return false;
     }
     let words = line.words;
-    let asked = tsdf_surveys::stats(
-        field.settings,
-        &field.keys,
-        &field.distances,
-        &field.weights,
-        field.rows,
-    );
+    let asked = tsdf_surveys::stats(field.settings, &field.table());
     asked.is_ok_and(|s| {
         s.voxel_count as u64 == words[0]
             && s.surface_voxel_count as u64 == words[1]

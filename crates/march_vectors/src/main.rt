@@ -41,10 +41,7 @@ fn march(field: Field, words: [u64; 16]) -> Given {
     let mut waiting = [0u64; 512];
     let answer = esdf::compute_from_tsdf(
         field.settings,
-        &field.keys,
-        &field.distances,
-        &field.weights,
-        field.rows,
+        &field.table(),
         float(words[0]),
         &mut given.keys,
         &mut given.distances,

@@ -4,7 +4,7 @@
 
 use refusals::Refusal;
 use std::io;
-use table::{Settings, settings_of};
+use table::{Rows, Settings, settings_of};
 
 // The sample's settings: truncation 1, maximum weight 100, size 1.
 fn settings() -> Settings {
@@ -27,10 +27,12 @@ fn mesh_of(
     let weights = [1.0f32; 15];
     mesh::extract_mesh_from_tsdf(
         settings(),
-        &keys,
-        &distances,
-        &weights,
-        count,
+        &Rows {
+            keys: &keys,
+            distances: &distances,
+            weights: &weights,
+            count,
+        },
         &mut [0; 14],
         &mut [0; 14],
         &mut [0.0; 14],

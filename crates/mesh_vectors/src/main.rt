@@ -68,10 +68,7 @@ fn mesh_of(field: Field, words: [u64; 16]) -> Given {
     let mut corners = no_corners();
     let meshed = mesh::extract_mesh_from_tsdf(
         field.settings,
-        &field.keys,
-        &field.distances,
-        &field.weights,
-        field.rows,
+        &field.table(),
         &mut first,
         &mut second,
         &mut places.x,

@@ -4,12 +4,14 @@
 
 ghost use Rattle.std.specs.Prelude.{◌≡◌, ◌<◌, ◌≤◌, false, length, pos, neg_ℤ};
 ghost use Rattle.floats.specs.Floats.{f32};
+ghost use Rattle.table.specs.Table.{table};
+ghost use Rattle.table.specs.Read.{table_of};
 ghost use Rattle.vectors.specs.Vectors.{digit_value, blank_line, with_word, with_digit, longer_line, taken_from};
 ghost use Rattle.vectors.specs.Vectors.{low16_of, low32_of, signed_of, not_finite, float_of, same_float};
 ghost use Rattle.vectors.specs.Vectors.{empty_field, with_row, field_after, no_score, counted_if, answered_score, scored_line};
 
 use std::fmt;
-use table::{Settings, settings_of};
+use table::{Rows, Settings, settings_of};
 
 // A line as far as it was read: its letter, 0 before it, and its words. The definition `longer_line` takes a byte 0 for no letter, and the programs
 // read the words past the last as 0, so the letter is no Option and the words are an array.
@@ -218,6 +220,20 @@ pub fn field_after(field: Field, line: Line) -> Field
         b'S' => empty(line.words),
         b'R' => with_row(field, line.words),
         _ => field,
+    }
+}
+
+impl Field {
+    // The table that a call reads.
+    pub fn table(&self) -> Rows<'_>
+        ensures { table_of result ≡ table self.now.keys self.now.distances self.now.weights self.now.rows }
+    {
+        Rows {
+            keys: &self.keys,
+            distances: &self.distances,
+            weights: &self.weights,
+            count: self.rows,
+        }
     }
 }
 
