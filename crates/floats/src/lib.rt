@@ -16,30 +16,24 @@ pub struct Metres(pub f32);
 pub fn size(x: f32) -> f32
     ensures { result ≡ size_of x }
 {
-    if x == 0.0 {
-        0.0
-    } else if x < 0.0 {
-        -x
-    } else {
-        x
-    }
+    x.abs()
 }
 
-// a, unless b is strictly below it.
+// a, unless b is strictly below it. f32's `min` leaves open which of two zeros it gives, and gives b where a is a NaN.
 pub fn smaller(a: f32, b: f32) -> f32
     ensures { result ≡ smaller_of a b }
 {
     if b < a { b } else { a }
 }
 
-// a, unless b is strictly above it.
+// a, unless b is strictly above it; as `smaller`, and not f32's `max`.
 pub fn larger(a: f32, b: f32) -> f32
     ensures { result ≡ larger_of a b }
 {
     if a < b { b } else { a }
 }
 
-// x within lo and hi, as Rust's clamp.
+// x within lo and hi, as Rust's clamp, which asks that lo is at most hi: this takes every lo and hi.
 pub fn clamp(x: f32, lo: f32, hi: f32) -> f32
     ensures { result ≡ clamp_of x lo hi }
 {
@@ -56,22 +50,14 @@ pub fn clamp(x: f32, lo: f32, hi: f32) -> f32
 pub fn sign(x: f32) -> f32
     ensures { result ≡ sign_of x }
 {
-    if x != x {
-        return x;
-    }
-    if f32::to_bits(x) < 0x8000_0000 {
-        1.0
-    } else {
-        -1.0
-    }
+    x.signum()
 }
 
 // Neither a NaN nor an infinity.
 pub fn is_finite(x: f32) -> bool
     ensures { result ≡ is_finite x }
 {
-    let infinity = f32::from_bits(0x7f80_0000);
-    (-infinity < x) & (x < infinity)
+    x.is_finite()
 }
 
 // From lo to hi, both ends with it.
