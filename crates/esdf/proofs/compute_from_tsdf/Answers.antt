@@ -21,7 +21,7 @@ returns c =
     let m = c.march_if-answer.auto in
     let t = c.tidy.ensures in
     march_left a.settings a.rows.now.keys.now a.rows.now.distances.now a.rows.now.weights.now a.rows.now.count a.threshold
-    a.marched_keys.now a.waiting_keys.now a.marched_distances.now a.waiting_estimates.now l.fn.rows.keys.now l.cells
+    a.marched_keys.now a.waiting_keys.now a.marched_distances.now a.waiting_estimates.now l.keys l.cells
     (and_eq c.set_ok.ensures c.set_ok-2.ensures) c.check-verdict.ensures k.keys k.cells _ _ _ _
     (m.keys ∙ k.keys) (m.distances ∙ k.distances) (m.estimates ∙ k.estimates)
     (m.cells ∙ k.cells) _
