@@ -1,6 +1,7 @@
 -- Ascending keys, and the search by halves.
 -- Assumes nothing.
 use Rattle.std.specs.Prelude.{Some, None, Option}
+use Rattle.std.specs.List.{IsAllAdjacentAnswer}
 use mathlib.Core.Path.{◌≡◌, refl, sym, ap, subst, ◌∙◌}
 use mathlib.Core.Bool.{Bool, true, false, cond, ◌&&◌, ◌||◌, and-false}
 use mathlib.Core.List.Memᴰ
@@ -12,8 +13,8 @@ use native.Mathlib.Numerals.{add-one}
 use native.Mathlib.Omega.{arith}
 use borrow.Author.Tests.{lt-ltb, le-ltb, ltb-true, ltb-false, ne_eqb, eq-eqb, eqb-true, eqb-false}
 use lib.Dec.{ltb, eqb, leb-suc-suc}
-use lib.ListN.{length, get_or, take, drop, length-take}
-use lib.Seq.{length-take-le, get_or-take}
+use lib.ListN.{length, get_or, take, length-take}
+use lib.Seq.{get_or-take}
 use Rattle.search.specs.Keys.{member, rises_from, ascending, place_of, halving, halved, find, find_by, next}
 use Rattle.lists.specs.Lists.{◌∈◌, Ordered}
 use Rattle.lists.proofs.Bools.{and_first, and_second, cases}
@@ -25,48 +26,25 @@ take_least zero ks = rw (zero-min (length ks))
 take_least (suc n) [] = rw (min-zero (suc n))
 take_least (suc n) (k ∷ ks) = rw (suc-min-suc n (length ks)) (ap {B = List ℕ} (λ l. k ∷ l) (take_least n ks))
 
--- ---- the check of the order: what is left says what the whole says
+-- ---- the check of the order, pair by pair
 
-pub rises : (ks : List ℕ) (i : ℕ) → suc i < length ks → ascending (drop i ks) ≡ ltb (get_or ks i 0) (get_or ks (suc i) 0) && ascending (drop (suc i) ks)
+all_rise : (ks : List ℕ) → ((i : ℕ) → i + 1 < length ks → ltb (get_or ks i 0) (get_or ks (i + 1) 0) ≡ true) → ascending ks ≡ true
 unfolding ascending rises_from
-rises [] i h = absurd (not-suc-le-zero h)
-rises (k ∷ []) i h = absurd (not-suc-le-zero (le_of_suc-le-suc h))
-rises (k ∷ (l ∷ ks)) zero h = refl
-rises (k ∷ (l ∷ ks)) (suc i) h = rises (l ∷ ks) i (le_of_suc-le-suc h)
+all_rise [] h = refl
+all_rise (k ∷ []) h = refl
+all_rise (k ∷ (l ∷ ks)) h = rw (h 0 (omega arith)) (all_rise (l ∷ ks) (λ i m. rw add-one (rw add-one at (h (suc i) (omega arith)))))
 
-pub risen : (ks : List ℕ) (i : ℕ) → length ks ≤ suc i → ascending (drop i ks) ≡ true
+one_falls : (ks : List ℕ) (i : ℕ) → i + 1 < length ks → ltb (get_or ks i 0) (get_or ks (i + 1) 0) ≡ false → ascending ks ≡ false
 unfolding ascending rises_from
-risen [] zero h = refl
-risen [] (suc i) h = refl
-risen (k ∷ []) zero h = refl
-risen (k ∷ (l ∷ ks)) zero h = absurd (not-suc-le-zero (le_of_suc-le-suc h))
-risen (k ∷ ks) (suc i) h = risen ks i (le_of_suc-le-suc h)
+one_falls [] i h e = absurd (omega arith)
+one_falls (k ∷ []) i h e = absurd (omega arith)
+one_falls (k ∷ (l ∷ ks)) zero h e = rw e
+one_falls (k ∷ (l ∷ ks)) (suc i) h e = rw (one_falls (l ∷ ks) i (omega arith) (rw add-one (rw add-one at e)), and-false)
 
--- the same of the first n of a list
-module _ (ks : List ℕ) (n i : ℕ) (g : n ≤ length ks) where
-  pub next_rises : i + 1 < n → get_or ks i 0 < get_or ks (i + 1) 0 → ascending (drop i (take n ks)) ≡ ascending (drop (i + 1) (take n ks))
-  next_rises h t =
-      let m : suc i < n = rw add-one at h in
-      rw (
-        add-one i,
-        rises (take n ks) i (rw (length-take-le n ks g) m),
-        get_or-take n ks i 0 (omega arith),
-        get_or-take n ks (suc i) 0 m,
-        lt-ltb _ _ (rw add-one at t),
-      )
-
-  pub next_falls : i + 1 < n → get_or ks (i + 1) 0 ≤ get_or ks i 0 → ascending (drop i (take n ks)) ≡ false
-  next_falls h t =
-      let m : suc i < n = rw add-one at h in
-      rw (
-        rises (take n ks) i (rw (length-take-le n ks g) m),
-        get_or-take n ks i 0 (omega arith),
-        get_or-take n ks (suc i) 0 m,
-        le-ltb (get_or ks i 0) (get_or ks (suc i) 0) (rw add-one at t),
-      )
-
-  pub all_risen : n ≤ i + 1 → ascending (drop i (take n ks)) ≡ true
-  all_risen h = risen (take n ks) i (rw (length-take-le n ks g) (rw add-one at h))
+-- what `is_sorted_by` answers
+pub sorted_answer : (ks : List ℕ) (r : Bool) → IsAllAdjacentAnswer (λ x y b. b ≡ ltb x y) ks r → r ≡ ascending ks
+sorted_answer ks true h = sym (all_rise ks (λ i m. sym (h i 0 m)))
+sorted_answer ks false h = sym (one_falls ks h.0 h.1 (sym (h.2 0)))
 
 -- ---- what ascending keys are
 

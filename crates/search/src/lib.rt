@@ -1,34 +1,19 @@
 // Ascending keys: whether they ascend, and where one stands, looked up by halves or from a place upwards.
 #![tactic(auto)]
 
-ghost use Rattle.std.specs.Prelude.{◌≡◌, ◌≤◌, min, length, take};
+ghost use Rattle.std.specs.Prelude.{◌≡◌, ◌≤◌, length, take};
 ghost use Rattle.search.specs.Keys.{ascending, halving, halved, find_by};
 ghost use Rattle.search.specs.Nearby.{nearer as nearer_end, end_above, find_above, behind as behind_start, start_near, place_near, find_near};
-
-// How many of the first `count` places a list of `len` has.
-fn least(count: usize, len: usize) -> usize
-    ensures { result ≡ min count len }
-{
-    if count <= len { count } else { len }
-}
 
 // Each of the first `count` keys is above the one before it.
 pub fn keys_ascend(keys: &[u64], count: usize) -> bool
     ensures { result ≡ ascending (take count keys.now) }
 {
-    let end = least(count, keys.len());
-    let mut i = 0;
-    while i + 1 < end {
-        let next = i + 1;
-        if keys[next] <= keys[i] {
-            return false;
-        }
-        i = next;
-    }
-    true
+    keys[..count.min(keys.len())].is_sorted_by(|a, b| a < b)
 }
 
-// The place that `key` has or would take between two places, by halves.
+// The place that `key` has or would take between two places, by halves. By hand, since `halving` says where the search ends on
+// keys in any order, and `partition_point` where it ends on keys in order.
 fn place_between(keys: &[u64], mut low: usize, mut high: usize, key: u64) -> usize
     requires { high ≤ length keys.now }
     ensures { result ≡ halving (length keys.now) key keys.now low high }
@@ -48,7 +33,7 @@ fn place_between(keys: &[u64], mut low: usize, mut high: usize, key: u64) -> usi
 pub fn place_of(keys: &[u64], count: usize, key: u64) -> usize
     ensures { result ≡ halved key (take count keys.now) }
 {
-    let end = least(count, keys.len());
+    let end = count.min(keys.len());
     place_between(&keys[..end], 0, end, key)
 }
 
@@ -151,7 +136,7 @@ fn place_from(keys: &[u64], from: usize, key: u64) -> usize
 pub fn place_near(keys: &[u64], count: usize, from: usize, key: u64) -> usize
     ensures { result ≡ place_near key (take count keys.now) from }
 {
-    let end = least(count, keys.len());
+    let end = count.min(keys.len());
     place_from(&keys[..end], from, key)
 }
 
@@ -166,6 +151,6 @@ fn find_from(keys: &[u64], from: usize, key: u64) -> Option<usize>
 pub fn find_near(keys: &[u64], count: usize, from: usize, key: u64) -> Option<usize>
     ensures { result ≡ find_near key (take count keys.now) from }
 {
-    let end = least(count, keys.len());
+    let end = count.min(keys.len());
     find_from(&keys[..end], from, key)
 }

@@ -14,9 +14,7 @@ pub fn write_zeros(list: &mut [u8], at: usize, count: usize)
     requires { at + count ≤ length list.old }
     ensures { list.new ≡ sets list.old at (zeros count) }
 {
-    for i in 0..count {
-        list[at + i] = 0;
-    }
+    list[at..at + count].fill(0);
 }
 
 // A word's four bytes from a place on.
@@ -24,19 +22,7 @@ pub fn write_word(list: &mut [u8], at: usize, word: u32)
     requires { at + 4 ≤ length list.old }
     ensures { list.new ≡ sets list.old at (bytes_of word) }
 {
-    list[at] = (word % 0x100) as u8;
-    list[at + 1] = (word / 0x100 % 0x100) as u8;
-    list[at + 2] = (word / 0x1_0000 % 0x100) as u8;
-    list[at + 3] = (word / 0x100_0000 % 0x100) as u8;
-}
-
-// The byte at a place.
-fn byte_at(list: &[u8], at: usize) -> u32
-    requires { at < length list.now }
-    ensures value { result ≡ get_or list.now at 0 }
-    ensures upper_bound { result < 0x100 }
-{
-    list[at] as u32
+    list[at..at + 4].copy_from_slice(&word.to_le_bytes());
 }
 
 // The word of the four bytes from a place on.
@@ -44,10 +30,7 @@ pub fn read_word(list: &[u8], at: usize) -> u32
     requires { at + 4 ≤ length list.now }
     ensures { result ≡ word_from list.now at }
 {
-    byte_at(list, at)
-        + 0x100 * byte_at(list, at + 1)
-        + 0x1_0000 * byte_at(list, at + 2)
-        + 0x100_0000 * byte_at(list, at + 3)
+    u32::from_le_bytes([list[at], list[at + 1], list[at + 2], list[at + 3]])
 }
 
 // The float of a pattern of 32 bits; a NaN for a NaN's.
@@ -55,7 +38,7 @@ pub fn float_of_pattern(bits: u32) -> f32
     ensures { result ≡ f32 bits }
 {
     if 0x7f80_0000 < bits % 0x8000_0000 {
-        0.0 / 0.0
+        f32::NAN
     } else {
         f32::from_bits(bits)
     }

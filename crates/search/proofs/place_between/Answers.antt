@@ -1,5 +1,4 @@
 -- `search::place_between` meets its contract: what is left of the search ends where the whole does.
-use Prim.Native.Nat.{◌-◌}
 use native.Mathlib.Omega.{arith}
 use mathlib.Core.Path.{refl, sym, ◌∙◌}
 use Rattle.search.proofs.KeyLaws.{goes_up, goes_down, ends}

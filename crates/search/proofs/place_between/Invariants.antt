@@ -1,7 +1,6 @@
 -- `search::place_between` meets its contract: what is left of the search ends where the whole does.
 -- Assumes nothing.
 use Prim.Native.Nat.{◌≤◌, ◌-◌}
-use native.Mathlib.Omega.{arith}
 use mathlib.Core.Path.{◌≡◌}
 use lib.ListN.{length}
 use Rattle.search.specs.Keys.{halving}

@@ -11,11 +11,11 @@ use Rattle.search.proofs.KeyLaws.{take_least}
 use Rattle.search.proofs.place_near.Goals as goal
 
 pub slice_bounds-place_from-end : goal.slice_bounds-place_from-end
-slice_bounds-place_from-end c = sym (length-take-le _ c.args.keys.now (omega (arith, c.least-end.ensures)))
+slice_bounds-place_from-end c = sym (length-take-le _ c.args.keys.now (omega (arith, c.min-end.ensures)))
 
 pub returns : goal.returns
 returns c =
     let a = c.args in
-    let same : take c.least-end.result a.keys.now ≡ take a.count a.keys.now =
-    rw c.least-end.ensures (take_least a.count a.keys.now) in
+    let same : take c.min-end.result a.keys.now ≡ take a.count a.keys.now =
+    rw c.min-end.ensures (take_least a.count a.keys.now) in
     c.place_from.ensures ∙ ap (λ (l : List ℕ). place_near a.key l a.from) same

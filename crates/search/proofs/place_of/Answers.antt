@@ -18,14 +18,14 @@ whole ks n k end e =
     ap (λ (l : List ℕ). halving (length l) k l 0 end) same ∙ ap (λ (m : ℕ). halving (length (take n ks)) k (take n ks) 0 m) long
 
 pub slice_bounds-place_between-end : goal.slice_bounds-place_between-end
-slice_bounds-place_between-end c = sym (length-take-le _ c.args.keys.now (omega (arith, c.least-end.ensures)))
+slice_bounds-place_between-end c = sym (length-take-le _ c.args.keys.now (omega (arith, c.min-end.ensures)))
 
 pub place_between-requires : goal.place_between-requires
 place_between-requires c =
-    let e = c.least-end.ensures in
-    rw (length-take-le c.least-end.result c.args.keys.now (omega (arith, e))) (omega arith)
+    let e = c.min-end.ensures in
+    rw (length-take-le c.min-end.result c.args.keys.now (omega (arith, e))) (omega arith)
 
 pub returns : goal.returns
 returns c =
     let a = c.args in
-    c.place_between.ensures ∙ whole a.keys.now a.count a.key _ c.least-end.ensures
+    c.place_between.ensures ∙ whole a.keys.now a.count a.key _ c.min-end.ensures

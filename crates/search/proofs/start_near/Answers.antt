@@ -1,7 +1,6 @@
 -- `search::start_near` meets its contract: the first of three that is reached says where.
 -- Assumes nothing.
 use mathlib.Core.Path.{◌∙◌}
-use Rattle.search.specs.Nearby.{behind}
 use Rattle.search.proofs.NearbyLaws.{behind_found, behind_not}
 use Rattle.search.proofs.start_near.Goals as goal
 

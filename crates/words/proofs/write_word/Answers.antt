@@ -1,24 +1,10 @@
--- `words::write_word` meets its contract: byte by byte.
+-- `words::write_word` meets its contract: the part is the word's bytes.
 -- Assumes nothing.
-use Prim.Native.Nat.{suc, ◌+◌}
 use native.Mathlib.Omega.{arith}
-use mathlib.Core.Path.{◌≡◌}
-use lib.ListN.{length-set}
+use mathlib.Core.Path.{refl, ◌∙◌}
+use Rattle.words.specs.Words.{bytes_of}
+use Rattle.words.proofs.WordLaws.{part_written}
 use Rattle.words.proofs.write_word.Goals as goal
 
-pub bounds-list-at-2 : goal.bounds-list-at-2
-bounds-list-at-2 c = simp length-set (omega arith)
-
-pub bounds-list-at-3 : goal.bounds-list-at-3
-bounds-list-at-3 c = simp length-set (omega arith)
-
-pub bounds-list-at-4 : goal.bounds-list-at-4
-bounds-list-at-4 c = simp length-set (omega arith)
-
 pub returns : goal.returns
-returns c =
-    let at = c.args.at in
-    let one : at + 1 ≡ suc at = omega arith in
-    let two : at + 2 ≡ suc (suc at) = omega arith in
-    let three : at + 3 ≡ suc (suc (suc at)) = omega arith in
-    rw (one, two, three)
+returns c = part_written c.args.list.now c.copy_from_slice.new.self (bytes_of c.args.word) c.args.at 4 (omega arith) refl (c.copy_from_slice.ensures.after ∙ c.to_le_bytes.ensures)
