@@ -1,7 +1,8 @@
 -- What the code works out, step by step, is what the definitions say.
 -- Assumes nothing.
-use Rattle.std.specs.Prelude.{Ok, Err, Some, None, Option, Result}
-use mathlib.Core.Path.{◌≡◌, ap, ◌∙◌}
+use Rattle.std.specs.Prelude.{Ok, Err, Some, None, Option, Result, unwrap_or}
+use Rattle.std.specs.Result.{result_unwrap_or}
+use mathlib.Core.Path.{◌≡◌, refl, ap, ◌∙◌}
 use mathlib.Core.Bool.{true, false}
 use mathlib.Core.List.{List}
 use Prim.Native.Nat.{ℕ, ◌+◌, ◌<◌, ◌≤◌}
@@ -13,20 +14,16 @@ use lib.ListN.{length, get_or, drop, drop_of_length-le}
 use lib.Seq.{drop-cons}
 use lib.Ieee.{Float, binary32, add, sub, mul, div, neg, lt, of_int}
 use Rattle.refusals.specs.declared.Refusal.{Refusal}
-use Rattle.lists.specs.Padding.{padded}
-use Rattle.lists.proofs.PaddingLaws.{padded_at}
 use Rattle.floats.specs.Floats.{zero32, one32, size_of, clamp_of}
 use Rattle.floats.specs.declared.Metres.{Metres}
 use Rattle.ids.specs.Key.{x_of, y_of, z_of}
 use Rattle.ids.specs.declared.Coords.{Coords}
-use Rattle.neighbors.specs.Neighbors.{neighbours, near_of}
-use Rattle.neighbors.specs.declared.Near.{Near}
-use Rattle.neighbors.proofs.NeighborLaws.{at_most_14}
+use Rattle.neighbors.specs.Neighbors.{neighbours}
 use Rattle.bcc_utils.specs.Metres.{metres_of}
 use Rattle.root.specs.Root.{root_answer}
 use Rattle.slopes.specs.declared.Slopes.{Slopes}
-use Rattle.slopes.specs.Stored.{Lookup}
-use Rattle.slopes.specs.Vertices.{tiny, half, part_of, place_of, vertex_of}
+use Rattle.slopes.specs.Stored.{Lookup, or_zero}
+use Rattle.slopes.specs.Vertices.{tiny, half, part_of, place_of, vertex_of, vertex_at}
 use Rattle.slopes.specs.Normals.{normal, no_normal, rooted_or, length_of, direction_of, step_of, no_slopes, slopes_with, slopes_from, mean_of, normal_by}
 
 -- ---- a vertex
@@ -39,6 +36,12 @@ module _ (d1 d2 s t r : Float) (size : s ≡ size_of (sub binary32 d2 d1)) (last
   pub part_halved : lt tiny s ≡ false → t ≡ half → r ≡ part_of d1 d2
   unfolding part_of
   part_halved h e = last ∙ rw (e, ← size, h)
+
+-- the distance, or 0
+or_zero_is : (s : Option Float) → unwrap_or s zero32 ≡ or_zero s
+unfolding or_zero
+or_zero_is (Some d) = refl
+or_zero_is None = refl
 
 -- the coordinates of a key
 abbrev coords_of : ℕ → Coords
@@ -56,16 +59,22 @@ pub vertex_is :
 unfolding vertex_of
 vertex_is size k1 d1 k2 d2 t c1 c2 x y z et e1 e2 ex ey ez = rw (ex, ey, ez, et, e1, e2)
 
+pub vertex_looked :
+    (look : Lookup) (size : Float) (k1 k2 : ℕ) {d1 d2 : Float} {s1 s2 : Option Float}
+    → d1 ≡ unwrap_or s1 zero32
+    → d2 ≡ unwrap_or s2 zero32
+    → s1 ≡ look k1
+    → s2 ≡ look k2
+    → vertex_of size k1 d1 k2 d2 ≡ vertex_at look size k1 k2
+unfolding vertex_at
+vertex_looked look size k1 k2 {s1 = s1} {s2 = s2} e1 e2 f1 f2 = rw (e1 ∙ or_zero_is s1, e2 ∙ or_zero_is s2, f1, f2)
+
 -- ---- a length and a direction
 
-module _ (s : Float) (a : Result Float Refusal) (e : a ≡ root_answer s) where
-  pub has_root : (r : Float) → a ≡ Ok r → r ≡ rooted_or s (root_answer s)
-  unfolding rooted_or
-  has_root r h = rw (← e, h)
-
-  pub has_no_root : (why : Refusal) → a ≡ Err why → s ≡ rooted_or s (root_answer s)
-  unfolding rooted_or
-  has_no_root why h = rw (← e, h)
+pub rooted : (s : Float) {r : Float} (a : Result Float Refusal) → r ≡ result_unwrap_or a s → a ≡ root_answer s → r ≡ rooted_or s (root_answer s)
+unfolding rooted_or
+rooted s (Ok r) e f = e ∙ rw (← f)
+rooted s (Err why) e f = e ∙ rw (← f)
 
 module _ (x y z l : Float) (e : l ≡ length_of x y z) where
   pub has_direction : lt tiny l ≡ true → normal (div binary32 x l) (div binary32 y l) (div binary32 z l) ≡ direction_of x y z
@@ -110,22 +119,19 @@ pub count_more :
     → sum'.count ≤ i + 1
 count_more size key d sum sum' k s i e h = rw e (omega (arith, count_with size key d sum k s))
 
--- the list of the neighbours that the code walks
-pub near_list : (key : ℕ) (n : Near) → n ≡ near_of key → (n.keys ≡ padded 0 14 (neighbours key)) × (n.count ≡ length (neighbours key)) × (n.count ≤ 14)
-near_list key n e = (ap (λ (x : Near). x.keys) e, ap (λ (x : Near). x.count) e, rw (ap (λ (x : Near). x.count) e) (at_most_14 key))
-
-module _ (look : Lookup) (size : Float) (key : ℕ) (d : Float) (ks list : List ℕ) (listed : list ≡ padded 0 14 ks) where
-  -- one neighbour more, by the one that stands at place i of the list
+module _ (look : Lookup) (size : Float) (key : ℕ) (d : Float) (ks cells : List ℕ) (same : cells ≡ ks) where
+  -- one neighbour more, the one at place i
   pub slopes_more :
       (sum sum' : Slopes) (s : Option Float) (i : ℕ)
-      → i < length ks
-      → s ≡ look (get_or list i 0)
-      → sum' ≡ slopes_with size key d sum (get_or list i 0) s
+      → i < length cells
+      → s ≡ look (get_or cells i 0)
+      → sum' ≡ slopes_with size key d sum (get_or cells i 0) s
       → slopes_from look size key d sum (drop i ks) ≡ slopes_from look size key d sum' (drop (i + 1) ks)
   unfolding slopes_from
   slopes_more sum sum' s i l es e =
-      let at : get_or list i 0 ≡ get_or ks i 0 = ap (λ (x : List ℕ). get_or x i 0) listed ∙ padded_at 0 14 ks i in
-      rw (drop-cons ks i 0 l, add-one i, e, es, at)
+      let at : get_or cells i 0 ≡ get_or ks i 0 = ap (λ (x : List ℕ). get_or x i 0) same in
+      let within : i < length ks = rw (← same) l in
+      rw (drop-cons ks i 0 within, add-one i, e, es, at)
 
   pub slopes_done : (sum : Slopes) (i : ℕ) → length ks ≤ i → slopes_from look size key d sum (drop i ks) ≡ sum
   unfolding slopes_from

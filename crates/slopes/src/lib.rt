@@ -3,14 +3,14 @@
 
 ghost use Rattle.std.specs.Prelude.{◌≡◌, ◌<◌};
 ghost use Rattle.bcc_utils.specs.Metres.{metres_of};
-ghost use Rattle.slopes.specs.Stored.{distance_by, or_zero};
+ghost use Rattle.slopes.specs.Stored.{distance_by};
 ghost use Rattle.slopes.specs.Vertices.{part_of, place_of, vertex_of, vertex_at};
 ghost use Rattle.slopes.specs.Normals.{length_of, direction_of, step_of, slopes_with, mean_of, normal_at};
 
 use floats::Metres;
 use ids::Cells;
 
-// A vertex's place.
+// A vertex's place. Of its own type, beside a normal's: a place is in metres and a direction has no unit, and no function takes both.
 #[derive(Clone, Copy)]
 pub struct Vertex {
     pub x: Metres,
@@ -35,28 +35,25 @@ struct Slopes {
     count: u16,
 }
 
+const NO_NORMAL: Normal = Normal {
+    x: 0.0,
+    y: 0.0,
+    z: 0.0,
+};
+
+const NO_SLOPES: Slopes = Slopes {
+    x: 0.0,
+    y: 0.0,
+    z: 0.0,
+    count: 0,
+};
+
 // The distance of a cell, by halving the first `count` keys.
 pub fn distance_of(keys: &[u64], distances: &[f32], count: usize, key: u64) -> Option<f32>
     ensures { result ≡ distance_by keys.now distances.now count key }
 {
-    let Some(place) = search::find_row(keys, count, key) else {
-        return None;
-    };
-    if place < distances.len() {
-        Some(distances[place])
-    } else {
-        None
-    }
-}
-
-// The distance, 0 where none is stored.
-fn or_zero(stored: Option<f32>) -> f32
-    ensures { result ≡ or_zero stored }
-{
-    match stored {
-        Some(d) => d,
-        None => 0.0,
-    }
+    let place = search::find_row(keys, count, key)?;
+    distances.get(place).copied()
 }
 
 // Where between two cells the surface lies, from 0 to 1.
@@ -96,10 +93,7 @@ pub fn length(x: f32, y: f32, z: f32) -> f32
     ensures { result ≡ length_of x y z }
 {
     let squares = x * x + y * y + z * z;
-    match root::root(squares) {
-        Ok(r) => r,
-        Err(_) => squares,
-    }
+    root::root(squares).unwrap_or(squares)
 }
 
 // The direction of x, y, z; none if the length is not above 1e-6.
@@ -114,11 +108,7 @@ fn direction_of(x: f32, y: f32, z: f32) -> Normal
             z: z / l,
         }
     } else {
-        Normal {
-            x: 0.0,
-            y: 0.0,
-            z: 0.0,
-        }
+        NO_NORMAL
     }
 }
 
@@ -160,11 +150,7 @@ fn mean_of(sum: Slopes) -> Normal
     ensures { result ≡ mean_of sum }
 {
     if sum.count == 0 {
-        return Normal {
-            x: 0.0,
-            y: 0.0,
-            z: 0.0,
-        };
+        return NO_NORMAL;
     }
     let n = sum.count as f32;
     direction_of(sum.x / n, sum.y / n, sum.z / n)
@@ -181,25 +167,13 @@ pub fn compute_normal(
     ensures { result ≡ normal_at (distance_by keys.now distances.now count) voxel_size.0 key }
 {
     let Some(d) = distance_of(keys, distances, count, key) else {
-        return Normal {
-            x: 0.0,
-            y: 0.0,
-            z: 0.0,
-        };
+        return NO_NORMAL;
     };
     let near = neighbors::around(key);
-    let list = near.keys;
-    let n = near.count;
-    let mut sum = Slopes {
-        x: 0.0,
-        y: 0.0,
-        z: 0.0,
-        count: 0,
-    };
-    for i in 0..n {
-        let k = list[i];
-        let stored = distance_of(keys, distances, count, k);
-        sum = slopes_with(voxel_size, key, d, sum, k, stored);
+    let mut sum = NO_SLOPES;
+    for &neighbour in near.cells() {
+        let stored = distance_of(keys, distances, count, neighbour);
+        sum = slopes_with(voxel_size, key, d, sum, neighbour, stored);
     }
     mean_of(sum)
 }
@@ -215,7 +189,7 @@ pub fn vertex_at(
 ) -> Vertex
     ensures { result ≡ vertex_at (distance_by keys.now distances.now count) voxel_size.0 k1 k2 }
 {
-    let d1 = or_zero(distance_of(keys, distances, count, k1));
-    let d2 = or_zero(distance_of(keys, distances, count, k2));
+    let d1 = distance_of(keys, distances, count, k1).unwrap_or(0.0);
+    let d2 = distance_of(keys, distances, count, k2).unwrap_or(0.0);
     vertex_of(voxel_size, k1, d1, k2, d2)
 }

@@ -1,13 +1,15 @@
--- `slopes::distance_of` meets its contract: what the search found is looked at.
+-- `slopes::distance_of` meets its contract: the place that the search found is read, where the list has it.
 -- Assumes nothing.
-use Rattle.slopes.proofs.StoredLaws.{nowhere, here, past}
+use mathlib.Core.Path.{◌∙◌}
+use native.Mathlib.Omega.{arith}
+use lib.Ieee.{nan}
+use Rattle.slopes.proofs.StoredLaws.{nowhere, here}
 use Rattle.slopes.proofs.distance_of.Goals as goal
 
-pub returns-in_default : goal.returns-in_default
-returns-in_default c = nowhere _ _ _ c.find_row.ensures c.in_default.is
+pub returns-in_err-place : goal.returns-in_err-place
+returns-in_err-place c = c.from_residual.ensures ∙ nowhere _ _ _ _ c.find_row.ensures c.in_err-place.was
 
-pub returns-then-place-distances : goal.returns-then-place-distances
-returns-then-place-distances c = here _ _ _ c.find_row.ensures _ c.in-Some.is c.if-place-distances.true
-
-pub returns-else-place-distances : goal.returns-else-place-distances
-returns-else-place-distances c = past _ _ _ c.find_row.ensures _ c.in-Some.is c.if-place-distances.false
+pub returns : goal.returns
+returns c =
+    let h = c.get.ensures.lookup in
+    c.copied.ensures ∙ here _ _ _ _ c.find_row.ensures _ _ c.in_ok-place.was h.0 (h.4 (omega arith) nan)
