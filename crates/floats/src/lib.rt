@@ -16,24 +16,30 @@ pub struct Metres(pub f32);
 pub fn size(x: f32) -> f32
     ensures { result ≡ size_of x }
 {
-    x.abs()
+    if x == 0.0 {
+        0.0
+    } else if x < 0.0 {
+        -x
+    } else {
+        x
+    }
 }
 
-// a, unless b is strictly below it. f32's `min` leaves open which of two zeros it gives, and gives b where a is a NaN.
+// a, unless b is strictly below it.
 pub fn smaller(a: f32, b: f32) -> f32
     ensures { result ≡ smaller_of a b }
 {
     if b < a { b } else { a }
 }
 
-// a, unless b is strictly above it; as `smaller`, and not f32's `max`.
+// a, unless b is strictly above it.
 pub fn larger(a: f32, b: f32) -> f32
     ensures { result ≡ larger_of a b }
 {
     if a < b { b } else { a }
 }
 
-// x within lo and hi, as Rust's clamp, which asks that lo is at most hi: this takes every lo and hi.
+// x within lo and hi, as Rust's clamp.
 pub fn clamp(x: f32, lo: f32, hi: f32) -> f32
     ensures { result ≡ clamp_of x lo hi }
 {
@@ -50,14 +56,22 @@ pub fn clamp(x: f32, lo: f32, hi: f32) -> f32
 pub fn sign(x: f32) -> f32
     ensures { result ≡ sign_of x }
 {
-    x.signum()
+    if x != x {
+        return x;
+    }
+    if f32::to_bits(x) < 0x8000_0000 {
+        1.0
+    } else {
+        -1.0
+    }
 }
 
 // Neither a NaN nor an infinity.
 pub fn is_finite(x: f32) -> bool
     ensures { result ≡ is_finite x }
 {
-    x.is_finite()
+    let infinity = f32::from_bits(0x7f80_0000);
+    (-infinity < x) & (x < infinity)
 }
 
 // From lo to hi, both ends with it.

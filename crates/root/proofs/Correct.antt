@@ -238,68 +238,36 @@ near_exists m p =
       | inr g ↦ (s + 1, record { low = omega arith; high = omega (arith, r.1) })
     ]
 
--- ---- the theorem: a value of q * 2 ^ k units is nearest
-pub nearest_of : (x r : Float) (X m k q : ℕ)
-    → HasValue x false X (2 ^ 149)
-    → ScaledOf (X * units_of_one) m k
-    → Near m q
-    → T (fits binary32 r)
-    → HasValue r false (q * 2 ^ k) (2 ^ 149)
-    → IsNearest x r
+-- ---- the theorem
+by_units : (x : Float) (X m k : ℕ) → T (fits binary32 x) → HasValue x false X (2 ^ 149) → 0 < X → ScaledOf (X * units_of_one) m k → IsNearest x (root_of x)
 unfolding units_of_one
-nearest_of x r X m k q v s w f h = record {
-  holds = f;
-  number = positive_of_value r (q * 2 ^ k) (2 ^ 149) h (mul-pos {m = q} (lt_of_lt_of_le (lit< tt) (near_ge m q s.low w)) (pow_pos k));
-  nearer =
-      λ (y : Float) (g : T (fits binary32 y)) (t : T (is_finite y)).
-      nearer_all x r y X m k q (value→cross x X (2 ^ 149) v) s.same s.low w h g t;
-}
+by_units x X m k f v p s =
+    let n = near_exists m (lt_of_lt_of_le (lit< tt) s.low) in
+    let q = n.0 in
+    let w = n.1 in
+    let h : HasValue (root_of x) false (q * 2 ^ k) (2 ^ 149) =
+    subst (λ (r : Float). HasValue r false (q * 2 ^ k) (2 ^ 149)) (sym (root_of_units x X v p))
+    (rounded_value (X * 2 ^ 149) m k q s.same s.low s.high w s.least s.most) in
+    record {
+      holds = root_fits x f;
+      number = positive_of_value (root_of x) (q * 2 ^ k) (2 ^ 149) h (mul-pos {m = q} (lt_of_lt_of_le (lit< tt) (near_ge m q s.low w)) (pow_pos k));
+      nearer =
+          λ (y : Float) (g : T (fits binary32 y)) (t : T (is_finite y)).
+          nearer_all x (root_of x) y X m k q (value→cross x X (2 ^ 149) v) s.same s.low w h g t;
+    }
 
--- what is known of a finite x above zero: its units, their m, k and q
-pub record Parts (x : Float) : Type 0 where
-  pub X : ℕ
-  pub m : ℕ
-  pub k : ℕ
-  pub q : ℕ
-  pub value : HasValue x false X (2 ^ 149)
-  pub some : 0 < X
-  pub scaled : ScaledOf (X * units_of_one) m k
-  pub near : Near m q
-
-pub parts_of : (x : Float) → T (fits binary32 x) → T (positive x) → Parts x
-parts_of nan f p = elim p [ ]
-parts_of (inf _) f p = elim p [ ]
-parts_of (fin false zero e) f p = elim p [ ]
-parts_of (fin true _ e) f p = elim p [ ]
-parts_of (fin false (suc n) e) f p =
+pub correct : (x : Float) → T (fits binary32 x) → T (positive x) → IsNearest x (root_of x)
+correct nan f p = elim p [ ]
+correct (inf _) f p = elim p [ ]
+correct (fin false zero e) f p = elim p [ ]
+correct (fin true _ e) f p = elim p [ ]
+correct (fin false (suc n) e) f p =
     let g = fitting false n e f in
     let u = place (suc n) e g.low in
     let X = suc n * 2 ^ u.0 in
     let l = lead_exists n u.0 g.digits (small_power n u.0 (below_top (suc n * up e) X (down e) (down_pos e) u.1 g.high)) in
     let s = scaled_exists (X * units_of_one) l.0 l.1 l.2 in
-    let w = near_exists s.0 (lt_of_lt_of_le (lit< tt) s.2.low) in
-    record {
-      X = X;
-      m = s.0;
-      k = s.1;
-      q = w.0;
-      value = (refl, u.1);
-      some = mul-pos (zero-lt-suc n) (pow_pos u.0);
-      scaled = s.2;
-      near = w.1;
-    }
-
-root_of-value : (x : Float) (o : Parts x) → HasValue (root_of x) false (o.q * 2 ^ o.k) (2 ^ 149)
-unfolding units_of_one
-root_of-value x o =
-    let s = o.scaled in
-    subst (λ (r : Float). HasValue r false (o.q * 2 ^ o.k) (2 ^ 149)) (sym (root_of_units x o.X o.value o.some))
-    (rounded_value (o.X * 2 ^ 149) o.m o.k o.q s.same s.low s.high o.near s.least s.most)
-
-pub correct : (x : Float) → T (fits binary32 x) → T (positive x) → IsNearest x (root_of x)
-correct x f p =
-    let o = parts_of x f p in
-    nearest_of x (root_of x) o.X o.m o.k o.q o.value o.scaled o.near (root_fits x f) (root_of-value x o)
+    by_units (fin false (suc n) e) X s.0 s.1 f (refl, u.1) (mul-pos (zero-lt-suc n) (pow_pos u.0)) s.2
 
 -- ---- and it is the only one
 clash : (nx dx nr dr ny dy : ℕ) → 4 * nx * square (dr * dy) < square (nr * dy + ny * dr) * dx → square (ny * dr + nr * dy) * dx < 4 * nx * square (dy * dr) → ⊥

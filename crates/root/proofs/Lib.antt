@@ -5,7 +5,6 @@ pub mod Leading
 pub mod Patterns
 pub mod Taken
 pub mod Correct
-pub mod Library
 pub mod Answers
 pub mod Determined
 pub mod Samples

@@ -1,15 +1,13 @@
--- `floats::is_finite` meets its contract: the library's is_finite is the same definition. Assumes nothing.
-use Rattle.std.proofs.Common.{◌≡◌, refl, ◌∙◌}
-use lib.Ieee.{Float, nan, inf, fin}
-use Rattle.std.specs.Float.{float_is_finite}
-use Rattle.floats.specs.Floats.{is_finite}
+-- `floats::is_finite` meets its contract: a finite value lies between the infinities. Assumes nothing.
+use Rattle.std.proofs.Common.{sym}
+use lib.Ieee.{neg, of_bits, nan_bits}
+use Rattle.floats.proofs.Signs.{finite_is}
 use Rattle.floats.proofs.is_finite.Goals as goal
 
-same : (x : Float) → float_is_finite x ≡ is_finite x
-unfolding float_is_finite
-same nan = refl
-same (inf s) = refl
-same (fin s m e) = refl
+pub float_from_bits-infinity : goal.float_from_bits-infinity
+unfolding nan_bits
+float_from_bits-infinity c = tt
 
 pub returns : goal.returns
-returns c = c.is_finite.ensures.value ∙ same c.args.x
+unfolding of_bits neg
+returns c = sym (finite_is c.args.x)

@@ -1,15 +1,17 @@
--- `floats::size` meets its contract: the library's abs is the same definition under another name. Assumes nothing.
-use Rattle.std.proofs.Common.{◌≡◌, false, refl, ◌∙◌}
-use lib.Ieee.{Float, nan, inf, fin}
-use Rattle.std.specs.Float.{float_with_sign}
-use Rattle.floats.specs.Floats.{size_of}
+-- `floats::size` meets its contract, by the three tests against zero. Assumes nothing.
+use Rattle.std.proofs.Common.{T, sym, subst}
+use lib.Ieee.{binary32, fits, of_bits}
+use Rattle.floats.proofs.Signs.{size_zero, size_below, size_else}
 use Rattle.floats.proofs.size.Goals as goal
 
-same : (x : Float) → float_with_sign false x ≡ size_of x
-unfolding float_with_sign
-same nan = refl
-same (inf s) = refl
-same (fin s m e) = refl
+pub returns-then-x : goal.returns-then-x
+unfolding of_bits
+returns-then-x c = size_zero c.args.x (subst T (sym c.well_formed.0.1) tt) c.if-x.true
 
-pub returns : goal.returns
-returns c = c.abs.ensures.value ∙ same c.args.x
+pub returns-then-x-2 : goal.returns-then-x-2
+unfolding of_bits
+returns-then-x-2 c = size_below c.args.x c.if-x-2.true
+
+pub returns-else-x-2 : goal.returns-else-x-2
+unfolding of_bits
+returns-else-x-2 c = size_else c.args.x c.if-x.false c.if-x-2.false
