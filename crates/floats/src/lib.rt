@@ -1,4 +1,5 @@
-// Small functions on f32 and tests of it, each defined for every input, a NaN included.
+// Small functions on f32 and tests of it, each defined for every input, a NaN included. Document 01 asks that abs, min, clamp, signum
+// and round are worked out in the program, so they don't call the library's.
 #![tactic(auto)]
 
 ghost use Rattle.std.specs.Prelude.{◌≡◌, true};

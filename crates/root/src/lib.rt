@@ -1,5 +1,6 @@
 // The square root of an f32: the nearest f32, ties to even, worked out in whole numbers from the
-// bit pattern. A unit is the smallest f32 above zero, 2 ^ -149.
+// bit pattern, as document 01 asks, and not by f32's sqrt, which would be trusted. A unit is the smallest f32 above zero,
+// 2 ^ -149.
 #![tactic(auto)]
 
 ghost use Rattle.std.specs.Prelude.{◌≡◌, ◌*◌, ◌^◌, ◌<◌, ◌≤◌, true, from_bits, to_bits};
