@@ -27,15 +27,6 @@ pub record Settling (A : Type 0) (ss : List ℕ) (vs before : List A) (n m r j w
   pub kept : take r held ≡ take r before
   pub whole : rest ss vs before j r ++ drop w held ≡ laid (rest ss vs before m n) before
 
--- a value put by its seat, once what is above the seat was slid
-pub seat_put : {A : Type 0} (l l' : List A) (seat r w from q : ℕ) (v : A)
-    → from ≡ above seat
-    → q + r ≡ w + from
-    → l' ≡ slid l q from r w
-    → (q - 1 ≡ seat_place seat r w) × (set l' (q - 1) v ≡ seated_at seat r w v l)
-seat_put l l' seat r w from q v f e p =
-    let same : q ≡ w + above seat - r = omega (arith, f, e) in (ap (λ (t : ℕ). t - 1) same, rw (p, f, same) refl)
-
 module _ {A : Type 0} (d : A) {ss : List ℕ} {vs before : List A} {n m total : ℕ} (h : Settles before n ss vs m total) where
   -- a place is as far up as the values left
   reaches : (r j w : ℕ) → r ≤ n → w ≡ length (rest ss vs before j r) → r ≤ w

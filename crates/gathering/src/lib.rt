@@ -1,6 +1,6 @@
 // Own rows beside a table: each own key gets a seat among the table's keys; by the seats a column's values are loaded, and after
 // they were changed apart all columns are settled in one walk over the seats. A row whose weight is in range stands; the others
-// wait, and are never settled. A further column takes one call of `load_` for its type of element, a line each in `slide` and
+// wait, and are never settled. A further column takes one call of `load`, a line each in `slide` and
 // `seat_row` and a clause in their contracts and in that of `settle`, by the same laws; one row alone is put into it by `set` or
 // `inserted` (table/proofs/Laying: laid_set, laid_open).
 #![tactic(auto)]
@@ -30,7 +30,7 @@ fn first_above(seat: u32) -> usize
     seat as usize / 2
 }
 
-// From `start` on, past four keys at a time while the last of them is below `key`.
+// From `start` on, past four keys at a time while the last of them is below `key`; the answer is where that stops, so no `step_by`.
 fn skip_fours(keys: &[u64], count: usize, start: usize, key: u64) -> usize
     requires count_in_bounds { (count ≤ length keys.now) × (ascending (take count keys.now) ≡ true) }
     requires start_bound { start ≤ place_of key (take count keys.now) }
@@ -47,27 +47,18 @@ fn skip_fours(keys: &[u64], count: usize, start: usize, key: u64) -> usize
     place
 }
 
-// 1 for a key that is below `key`, otherwise 0.
-fn one_below(other: u64, key: u64) -> usize
-    ensures { (result ≤ 1) × (result ≡ cond (ltb other key) 1 0) }
-{
-    if other < key { 1 } else { 0 }
-}
-
 // The place that `key` has or would take among the first `count` keys, looked for from `start` on key by key.
 fn walk_from(keys: &[u64], count: usize, start: usize, key: u64) -> usize
     requires count_in_bounds { (count ≤ length keys.now) × (ascending (take count keys.now) ≡ true) }
     requires start_bound { start ≤ place_of key (take count keys.now) }
     ensures { result ≡ place_of key (take count keys.now) }
 {
-    let mut place = start;
-    while place < count {
+    for place in start..count {
         if key <= keys[place] {
             return place;
         }
-        place += 1;
     }
-    place
+    count
 }
 
 // The same, four keys at a time. Those of the last four that are below `key` are counted, so that no branch is guessed wrongly.
@@ -79,9 +70,9 @@ fn place_past(keys: &[u64], count: usize, start: usize, key: u64) -> usize
     let place = skip_fours(keys, count, start, key);
     if place + 3 < count {
         return place
-            + one_below(keys[place], key)
-            + one_below(keys[place + 1], key)
-            + one_below(keys[place + 2], key);
+            + usize::from(keys[place] < key)
+            + usize::from(keys[place + 1] < key)
+            + usize::from(keys[place + 2] < key);
     }
     walk_from(keys, count, place, key)
 }
@@ -127,7 +118,7 @@ pub fn locate(keys: &[u64], count: usize, own_keys: &[u64], seats: &mut [u32], o
 }
 
 // A column's value at a seat that is over a row, and otherwise `absent`.
-fn value_f32(column: &[f32], seat: u32, absent: f32) -> f32
+fn value<T: Copy>(column: &[T], seat: u32, absent: T) -> T
     requires { above seat ≤ length column.now }
     ensures { result ≡ value_at column.now absent seat }
 {
@@ -139,13 +130,13 @@ fn value_f32(column: &[f32], seat: u32, absent: f32) -> f32
 }
 
 // The own values of a column, by the seats.
-pub fn load_f32(column: &[f32], seats: &[u32], own_column: &mut [f32], own: usize, absent: f32)
+pub fn load<T: Copy>(column: &[T], seats: &[u32], own_column: &mut [T], own: usize, absent: T)
     requires own_in_bounds { (own ≤ length seats.now) × (own ≤ length own_column.old) }
     requires within { Within (length column.now) seats.now own }
     ensures { take own own_column.new ≡ loaded column.now absent (take own seats.now) }
 {
     for i in 0..own {
-        own_column[i] = value_f32(column, seats[i], absent);
+        own_column[i] = value(column, seats[i], absent);
     }
 }
 
@@ -186,15 +177,10 @@ fn slide(
     if end == to {
         return from;
     }
-    let mut i = end;
-    let mut place = to;
-    while from < i {
-        i -= 1;
-        place -= 1;
-        keys[place] = keys[i];
-        distances[place] = distances[i];
-        weights[place] = weights[i];
-    }
+    let place = to - (end - from);
+    keys.copy_within(from..end, place);
+    distances.copy_within(from..end, place);
+    weights.copy_within(from..end, place);
     place
 }
 
@@ -247,11 +233,9 @@ pub fn settle(
     ensures weights_after { weights.new ≡ settled_in weights.old count seats.now own_weights.now own }
 {
     let mut rows = count;
-    let mut left = own;
     let mut place = total;
-    while 0 < left {
-        left -= 1;
-        let seat = seats[left];
+    for i in (0..own).rev() {
+        let seat = seats[i];
         if seat != 0 {
             place = seat_row(
                 keys,
@@ -260,9 +244,9 @@ pub fn settle(
                 seat,
                 rows,
                 place,
-                own_keys[left],
-                own_distances[left],
-                own_weights[left],
+                own_keys[i],
+                own_distances[i],
+                own_weights[i],
             );
             rows = rows_below(seat);
         }

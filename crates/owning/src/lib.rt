@@ -13,7 +13,7 @@ ghost use Rattle.table.specs.Read.{table_of};
 
 use floats::{Metres, between, within};
 use fusing::{Averaging, fused_voxel};
-use gathering::{hold_back, load_f32, locate, settle};
+use gathering::{hold_back, load, locate, settle};
 use measuring::{Measured, Reading, admit};
 use refusals::Refusal;
 use sorting::{distinct, sort};
@@ -259,8 +259,8 @@ fn load_own(
         count,
     } = *rows;
     locate(keys, count, own_keys, seats, own);
-    load_f32(distances, seats, own_distances, own, 0.0);
-    load_f32(
+    load(distances, seats, own_distances, own, 0.0);
+    load(
         weights,
         seats,
         own_weights,

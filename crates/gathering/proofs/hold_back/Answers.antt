@@ -1,6 +1,6 @@
 -- `gathering::hold_back` meets its contract: the first i own rows that do not stand wait.
 use Prim.Native.Nat.{◌<◌}
-use mathlib.Core.Path.{◌≡◌, refl, ◌∙◌}
+use mathlib.Core.Path.{refl, ◌∙◌}
 use native.Mathlib.Omega.{arith}
 use lib.ListN.{length-set}
 use Rattle.gathering.specs.Gathering.{held_back}
@@ -21,9 +21,3 @@ loop-i-preserved c =
           c.between-stands.result c.between-stands.ensures c.seat_if.result c.seat_if.ensures,
       length-set l.seats l.i c.seat_if.result ∙ l.invariant.2,
     )
-
-pub returns : goal.returns
-returns c =
-    let l = c.loop-i in
-    let e : l.i ≡ c.args.own = omega (arith, c.loop-i-test.false, l.invariant.0) in
-    rw e at l.invariant.1

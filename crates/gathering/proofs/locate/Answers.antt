@@ -1,6 +1,6 @@
 -- `gathering::locate` meets its contract: the first i own keys have their seats, and the next one is at the place or past it.
 use Prim.Native.Nat.{ℕ, ◌<◌}
-use mathlib.Core.Path.{◌≡◌, refl, ◌∙◌}
+use mathlib.Core.Path.{refl, ◌∙◌}
 use native.Mathlib.Omega.{arith}
 use lib.ListN.{take, length-set}
 use Rattle.gathering.specs.Gathering.{seat_of}
@@ -19,14 +19,6 @@ loop-i-init c = (
       c.requires.own_in_bounds.0 c.requires.own_in_bounds.2 c.requires.count_in_bounds.2 some),
 )
 
-pub place_past-place-requires : goal.place_past-place-requires
-place_past-place-requires c =
-    let l = c.loop-i in
-    record {
-      count_in_bounds = (c.requires.count_in_bounds.0, c.requires.count_in_bounds.2);
-      start_bound = l.invariant.3 c.loop-i-test.true;
-    }
-
 pub loop-i-preserved : goal.loop-i-preserved
 loop-i-preserved c =
     let l = c.loop-i in
@@ -38,9 +30,3 @@ loop-i-preserved c =
       next_start (take c.args.count c.args.keys.now) c.args.own_keys.now c.args.own c.requires.own_in_bounds.0 c.requires.own_in_bounds.2 l.i _
           c.place_past-place.ensures,
     )
-
-pub returns : goal.returns
-returns c =
-    let l = c.loop-i in
-    let e : l.i ≡ c.args.own = omega (arith, c.loop-i-test.false, l.invariant.0) in
-    rw e at l.invariant.1

@@ -28,8 +28,5 @@ pub returns-then-keys-place : goal.returns-then-keys-place
 returns-then-keys-place c =
     seat_before c.args.key c.args.keys.now c.args.count c.args.place c.requires.0 c.requires.2 c.if-count-place.false c.if-keys-place.true
 
-pub overflow_add-result : goal.overflow_add-result
-overflow_add-result c = omega (arith, in_place c.args.key c.args.keys.now c.args.count c.args.place c.requires.0 c.requires.1 c.requires.2)
-
 pub returns : goal.returns
 returns c = seat_over c.args.key c.args.keys.now c.args.count c.args.place c.requires.0 c.requires.2 c.if-count-place.false c.if-keys-place.false

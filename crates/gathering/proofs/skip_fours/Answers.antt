@@ -26,10 +26,3 @@ loop-place-preserved c =
     goes c.args.key c.args.keys.now c.args.count c.requires.count_in_bounds.0 c.requires.count_in_bounds.1
     (l.place + 3) more (omega (arith, c.if-key-keys.false)) in
     (omega (arith, more), omega (arith, past))
-
-pub returns : goal.returns
-returns c =
-    record {
-      upper_bound = c.loop-place.invariant;
-      keys_bound = λ some. absurd (omega (arith, some, c.loop-place-test.false));
-    }

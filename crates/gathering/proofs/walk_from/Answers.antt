@@ -18,4 +18,5 @@ loop-place-preserved c =
 
 pub returns : goal.returns
 returns c =
-    ends c.args.key c.args.keys.now c.args.count c.requires.count_in_bounds.0 c.requires.count_in_bounds.1 _ c.loop-place-test.false c.loop-place.invariant
+    ends c.args.key c.args.keys.now c.args.count c.requires.count_in_bounds.0 c.requires.count_in_bounds.1 c.args.count (omega arith)
+    (omega (arith, c.loop-place-test.false, c.loop-place.invariant))

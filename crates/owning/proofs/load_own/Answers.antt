@@ -18,8 +18,8 @@ locate-requires c =
       own_in_bounds = (o.0, c.requires.keys_value.1, c.requires.keys_value.2);
     }
 
-pub load_f32-requires : goal.load_f32-requires
-load_f32-requires c =
+pub load-requires : goal.load-requires
+load-requires c =
     let s = c.args in
     let f = lengths_known (length s.rows.now.keys.now) (length s.rows.now.distances.now) (length s.rows.now.weights.now) s.rows.now.count c.requires.count_value in
     let o = lengths_known (length s.own_keys.now) (length s.own_distances.now) (length s.own_weights.now) s.own c.requires.own_value in
@@ -30,8 +30,8 @@ load_f32-requires c =
           (omega (arith, f, length-take-le s.rows.now.count s.rows.now.keys.now f.0));
     }
 
-pub load_f32-requires-2 : goal.load_f32-requires-2
-load_f32-requires-2 c =
+pub load-requires-2 : goal.load-requires-2
+load-requires-2 c =
     let s = c.args in
     let f = lengths_known (length s.rows.now.keys.now) (length s.rows.now.distances.now) (length s.rows.now.weights.now) s.rows.now.count c.requires.count_value in
     let o = lengths_known (length s.own_keys.now) (length s.own_distances.now) (length s.own_weights.now) s.own c.requires.own_value in
@@ -42,15 +42,15 @@ load_f32-requires-2 c =
           (omega (arith, f, length-take-le s.rows.now.count s.rows.now.keys.now f.0));
     }
 
-pub float_from_bits-load_f32 : goal.float_from_bits-load_f32
+pub float_from_bits-load : goal.float_from_bits-load
 unfolding nan_bits
-float_from_bits-load_f32 c = tt
+float_from_bits-load c = tt
 
 pub returns : goal.returns
 unfolding of_bits
 returns c =
     record {
       seats = c.locate.ensures;
-      distances = c.load_f32.ensures;
-      weights = c.load_f32-2.ensures;
+      distances = c.load.ensures;
+      weights = c.load-2.ensures;
     }
