@@ -14,6 +14,11 @@ abbrev pub count_of : Result ℕ Refusal → ℕ
 count_of (Ok n) = n
 count_of (Err why) = 0
 
+-- n where an answer is no refusal, 0 where it is
+abbrev pub kept_of : {B : Type 0} → Result B Refusal → ℕ → ℕ
+kept_of (Ok found) n = n
+kept_of (Err why) n = 0
+
 -- what a list of a given room then holds: what was found and then v, or v throughout where it is refused
 unfoldable pub held_for : {A : Type 0} → A → Result ℕ Refusal → ℕ → List A → List A
 held_for v (Ok n) room found = padded v room found

@@ -1,9 +1,9 @@
 // Lists of places that a caller lends: cleared, a value put in, the first one dropped, whatever the element type.
 #![tactic(auto)]
 
-ghost use Rattle.std.specs.Prelude.{◌≡◌};
+ghost use Rattle.std.specs.Prelude.{◌≡◌, set};
 ghost use Rattle.lists.specs.Places.{filled, cleared_from, inserted, first_dropped};
-ghost use Rattle.lists.specs.Listing.{room_for, count_of};
+ghost use Rattle.lists.specs.Listing.{room_for, count_of, kept_of};
 
 use refusals::Refusal;
 
@@ -31,6 +31,13 @@ pub fn count_of(listed: Result<usize, Refusal>) -> usize
     }
 }
 
+// How many of `n` places are kept: none where the answer refuses.
+pub fn kept<T: Copy>(answer: Result<T, Refusal>, n: usize) -> usize
+    ensures { result ≡ kept_of answer n }
+{
+    if answer.is_ok() { n } else { 0 }
+}
+
 // The places from `n` on become `value`: by a loop, since `fill` asks that a clone can't fail, which `T: Copy` doesn't say.
 pub fn clear_from<T: Copy>(list: &mut [T], n: usize, value: T)
     ensures { list.new ≡ cleared_from value n list.old }
@@ -47,6 +54,15 @@ pub fn clear<T: Copy>(list: &mut [T], value: T)
     ensures { list.new ≡ filled value list.old }
 {
     clear_from(list, 0, value);
+}
+
+// `value` at a place of a list; nothing where it has no such place.
+pub fn put<T: Copy>(list: &mut [T], at: usize, value: T)
+    ensures { list.new ≡ set list.old at value }
+{
+    if at < list.len() {
+        list[at] = value;
+    }
 }
 
 // `value` at `place` of the first `count`; those from `place` on move one place up. Nothing changes
