@@ -6,8 +6,7 @@ use mathlib.Core.List.{List}
 use Prim.Native.Nat.{ℕ}
 use lib.Ieee.{Float}
 use Rattle.table.specs.Table.{table}
-use Rattle.batching.specs.declared.Batched.{Batched}
-use Rattle.batching.specs.Batches.{BatchOutcome, batch_outcome}
+use Rattle.batching.specs.Batches.{Batched, BatchOutcome, batch_outcome}
 use Rattle.batches.proofs.batch_update.Reads as batch_update
 
 batch_parts :

@@ -3,16 +3,20 @@
 
 ghost use Rattle.std.specs.Prelude.{◌≡◌, ◌+◌, ◌-◌, ◌<◌, ◌≤◌, length, Ok};
 ghost use Rattle.table.specs.Table.{table, table_check};
-ghost use Rattle.batching.specs.Batches.{batch_outcome, batch_end, readings_taken, entries, batch_from, counts, batch};
+ghost use Rattle.batching.specs.Batches.{batch_outcome, batch_end, readings_taken, batch_from, counts, batch};
+ghost use Rattle.batching.specs.Read.{entries_in, OneLength};
 ghost use Rattle.batching.specs.Steps.{far_up_to};
 ghost use Rattle.owning.specs.Runs.{RunTo};
 
-use batching::{Batched, Counts, Ending, batched_of, readings_taken};
+use batching::{Batched, Counts, Ending, Readings, RefusedReading, batched_of, readings_taken};
 use floats::Metres;
 use fusing::{Step, fuse_sound};
 use measuring::Reading;
 use owning::{Run, batch_run};
 use table::{Rows, Settings, check_with, lengths_ok};
+
+// Fewer readings than these are fused one by one.
+const MANY: usize = 16;
 
 // How the readings of a batch ended, and how many of those that were taken were far.
 #[derive(Clone, Copy)]
@@ -28,32 +32,35 @@ fn batch_one(
     distances: &mut [f32],
     weights: &mut [f32],
     count: &mut usize,
-    batch_keys: &[u64],
-    batch_distances: &[f32],
-    batch_confidences: &[f32],
+    readings: &Readings,
     from: usize,
 ) -> Run
     requires count_value { table_check settings (table keys.old distances.old weights.old count.old) ≡ (Ok tt) }
-    requires from_in_bounds { from < length batch_keys.now }
-    requires batch_distances_len { (length batch_distances.now ≡ length batch_keys.now) × (length batch_confidences.now ≡ length batch_keys.now) }
+    requires from_in_bounds { from < length readings.now.keys.now }
+    requires batch_distances_len { OneLength readings.now }
     ensures { RunTo settings
         (table keys.old distances.old weights.old count.old)
-        (entries batch_keys.now batch_distances.now batch_confidences.now) from
+        (entries_in readings.now) from
         (from + 1) result (table keys.new distances.new weights.new count.new) }
 {
-    let key = batch_keys[from];
-    let distance = batch_distances[from];
-    let confidence = batch_confidences[from];
+    let key = readings.keys[from];
     let reading = Reading::Direct {
-        distance: Metres(distance),
-        confidence,
+        distance: Metres(readings.distances[from]),
+        confidence: readings.confidences[from],
     };
-    let step = fuse_sound(settings, keys, distances, weights, count, key, reading);
-    match step {
-        Err(why) => Run::Refused(why, from, 0),
-        Ok(Step::Far) => Run::Reached(from + 1, 1),
-        Ok(Step::Added(_)) => Run::Reached(from + 1, 0),
-        Ok(Step::Changed(_)) => Run::Reached(from + 1, 0),
+    match fuse_sound(settings, keys, distances, weights, count, key, reading) {
+        Err(why) => Run {
+            end: Err(RefusedReading { why, at: from }),
+            far: 0,
+        },
+        Ok(Step::Far) => Run {
+            end: Ok(from + 1),
+            far: 1,
+        },
+        Ok(_) => Run {
+            end: Ok(from + 1),
+            far: 0,
+        },
     }
 }
 
@@ -64,64 +71,24 @@ fn batch_step(
     distances: &mut [f32],
     weights: &mut [f32],
     count: &mut usize,
-    batch_keys: &[u64],
-    batch_distances: &[f32],
-    batch_confidences: &[f32],
+    readings: &Readings,
     from: usize,
 ) -> Run
     requires count_value { table_check settings (table keys.old distances.old weights.old count.old) ≡ (Ok tt) }
-    requires from_in_bounds { from < length batch_keys.now }
-    requires batch_distances_len { (length batch_distances.now ≡ length batch_keys.now) × (length batch_confidences.now ≡ length batch_keys.now) }
+    requires from_in_bounds { from < length readings.now.keys.now }
+    requires batch_distances_len { OneLength readings.now }
     ensures { RunTo settings
         (table keys.old distances.old weights.old count.old)
-        (entries batch_keys.now batch_distances.now batch_confidences.now) from
+        (entries_in readings.now) from
         (from + 1) result (table keys.new distances.new weights.new count.new) }
 {
-    if batch_keys.len() - from < 16 {
-        return batch_one(
-            settings,
-            keys,
-            distances,
-            weights,
-            count,
-            batch_keys,
-            batch_distances,
-            batch_confidences,
-            from,
-        );
-    }
-    let run = batch_run(
-        settings,
-        keys,
-        distances,
-        weights,
-        count,
-        batch_keys,
-        batch_distances,
-        batch_confidences,
-        from,
-    );
-    match run {
-        Run::Refused(why, at, far) => {
-            return Run::Refused(why, at, far);
-        }
-        Run::Reached(reached, far) => {
-            if from < reached {
-                return Run::Reached(reached, far);
-            }
-            return batch_one(
-                settings,
-                keys,
-                distances,
-                weights,
-                count,
-                batch_keys,
-                batch_distances,
-                batch_confidences,
-                from,
-            );
+    if readings.keys.len() - from >= MANY {
+        let run = batch_run(settings, keys, distances, weights, count, readings, from);
+        if run.end != Ok(from) {
+            return run;
         }
     }
+    batch_one(settings, keys, distances, weights, count, readings, from)
 }
 
 // The readings in order, into a table that passed the check.
@@ -131,49 +98,37 @@ fn batch_sound(
     distances: &mut [f32],
     weights: &mut [f32],
     count: &mut usize,
-    batch_keys: &[u64],
-    batch_distances: &[f32],
-    batch_confidences: &[f32],
+    readings: &Readings,
 ) -> Went
     requires count_value { table_check settings (table keys.old distances.old weights.old count.old) ≡ (Ok tt) }
-    requires batch_distances_len { (length batch_distances.now ≡ length batch_keys.now) × (length batch_confidences.now ≡ length batch_keys.now) }
+    requires batch_distances_len { OneLength readings.now }
     ensures count_after { batch_end result.ending (table keys.new distances.new weights.new count.new)
         ≡ batch_from settings 0
         (table keys.old distances.old weights.old count.old)
-        (entries batch_keys.now batch_distances.now batch_confidences.now) }
+        (entries_in readings.now) }
     ensures far_value { result.far ≡ far_up_to settings
-        (entries batch_keys.now batch_distances.now batch_confidences.now)
-        (readings_taken result.ending (length batch_keys.now)) }
+        (entries_in readings.now)
+        (readings_taken result.ending (length readings.now.keys.now)) }
 {
     let mut far = 0;
     let mut i = 0;
-    while i < batch_keys.len() {
-        let run = batch_step(
-            settings,
-            keys,
-            distances,
-            weights,
-            count,
-            batch_keys,
-            batch_distances,
-            batch_confidences,
-            i,
-        );
-        match run {
-            Run::Refused(why, at, more) => {
+    while i < readings.keys.len() {
+        let run = batch_step(settings, keys, distances, weights, count, readings, i);
+        far += run.far;
+        match run.end {
+            Err(refused) => {
                 return Went {
-                    ending: Ending::Refused(why, at),
-                    far: far + more,
+                    ending: Err(refused),
+                    far,
                 };
             }
-            Run::Reached(reached, more) => {
-                far += more;
+            Ok(reached) => {
                 i = reached;
             }
         }
     }
     Went {
-        ending: Ending::Taken,
+        ending: Ok(()),
         far,
     }
 }
@@ -198,48 +153,33 @@ pub fn batch_update(
     distances: &mut [f32],
     weights: &mut [f32],
     count: &mut usize,
-    batch_keys: &[u64],
-    batch_distances: &[f32],
-    batch_confidences: &[f32],
+    readings: &Readings,
 ) -> Batched
     ensures { batch_outcome result (table keys.new distances.new weights.new count.new)
         ≡ batch settings
         (table keys.old distances.old weights.old count.old)
-        batch_keys.now batch_distances.now batch_confidences.now }
+        readings.now.keys.now readings.now.distances.now readings.now.confidences.now }
 {
+    let many = readings.keys.len();
     let fits = lengths_ok(
-        batch_keys.len(),
-        batch_distances.len(),
-        batch_confidences.len(),
+        many,
+        readings.distances.len(),
+        readings.confidences.len(),
         0,
     );
-    match check_with(
+    let before = *count;
+    check_with(
         fits,
         settings,
         &Rows {
             keys,
             distances,
             weights,
-            count: *count,
+            count: before,
         },
-    ) {
-        Err(why) => Batched::Refused(why, 0, counts_of(0, 0, 0, 0)),
-        Ok(()) => {
-            let before = *count;
-            let went = batch_sound(
-                settings,
-                keys,
-                distances,
-                weights,
-                count,
-                batch_keys,
-                batch_distances,
-                batch_confidences,
-            );
-            let ending = went.ending;
-            let taken = readings_taken(ending, batch_keys.len());
-            let counts = counts_of(before, *count, taken, went.far);
-            batched_of(ending, counts)
-        }
-    }
+    )?;
+    let went = batch_sound(settings, keys, distances, weights, count, readings);
+    let taken = readings_taken(went.ending, many);
+    let counts = counts_of(before, *count, taken, went.far);
+    batched_of(went.ending, counts)
 }

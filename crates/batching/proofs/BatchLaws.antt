@@ -20,10 +20,10 @@ use Rattle.table.proofs.RowLaws.{lengths_known}
 use Rattle.table.proofs.Checking.{with_fit, with_passed}
 use Rattle.fusing.specs.declared.Fused.{Fused}
 use Rattle.batching.specs.declared.Counts.{Counts}
-use Rattle.batching.specs.declared.Batched.{Batched}
-use Rattle.batching.specs.declared.Ending.{Ending}
+use Rattle.batching.specs.declared.RefusedReading.{RefusedReading}
+use Rattle.batching.specs.declared.RefusedBatch.{RefusedBatch}
 use Rattle.fusing.specs.Fusing.{Outcome, fuse_if, effect_of, fuse}
-use Rattle.batching.specs.Batches.{BatchOutcome, batch_outcome, BatchEnd, batch_end, readings_taken, batched_of, answer_of, Entry, entry, entries, direct_of, stop_or, batch_from, ahead_of, answers_from, counts, counts_of, batch_if, batch_check, batch, batched_counts}
+use Rattle.batching.specs.Batches.{Ending, Batched, refused_reading, refused_batch, refused_at_once, BatchOutcome, batch_outcome, BatchEnd, batch_end, readings_taken, batched_of, answer_of, Entry, entry, entries, direct_of, stop_or, batch_from, ahead_of, answers_from, counts_of, batch_if, batch_check, batch, batched_counts}
 use Rattle.fusing.proofs.Keeping.{fuse_keeps}
 use Rattle.fusing.proofs.FuseLaws.{refused_unchanged}
 use Rattle.batching.proofs.CountLaws.{together, counts_append, counts_taken, rows_added}
@@ -41,7 +41,7 @@ fits a b c p q h = rw (eq-eqb a b (sym p), eq-eqb a c (sym q), le-leb a 65536 h,
 
 -- a fuse's outcome as that of a batch of one
 abbrev pub as_batch : Outcome → BatchOutcome
-as_batch o = answer_of (stop_or o.answer 0 o.left (batch_end Ending.Taken o.left)) (counts_of (ahead_of o.answer []))
+as_batch o = answer_of (stop_or o.answer 0 o.left (batch_end (Ok tt) o.left)) (counts_of (ahead_of o.answer []))
 
 pub batch_of_one : (s : Settings) (t : Table) (k : ℕ) (d c : Float) → batch s t (k ∷ []) (d ∷ []) (c ∷ []) ≡ as_batch (fuse s t k (direct_of (entry k d c)))
 unfolding batch batch_if batch_from answers_from beside_by fuse effect_of fuse_if stop_or ahead_of counts_of
@@ -56,13 +56,13 @@ batch_of_one s t k d c =
 
 -- where the first part went through, the second follows, with its counts; where it was refused, that stands
 unfoldable pub followed_by : Batched → Table → (Counts → Table → BatchOutcome) → BatchOutcome
-followed_by (Batched.Done n) t next = next n t
-followed_by (Batched.Refused why i n) t next = batch_outcome (Batched.Refused why i n) t
+followed_by (Ok n) t next = next n t
+followed_by (Err refused) t next = batch_outcome (Err refused) t
 
 -- an outcome whose readings are counted from m, after others that have the counts n
 unfoldable pub counted : ℕ → Counts → Batched → Batched
-counted m n (Batched.Done k) = Batched.Done (together n k)
-counted m n (Batched.Refused why i k) = Batched.Refused why (m + i) (together n k)
+counted m n (Ok k) = Ok (together n k)
+counted m n (Err refused) = Err (refused_batch refused.why (m + refused.at) (together n refused.counts))
 
 abbrev pub counted_from : ℕ → Counts → BatchOutcome → BatchOutcome
 counted_from m n o = batch_outcome (counted m n o.answer) o.left
@@ -90,8 +90,8 @@ from_counted s m i n k t (r ∷ rs) =
 -- a first part that ends so and leaves u: where it went through, the whole is the second part, and the answers are those of both; where it was
 -- refused, the whole is the first part
 unfoldable Joins : Ending → Table → BatchEnd → BatchEnd → List (Result Fused Refusal) → List (Result Fused Refusal) → List (Result Fused Refusal) → Type 0
-Joins Ending.Taken u whole second xs ys zs = (whole ≡ second) × (xs ≡ ys ++ zs)
-Joins (Ending.Refused why i) u whole second xs ys zs = (whole ≡ batch_end (Ending.Refused why i) u) × (xs ≡ ys)
+Joins (Ok tt) u whole second xs ys zs = (whole ≡ second) × (xs ≡ ys ++ zs)
+Joins (Err refused) u whole second xs ys zs = (whole ≡ batch_end (Err refused) u) × (xs ≡ ys)
 
 -- the whole, its first part, and readings from the j-th on as the second; the answers of the whole and of the first part
 abbrev PartJoins : Settings → ℕ → List Entry → BatchEnd → BatchEnd → List (Result Fused Refusal) → List (Result Fused Refusal) → Type 0
@@ -103,8 +103,8 @@ joins_more :
     → Joins e u whole second xs ys zs
     → Joins e u whole second (a ∷ xs) (a ∷ ys) zs
 unfolding Joins
-joins_more a Ending.Taken u whole second xs ys zs h = (h.0, ap {B = List (Result Fused Refusal)} (λ l. a ∷ l) h.1)
-joins_more a (Ending.Refused why i) u whole second xs ys zs h = (h.0, ap {B = List (Result Fused Refusal)} (λ l. a ∷ l) h.1)
+joins_more a (Ok tt) u whole second xs ys zs h = (h.0, ap {B = List (Result Fused Refusal)} (λ l. a ∷ l) h.1)
+joins_more a (Err refused) u whole second xs ys zs h = (h.0, ap {B = List (Result Fused Refusal)} (λ l. a ∷ l) h.1)
 
 -- readings in two parts, the first of them the i-th
 abbrev InTwo : Settings → ℕ → Table → List Entry → List Entry → Type 0
@@ -142,8 +142,8 @@ joined_answer :
     → Joins e u whole (second u) xs ys (zs u)
     → answer_of whole (counts_of xs) ≡ followed_by (batched_of e (counts_of ys)) u (λ n v. answer_of (second v) (together n (counts_of (zs v))))
 unfolding Joins followed_by
-joined_answer Ending.Taken u whole second xs ys zs h = rw (h.0, h.1) (ap (answer_of (second u)) (counts_append ys (zs u)))
-joined_answer (Ending.Refused why i) u whole second xs ys zs h = rw (h.0, h.1)
+joined_answer (Ok tt) u whole second xs ys zs h = rw (h.0, h.1) (ap (answer_of (second u)) (counts_append ys (zs u)))
+joined_answer (Err refused) u whole second xs ys zs h = rw (h.0, h.1)
 
 from_splits :
     (s : Settings) (i : ℕ) (t : Table) (rs qs : List Entry)
@@ -188,8 +188,8 @@ followed_same :
     → ((n : Counts) → f n u ≡ g n u)
     → followed_by a u f ≡ followed_by a u g
 unfolding followed_by
-followed_same (Batched.Done n) u f g h = h n
-followed_same (Batched.Refused why i n) u f g h = refl
+followed_same (Ok n) u f g h = h n
+followed_same (Err refused) u f g h = refl
 
 -- a batch splits anywhere: the second part goes on from the table and the counts of the first
 pub batch_splits :
@@ -255,15 +255,15 @@ batch_splits s t ks ks' ds ds' cs cs' p q p' q' h =
 
 -- the counts of an answer to m readings add up
 unfoldable Adds : ℕ → Batched → Type 0
-Adds m (Batched.Done n) = n.added + n.changed + n.far ≡ m
-Adds m (Batched.Refused why i n) = n.added + n.changed + n.far ≡ i
+Adds m (Ok n) = n.added + n.changed + n.far ≡ m
+Adds m (Err refused) = refused.counts.added + refused.counts.changed + refused.counts.far ≡ refused.at
 
 module _ (s : Settings) (t : Table) (ks : List ℕ) (ds cs : List Float) where
   abbrev tests : Result (Unit {0}) Refusal
   tests = batch_check s t (length ks) (length ds) (length cs)
 
   -- refused by its tests, a batch leaves the table and has counted none
-  pub tested_out : (why : Refusal) → tests ≡ Err why → batch s t ks ds cs ≡ batch_outcome (Batched.Refused why 0 (counts 0 0 0)) t
+  pub tested_out : (why : Refusal) → tests ≡ Err why → batch s t ks ds cs ≡ batch_outcome (Err (refused_at_once why)) t
   unfolding batch batch_if
   tested_out why e = rw e
 
@@ -278,8 +278,8 @@ module _ (s : Settings) (t : Table) (ks : List ℕ) (ds cs : List Float) where
   batch_counts e = rw e (told (batch_from s 0 t (entries ks ds cs)).ending)
     where
       told : (e : Ending) {n : Counts} → batched_counts (batched_of e n) ≡ n
-      told Ending.Taken = refl
-      told (Ending.Refused why i) = refl
+      told (Ok tt) = refl
+      told (Err refused) = refl
 
   -- the rows that there are more are those that were added
   pub batch_rows : (batch s t ks ds cs).left.count ≡ t.count + (batched_counts (batch s t ks ds cs).answer).added
@@ -294,8 +294,8 @@ module _ (s : Settings) (t : Table) (ks : List ℕ) (ds cs : List Float) where
   add_up = go tests refl
     where
       counted_out : (e : Ending) (n : Counts) → n.added + n.changed + n.far ≡ readings_taken e (length ks) → Adds (length ks) (batched_of e n)
-      counted_out Ending.Taken n h = h
-      counted_out (Ending.Refused why i) n h = h
+      counted_out (Ok tt) n h = h
+      counted_out (Err refused) n h = h
 
       go : (q : Result (Unit {0}) Refusal) → tests ≡ q → Adds (length ks) (batch_if q s t (entries ks ds cs)).answer
       go (Err why) e = refl
@@ -306,14 +306,14 @@ module _ (s : Settings) (t : Table) (ks : List ℕ) (ds cs : List Float) where
           (rw (zero-add, zero-add, by_length entry ks ds cs k.1 k.2) at (counts_taken s 0 t (entries ks ds cs)))
 
   -- of a batch that is done, the three counts are its readings
-  pub done_counts : (n : Counts) → (batch s t ks ds cs).answer ≡ Batched.Done n → n.added + n.changed + n.far ≡ length ks
+  pub done_counts : (n : Counts) → (batch s t ks ds cs).answer ≡ Ok n → n.added + n.changed + n.far ≡ length ks
   unfolding Adds
   done_counts n e = subst (Adds (length ks)) e add_up
 
   -- of a refused one, they are the number of the refused reading
   pub refused_counts :
       (why : Refusal) (i : ℕ) (n : Counts)
-      → (batch s t ks ds cs).answer ≡ Batched.Refused why i n
+      → (batch s t ks ds cs).answer ≡ Err (refused_batch why i n)
       → n.added + n.changed + n.far ≡ i
   unfolding Adds
   refused_counts why i n e = subst (Adds (length ks)) e add_up
@@ -325,10 +325,10 @@ pub record Stands (s : Settings) (j : ℕ) (t : Table) (rs : List Entry) (i : �
   pub earlier : ℕ
   pub named : i ≡ j + earlier
   pub inside : earlier < length rs
-  pub same : batch_from s j t (take earlier rs) ≡ batch_end Ending.Taken (batch_from s j t rs).left
+  pub same : batch_from s j t (take earlier rs) ≡ batch_end (Ok tt) (batch_from s j t rs).left
   pub same_answers : answers_from s t (take earlier rs) ≡ answers_from s t rs
 
-stands : (s : Settings) (j : ℕ) (t : Table) (rs : List Entry) (why : Refusal) (i : ℕ) → (batch_from s j t rs).ending ≡ Ending.Refused why i → Stands s j t rs i
+stands : (s : Settings) (j : ℕ) (t : Table) (rs : List Entry) (why : Refusal) (i : ℕ) → (batch_from s j t rs).ending ≡ Err (refused_reading why i) → Stands s j t rs i
 unfolding batch_from stop_or answers_from ahead_of
 stands s j t [] why i e = let z : ◌≡◌ {A = ℕ} 0 1 = cc in absurd (omega arith)
 stands s j t (r ∷ rs) why i e = go (fuse s t r.key (direct_of r)).answer refl e (λ q. stands s (suc j) (fuse s t r.key (direct_of r)).left rs why i q)
@@ -353,17 +353,18 @@ stands s j t (r ∷ rs) why i e = go (fuse s t r.key (direct_of r)).answer refl 
     go :
         (a : Result Fused Refusal)
         → (fuse s t r.key (direct_of r)).answer ≡ a
-        → (stop_or a j (fuse s t r.key (direct_of r)).left (batch_from s (suc j) (fuse s t r.key (direct_of r)).left rs)).ending ≡ Ending.Refused why i
-        → ((batch_from s (suc j) (fuse s t r.key (direct_of r)).left rs).ending ≡ Ending.Refused why i
+        → (stop_or a j (fuse s t r.key (direct_of r)).left (batch_from s (suc j) (fuse s t r.key (direct_of r)).left rs)).ending ≡ Err (refused_reading why i)
+        → ((batch_from s (suc j) (fuse s t r.key (direct_of r)).left rs).ending ≡ Err (refused_reading why i)
         → Stands s (suc j) (fuse s t r.key (direct_of r)).left rs i)
         → Stands s j t (r ∷ rs) i
     go (Err w) q f next =
-        let n : j ≡ i = cc in
+        let e : refused_reading w j ≡ refused_reading why i = cc in
+        let n : j ≡ i = ap (λ (x : RefusedReading). x.at) e in
         record {
           earlier = 0;
           named = rw add-zero (sym n);
           inside = suc-le-suc zero-le;
-          same = rw q (ap (batch_end Ending.Taken) (sym (refused_unchanged s t r.key (direct_of r) w q)));
+          same = rw q (ap (batch_end (Ok tt)) (sym (refused_unchanged s t r.key (direct_of r) w q)));
           same_answers = rw q;
         }
     go (Ok Fused.Far) q f next = later (Ok Fused.Far) q (λ b. refl) (λ xs. refl) (next f)
@@ -371,15 +372,17 @@ stands s j t (r ∷ rs) why i e = go (fuse s t r.key (direct_of r)).answer refl 
     go (Ok Fused.Changed) q f next = later (Ok Fused.Changed) q (λ b. refl) (λ xs. refl) (next f)
 
 -- an answer tells its ending
-told : (e : Ending) (m : Counts) {n : Counts} {why : Refusal} {i : ℕ} → batched_of e m ≡ Batched.Refused why i n → e ≡ Ending.Refused why i
-told Ending.Taken m q = let z : ◌≡◌ {A = ℕ} 0 1 = cc in absurd (omega arith)
-told (Ending.Refused why i) m q = cc
+told : (e : Ending) (m : Counts) {n : Counts} {why : Refusal} {i : ℕ} → batched_of e m ≡ Err (refused_batch why i n) → e ≡ Err (refused_reading why i)
+told (Ok tt) m q = let z : ◌≡◌ {A = ℕ} 0 1 = cc in absurd (omega arith)
+told (Err refused) m {n} {why} {i} q =
+    let e : refused_batch refused.why refused.at m ≡ refused_batch why i n = cc in
+    rw (← ap (λ (x : RefusedBatch). x.why) e, ← ap (λ (x : RefusedBatch). x.at) e)
 
 -- the readings before the refused one stand, and nothing else changed
 pub earlier_stand :
     (s : Settings) (t : Table) (ks : List ℕ) (ds cs : List Float) (why : Refusal) (i : ℕ) (n : Counts)
     → batch_check s t (length ks) (length ds) (length cs) ≡ (Ok tt)
-    → (batch s t ks ds cs).answer ≡ Batched.Refused why i n
+    → (batch s t ks ds cs).answer ≡ Err (refused_batch why i n)
     → Stands s 0 t (entries ks ds cs) i
 unfolding batch batch_if
 earlier_stand s t ks ds cs why i n p e = stands s 0 t (entries ks ds cs) why i (told (batch_from s 0 t (entries ks ds cs)).ending _ (rw p at e))

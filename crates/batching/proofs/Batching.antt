@@ -14,10 +14,9 @@ use Rattle.refusals.specs.declared.Refusal.{Refusal}
 use Rattle.table.specs.declared.Settings.{Settings}
 use Rattle.table.specs.Table.{Table, table_check}
 use Rattle.fusing.specs.declared.Step.{Step}
-use Rattle.batching.specs.declared.Ending.TheVariants as Ending
-use Rattle.fusing.specs.Fusing.{Effect, effect, effect_of, fused_of, fuse}
+use Rattle.fusing.specs.Fusing.{Effect, effect, effect_of, kind_of, fused_of, fuse}
 use Rattle.fusing.specs.Steps.{answers_far}
-use Rattle.batching.specs.Batches.{BatchEnd, batch_end, entry, entries, direct_of, stop_or, batch_from}
+use Rattle.batching.specs.Batches.{refused_reading, BatchEnd, batch_end, entry, entries, direct_of, stop_or, batch_from}
 use Rattle.batching.specs.Steps.{is_far, far_up_to}
 use Rattle.fusing.proofs.Keeping.{fuse_keeps}
 use Rattle.fusing.proofs.FuseLaws.{far_exactly}
@@ -40,7 +39,7 @@ module _ (s : Settings) (t : Table) (ks : List ℕ) (ds cs : List Float) (i : �
   from j u = batch_from s j u (drop j (entries ks ds cs))
 
   -- no reading is left
-  pub ended : length ks ≤ i → from i t ≡ batch_end Ending.Taken t
+  pub ended : length ks ≤ i → from i t ≡ batch_end (Ok tt) t
   unfolding batch_from
   ended h = rw (entries_past ks ds cs i h)
 
@@ -51,21 +50,19 @@ module _ (s : Settings) (t : Table) (ks : List ℕ) (ds cs : List Float) (i : �
     unfolding batch_from fuse
     one = rw (entry_at ks ds cs i p q h, ← e, add-one)
 
-    pub stops : (why : Refusal) → step ≡ Err why → from i t ≡ batch_end (Ending.Refused why i) u
+    pub stops : (why : Refusal) → step ≡ Err why → from i t ≡ batch_end (Err (refused_reading why i)) u
     unfolding stop_or
     stops why f = one ∙ rw f
 
-    pub goes_on_far : step ≡ (Ok Step.Far) → from i t ≡ from (i + 1) u
+    -- one that is not refused goes on
+    pub goes_on : (x : Step) → step ≡ Ok x → from i t ≡ from (i + 1) u
     unfolding stop_or
-    goes_on_far f = one ∙ rw f
-
-    pub goes_on_added : (at : ℕ) → step ≡ Ok (Step.Added at) → from i t ≡ from (i + 1) u
-    unfolding stop_or
-    goes_on_added at f = one ∙ rw f
-
-    pub goes_on_changed : (at : ℕ) → step ≡ Ok (Step.Changed at) → from i t ≡ from (i + 1) u
-    unfolding stop_or
-    goes_on_changed at f = one ∙ rw f
+    goes_on x f = one ∙ rw f (lets x)
+      where
+        lets : (y : Step) → stop_or (Ok (kind_of y)) i u (from (i + 1) u) ≡ from (i + 1) u
+        lets Step.Far = refl
+        lets (Step.Added at) = refl
+        lets (Step.Changed at) = refl
 
     -- what it did tells whether it is far
     tells_far : table_check s t ≡ (Ok tt) → answers_far (fused_of step) ≡ is_far s (entry (get_or ks i 0) (get_or ds i nan) (get_or cs i nan))
@@ -80,9 +77,18 @@ module _ (s : Settings) (t : Table) (ks : List ℕ) (ds cs : List Float) (i : �
 
     pub near_here :
         table_check s t ≡ (Ok tt)
-        → answers_far (fused_of step) ≡ false
+        → (x : Step)
+        → step ≡ Ok x
+        → (x ≡ Step.Far → ⊥)
         → far_up_to s (entries ks ds cs) (i + 1) ≡ far_up_to s (entries ks ds cs) i + 0
-    near_here c f = near_passed s (entries ks ds cs) i _ (entry_at ks ds cs i p q h) (sym (tells_far c) ∙ f) ∙ sym (add-zero _)
+    unfolding answers_far
+    near_here c x f not_far =
+        near_passed s (entries ks ds cs) i _ (entry_at ks ds cs i p q h) (sym (tells_far c) ∙ rw f (near x not_far)) ∙ sym (add-zero _)
+      where
+        near : (y : Step) → (y ≡ Step.Far → ⊥) → answers_far (Ok (kind_of y)) ≡ false
+        near Step.Far n = absurd (n refl)
+        near (Step.Added at) n = refl
+        near (Step.Changed at) n = refl
 
     -- the table passes the check again
     pub passes_again : table_check s t ≡ (Ok tt) → table_check s u ≡ (Ok tt)

@@ -19,8 +19,7 @@ use Rattle.fusing.specs.Steps.{answers_far}
 use Rattle.fusing.proofs.FuseLaws.{Tells, fuse_tells, far_exactly}
 use Rattle.fusing.proofs.Keeping.{fuse_keeps}
 use Rattle.batching.specs.declared.Counts.{Counts}
-use Rattle.batching.specs.declared.Ending.{Ending}
-use Rattle.batching.specs.Batches.{BatchEnd, batch_end, readings_taken, Entry, direct_of, stop_or, batch_from, ahead_of, answers_from, counts, counting, counts_of}
+use Rattle.batching.specs.Batches.{Ending, BatchEnd, batch_end, readings_taken, Entry, direct_of, stop_or, batch_from, ahead_of, answers_from, counts, counting, counts_of}
 use Rattle.batching.specs.Steps.{is_far, far_up_to}
 use Rattle.refusals.specs.declared.Refusal.{Refusal}
 

@@ -8,10 +8,34 @@ use Rattle.measuring.specs.declared.Reading.{Reading}
 use Rattle.measuring.specs.declared.Reading.TheVariants.{Direct}
 use Rattle.fusing.specs.declared.Fused.{Fused}
 use Rattle.batching.specs.declared.Counts.{Counts}
-use Rattle.batching.specs.declared.Batched.{Batched}
-use Rattle.batching.specs.declared.Ending.{Ending}
+use Rattle.batching.specs.declared.RefusedReading.{RefusedReading}
+use Rattle.batching.specs.declared.RefusedBatch.{RefusedBatch}
 use Rattle.fusing.specs.Fusing.{fuse}
 use Rattle.refusals.specs.declared.Refusal.{Refusal}
+
+-- why a reading is refused, and which it is, counted from 0
+abbrev pub refused_reading : Refusal → ℕ → RefusedReading
+refused_reading why i = record { why = why; at = i }
+
+-- how the readings of a batch end: all are taken, or one is refused
+abbrev pub Ending : Type 0
+Ending = Result (Unit {0}) RefusedReading
+
+-- how many readings added a row, changed one, and were far
+abbrev pub counts : ℕ → ℕ → ℕ → Counts
+counts added changed far = record { added = added; changed = changed; far = far }
+
+-- why a batch is refused, the reading that is, and the counts of those before it
+abbrev pub refused_batch : Refusal → ℕ → Counts → RefusedBatch
+refused_batch why i n = record { why = why; at = i; counts = n }
+
+-- what the tests refuse names reading 0 and has counted none
+abbrev pub refused_at_once : Refusal → RefusedBatch
+refused_at_once why = refused_batch why 0 (counts 0 0 0)
+
+-- what a batch answers: the counts of its readings, or where it is refused
+abbrev pub Batched : Type 0
+Batched = Result Counts RefusedBatch
 
 -- what a batch answers, and the table that it leaves
 pub record BatchOutcome : Type 0 where
@@ -31,13 +55,13 @@ batch_end e t = record { ending = e; left = t }
 
 -- how many of n readings are taken: all, or those before the refused one
 abbrev pub readings_taken : Ending → ℕ → ℕ
-readings_taken Ending.Taken n = n
-readings_taken (Ending.Refused why i) n = i
+readings_taken (Ok tt) n = n
+readings_taken (Err refused) n = refused.at
 
 -- what is answered to an ending, with the counts of the readings that were taken
 abbrev pub batched_of : Ending → Counts → Batched
-batched_of Ending.Taken n = Batched.Done n
-batched_of (Ending.Refused why i) n = Batched.Refused why i n
+batched_of (Ok tt) n = Ok n
+batched_of (Err refused) n = Err (refused_batch refused.why refused.at n)
 
 abbrev pub answer_of : BatchEnd → Counts → BatchOutcome
 answer_of e n = batch_outcome (batched_of e.ending n) e.left
@@ -60,14 +84,14 @@ direct_of r = Direct (record { 0 = r.distance }) r.confidence
 
 -- a refusal ends the batch and names its reading
 unfoldable pub stop_or : Result Fused Refusal → ℕ → Table → BatchEnd → BatchEnd
-stop_or (Err why) i t rest = batch_end (Ending.Refused why i) t
+stop_or (Err why) i t rest = batch_end (Err (refused_reading why i)) t
 stop_or (Ok Fused.Far) i t rest = rest
 stop_or (Ok Fused.New) i t rest = rest
 stop_or (Ok Fused.Changed) i t rest = rest
 
 -- the readings in order, the first of them the i-th, each fused into what those before it left
 unfoldable pub batch_from : Settings → ℕ → Table → List Entry → BatchEnd
-batch_from s i t [] = batch_end Ending.Taken t
+batch_from s i t [] = batch_end (Ok tt) t
 batch_from s i t (r ∷ rs) =
     let o = fuse s t r.key (direct_of r) in
     stop_or o.answer i o.left (batch_from s (suc i) o.left rs)
@@ -84,10 +108,6 @@ unfoldable pub answers_from : Settings → Table → List Entry → List (Result
 answers_from s t [] = []
 answers_from s t (r ∷ rs) = let o = fuse s t r.key (direct_of r) in ahead_of o.answer (answers_from s o.left rs)
 
--- how many readings added a row, changed one, and were far
-abbrev pub counts : ℕ → ℕ → ℕ → Counts
-counts added changed far = record { added = added; changed = changed; far = far }
-
 -- New counts as added, Changed as changed, Far as far, and a refusal as none
 unfoldable pub counting : Result Fused Refusal → Counts → Counts
 counting (Ok Fused.New) n = counts (suc n.added) n.changed n.far
@@ -103,7 +123,7 @@ counts_of (a ∷ rest) = counting a (counts_of rest)
 -- what the tests refuse stays refused, names reading 0 and has counted none
 unfoldable pub batch_if : Result (Unit {0}) Refusal → Settings → Table → List Entry → BatchOutcome
 unfolding batch_from answers_from counts_of
-batch_if (Err why) s t rs = batch_outcome (Batched.Refused why 0 (counts 0 0 0)) t
+batch_if (Err why) s t rs = batch_outcome (Err (refused_at_once why)) t
 batch_if (Ok tt) s t rs = answer_of (batch_from s 0 t rs) (counts_of (answers_from s t rs))
 
 -- refusals 1, 2 and 3; the three lists of readings are equal and at most 65,536 long
@@ -117,13 +137,13 @@ batch s t ks ds cs = batch_if (batch_check s t (length ks) (length ds) (length c
 
 -- the number of an answer, 0 for done, the reading that a refusal names, and the counts
 abbrev pub batched_number : Batched → ℕ
-batched_number (Batched.Done n) = 0
-batched_number (Batched.Refused why i n) = number_of why
+batched_number (Ok n) = 0
+batched_number (Err refused) = number_of refused.why
 
 abbrev pub batched_at : Batched → ℕ
-batched_at (Batched.Done n) = 0
-batched_at (Batched.Refused why i n) = i
+batched_at (Ok n) = 0
+batched_at (Err refused) = refused.at
 
 abbrev pub batched_counts : Batched → Counts
-batched_counts (Batched.Done n) = n
-batched_counts (Batched.Refused why i n) = n
+batched_counts (Ok n) = n
+batched_counts (Err refused) = refused.counts

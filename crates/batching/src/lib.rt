@@ -2,9 +2,17 @@
 #![tactic(auto)]
 
 ghost use Rattle.std.specs.Prelude.{◌≡◌};
-ghost use Rattle.batching.specs.Batches.{readings_taken, batched_of};
+ghost use Rattle.batching.specs.Batches.{readings_taken, batched_of, refused_at_once};
 
 use refusals::Refusal;
+
+// The readings of a batch: three lent lists side by side.
+#[derive(Clone, Copy)]
+pub struct Readings<'a> {
+    pub keys: &'a [u64],
+    pub distances: &'a [f32],
+    pub confidences: &'a [f32],
+}
 
 // How many readings of a batch added a row, changed one, and were far.
 #[derive(Clone, Copy)]
@@ -14,19 +22,42 @@ pub struct Counts {
     pub far: usize,
 }
 
-// What a batch answers: the counts of its readings; a refused one names the reading, counted from 0, and has the counts
-// of those before it.
-#[derive(Clone, Copy)]
-pub enum Batched {
-    Done(Counts),
-    Refused(Refusal, usize, Counts),
+// Why a reading of a batch is refused, and which it is, counted from 0.
+#[derive(Clone, Copy, PartialEq, Eq)]
+pub struct RefusedReading {
+    pub why: Refusal,
+    pub at: usize,
 }
 
-// How the readings of a batch end: all are taken, or one, counted from 0, is refused.
+// Why a batch is refused, the reading that is, counted from 0, and the counts of those before it.
 #[derive(Clone, Copy)]
-pub enum Ending {
-    Taken,
-    Refused(Refusal, usize),
+pub struct RefusedBatch {
+    pub why: Refusal,
+    pub at: usize,
+    pub counts: Counts,
+}
+
+// How the readings of a batch end: all are taken, or one is refused.
+pub type Ending = Result<(), RefusedReading>;
+
+// What a batch answers: the counts of its readings, or where it is refused.
+pub type Batched = Result<Counts, RefusedBatch>;
+
+// A batch that is refused before its readings names the first and has counted none.
+impl From<Refusal> for RefusedBatch {
+    ghost from_gives = { λ why batch. batch ≡ refused_at_once why };
+
+    fn from(why: Refusal) -> RefusedBatch {
+        RefusedBatch {
+            why,
+            at: 0,
+            counts: Counts {
+                added: 0,
+                changed: 0,
+                far: 0,
+            },
+        }
+    }
 }
 
 // How many of so many readings are taken.
@@ -34,8 +65,8 @@ pub fn readings_taken(ending: Ending, readings: usize) -> usize
     ensures { result ≡ readings_taken ending readings }
 {
     match ending {
-        Ending::Taken => readings,
-        Ending::Refused(_, at) => at,
+        Ok(()) => readings,
+        Err(refused) => refused.at,
     }
 }
 
@@ -44,7 +75,7 @@ pub fn batched_of(ending: Ending, counts: Counts) -> Batched
     ensures { result ≡ batched_of ending counts }
 {
     match ending {
-        Ending::Taken => Batched::Done(counts),
-        Ending::Refused(why, at) => Batched::Refused(why, at, counts),
+        Ok(()) => Ok(counts),
+        Err(RefusedReading { why, at }) => Err(RefusedBatch { why, at, counts }),
     }
 }

@@ -72,9 +72,9 @@ module _ (s : Settings) (ks : List ℕ) (ds ws : List Float) (n : ℕ) (passed :
           → RunTo s t rs from from ran_to.run (table ks' ds' ws' (n + ran_to.added))
       settled ks' ds' ws' e =
           let q = ran.0 t ready left in (
-            subst (λ (u : Table). RunLeft s u rs from from ran_to.run (table ks' ds' ws' (n + ran_to.added)))
+            subst (λ (u : Table). RunLeft s u rs from from ran_to.run.end (table ks' ds' ws' (n + ran_to.added)))
                 over_same
-                (subst (λ (u : Table). RunLeft s (over s t oks ods ows own) rs from from ran_to.run u) (sym e) q.0),
+                (subst (λ (u : Table). RunLeft s (over s t oks ods ows own) rs from from ran_to.run.end u) (sym e) q.0),
             ap (table_check s) e ∙ q.1.again,
             ran.1,
           )

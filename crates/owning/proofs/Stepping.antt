@@ -33,11 +33,10 @@ use Rattle.fusing.specs.declared.Averaging.{Averaging}
 use Rattle.table.specs.declared.Voxel.{Voxel}
 use Rattle.measuring.specs.declared.Measured.{Measured}
 use Rattle.fusing.specs.declared.Fused.{Fused}
-use Rattle.batching.specs.declared.Ending.TheVariants as Ending
 use Rattle.owning.specs.declared.Owned.{Owned}
 use Rattle.measuring.specs.Readings.{admitted}
 use Rattle.fusing.specs.Fusing.{Outcome, outcome, averaging_of, fused_voxel, voxel_at, has_place, step_at, stored, fused_near, fused_if, fuse_if, effect_of, fused_of, answered, fuse}
-use Rattle.batching.specs.Batches.{BatchEnd, batch_end, Entry, direct_of, stop_or, batch_from}
+use Rattle.batching.specs.Batches.{refused_reading, BatchEnd, batch_end, Entry, direct_of, stop_or, batch_from}
 use Rattle.sorting.specs.Sorting.{Numbered}
 use Rattle.owning.specs.Runs.{over, Ready, old_voxel, voxel_after, Placed, StepLeft}
 use Rattle.fusing.proofs.Keeping.{weight_above, voxel_kept, zero_in, fuse_keeps}
@@ -321,7 +320,7 @@ module _ (s : Settings) (t : Table) (ks : List ℕ) (ds ws : List Float) (own ad
         ends_there :
             within million v.distance ≡ false
             → (i : ℕ) (rs : List Entry)
-            → batch_from s i now_table (r ∷ rs) ≡ batch_end (Ending.Refused TooLarge i) now_table
+            → batch_from s i now_table (r ∷ rs) ≡ batch_end (Err (refused_reading TooLarge i)) now_table
         unfolding batch_from stop_or
         ends_there b i rs =
             let e : fuse s now_table r.key (direct_of r) ≡ outcome (Err TooLarge) now_table = fused ∙ said ∙ rw b in
@@ -331,12 +330,12 @@ module _ (s : Settings) (t : Table) (ks : List ℕ) (ds ws : List Float) (own ad
       pub near_left :
           (spare : Bool)
           → (spare ≡ true → t.count + added < length t.keys)
-          → (step : Owned) (ds' ws' : List Float)
+          → (step : Result Owned Refusal) (ds' ws' : List Float)
           → Placed how ds ws p spare m step ds' ws'
           → StepLeft s t ks ds ws own added r step ds' ws'
       unfolding Placed StepLeft stop_or
-      near_left spare room Owned.Far ds' ws' h = absurd h
-      near_left spare room Owned.Changed ds' ws' h =
+      near_left spare room (Ok Owned.Far) ds' ws' h = absurd h
+      near_left spare room (Ok Owned.Changed) ds' ws' h =
           let said = said_stands h.0 in
           let c = h.1 in
           rw (c.1, c.2) (
@@ -344,7 +343,7 @@ module _ (s : Settings) (t : Table) (ks : List ℕ) (ds ws : List Float) (own ad
             ready_again added (passes (Ok Fused.Changed) said c.0) (stands_many h.0 v.distance v.weight ∙ ready.many)
                 ready.fits,
           )
-      near_left spare room Owned.Added ds' ws' h =
+      near_left spare room (Ok Owned.Added) ds' ws' h =
           let said = said_waits h.0 (room h.1) in
           let c = h.2 in
           rw (c.1, c.2) (
@@ -354,13 +353,13 @@ module _ (s : Settings) (t : Table) (ks : List ℕ) (ds ws : List Float) (own ad
                 ∙ ap suc ready.many
                 ∙ sym (add-suc t.count added)) (omega (arith, room h.1)),
           )
-      near_left spare room Owned.Unknown ds' ws' h = h
-      near_left spare room (Owned.Refused why) ds' ws' h = (rw h.2 (told h.4), h.0, h.1)
+      near_left spare room (Ok Owned.Unknown) ds' ws' h = h
+      near_left spare room (Err why) ds' ws' h = (rw h.2 (told h.4), h.0, h.1)
         where
           told :
               (standing most (get_or ws p nan) ≡ true) ⊎ (spare ≡ true)
               → (i : ℕ) (rs : List Entry)
-              → batch_from s i now_table (r ∷ rs) ≡ batch_end (Ending.Refused TooLarge i) now_table
+              → batch_from s i now_table (r ∷ rs) ≡ batch_end (Err (refused_reading TooLarge i)) now_table
           told (inl e) = ends_there (Ok Fused.Changed) (said_stands e) h.3
           told (inr e) = by_standing (standing most (get_or ws p nan)) refl
             where
@@ -368,6 +367,6 @@ module _ (s : Settings) (t : Table) (ks : List ℕ) (ds ws : List Float) (own ad
                   (b : Bool)
                   → standing most (get_or ws p nan) ≡ b
                   → (i : ℕ) (rs : List Entry)
-                  → batch_from s i now_table (r ∷ rs) ≡ batch_end (Ending.Refused TooLarge i) now_table
+                  → batch_from s i now_table (r ∷ rs) ≡ batch_end (Err (refused_reading TooLarge i)) now_table
               by_standing true q = ends_there (Ok Fused.Changed) (said_stands q) h.3
               by_standing false q = ends_there (Ok Fused.New) (said_waits q (room e)) h.3

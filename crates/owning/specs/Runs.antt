@@ -1,6 +1,7 @@
 -- A part of a batch goes through own rows: what its steps keep, for private contracts.
-use Rattle.std.specs.Prelude.{ℕ, suc, ◌+◌, ◌<◌, ◌≤◌, ◌≡◌, ◌⊎◌, Bool, true, false, List, ◌∷◌, length, get_or, take, drop, set, Float, Ok, None}
+use Rattle.std.specs.Prelude.{ℕ, suc, ◌+◌, ◌<◌, ◌≤◌, ◌≡◌, ◌⊎◌, Bool, true, false, List, ◌∷◌, length, get_or, take, drop, set, Float, Ok, Err, None, Result}
 use Rattle.std.specs.Float.{nan}
+use Rattle.refusals.specs.declared.Refusal.{Refusal}
 use Rattle.floats.specs.Floats.{zero32, million, within}
 use Rattle.gathering.specs.Gathering.{standing, puts}
 use Rattle.refusals.specs.declared.Refusal.TheVariants.{TooLarge}
@@ -13,10 +14,10 @@ use Rattle.measuring.specs.declared.Measured.{Measured}
 use Rattle.owning.specs.declared.Owned.{Owned}
 use Rattle.owning.specs.declared.Run.{Run}
 use Rattle.owning.specs.declared.Ran.{Ran}
-use Rattle.batching.specs.declared.Ending.TheVariants as Ending
+use Rattle.batching.specs.declared.RefusedReading.{RefusedReading}
 use Rattle.fusing.specs.Fusing.{fused_voxel}
 use Rattle.sorting.specs.Sorting.{Numbered}
-use Rattle.batching.specs.Batches.{batch_end, Entry, batch_from}
+use Rattle.batching.specs.Batches.{refused_reading, batch_end, Entry, batch_from}
 use Rattle.batching.specs.Steps.{far_up_to}
 
 -- the table with the own rows that stand
@@ -55,13 +56,13 @@ Rewritten how ds ws p m ds' ws' =
     × (ws' ≡ set ws p (voxel_after how ds ws p m).weight)
 
 -- what a near reading of the row at p leaves
-unfoldable pub Placed : Averaging → List Float → List Float → ℕ → Bool → Measured → Owned → List Float → List Float → Type 0
-Placed how ds ws p spare m Owned.Far ds' ws' = ⊥
-Placed how ds ws p spare m Owned.Changed ds' ws' = (standing how.most (get_or ws p nan) ≡ true) × Rewritten how ds ws p m ds' ws'
-Placed how ds ws p spare m Owned.Added ds' ws' =
+unfoldable pub Placed : Averaging → List Float → List Float → ℕ → Bool → Measured → Result Owned Refusal → List Float → List Float → Type 0
+Placed how ds ws p spare m (Ok Owned.Far) ds' ws' = ⊥
+Placed how ds ws p spare m (Ok Owned.Changed) ds' ws' = (standing how.most (get_or ws p nan) ≡ true) × Rewritten how ds ws p m ds' ws'
+Placed how ds ws p spare m (Ok Owned.Added) ds' ws' =
     (standing how.most (get_or ws p nan) ≡ false) × (spare ≡ true) × Rewritten how ds ws p m ds' ws'
-Placed how ds ws p spare m Owned.Unknown ds' ws' = (ds' ≡ ds) × (ws' ≡ ws)
-Placed how ds ws p spare m (Owned.Refused why) ds' ws' =
+Placed how ds ws p spare m (Ok Owned.Unknown) ds' ws' = (ds' ≡ ds) × (ws' ≡ ws)
+Placed how ds ws p spare m (Err why) ds' ws' =
     (ds' ≡ ds) × (ws' ≡ ws) × (why ≡ TooLarge) × (within million (voxel_after how ds ws p m).distance ≡ false)
     × ((standing how.most (get_or ws p nan) ≡ true) ⊎ (spare ≡ true))
 
@@ -72,46 +73,50 @@ GoesOn s t ks ds ws own r ds' ws' added =
     × Ready s t ks ds' ws' own added
 
 -- a batch goes on, ends there, or the reading is left to others
-unfoldable pub StepLeft : Settings → Table → List ℕ → List Float → List Float → ℕ → ℕ → Entry → Owned → List Float → List Float → Type 0
-StepLeft s t ks ds ws own added r Owned.Far ds' ws' = GoesOn s t ks ds ws own r ds' ws' added
-StepLeft s t ks ds ws own added r Owned.Changed ds' ws' = GoesOn s t ks ds ws own r ds' ws' added
-StepLeft s t ks ds ws own added r Owned.Added ds' ws' = GoesOn s t ks ds ws own r ds' ws' (suc added)
-StepLeft s t ks ds ws own added r Owned.Unknown ds' ws' = (ds' ≡ ds) × (ws' ≡ ws)
-StepLeft s t ks ds ws own added r (Owned.Refused why) ds' ws' =
-    ((i : ℕ) (rs : List Entry) → batch_from s i (over s t ks ds ws own) (r ∷ rs) ≡ batch_end (Ending.Refused why i) (over s t ks ds ws own))
+unfoldable pub StepLeft : Settings → Table → List ℕ → List Float → List Float → ℕ → ℕ → Entry → Result Owned Refusal → List Float → List Float → Type 0
+StepLeft s t ks ds ws own added r (Ok Owned.Far) ds' ws' = GoesOn s t ks ds ws own r ds' ws' added
+StepLeft s t ks ds ws own added r (Ok Owned.Changed) ds' ws' = GoesOn s t ks ds ws own r ds' ws' added
+StepLeft s t ks ds ws own added r (Ok Owned.Added) ds' ws' = GoesOn s t ks ds ws own r ds' ws' (suc added)
+StepLeft s t ks ds ws own added r (Ok Owned.Unknown) ds' ws' = (ds' ≡ ds) × (ws' ≡ ws)
+StepLeft s t ks ds ws own added r (Err why) ds' ws' =
+    ((i : ℕ) (rs : List Entry) → batch_from s i (over s t ks ds ws own) (r ∷ rs) ≡ batch_end (Err (refused_reading why i)) (over s t ks ds ws own))
     × (ds' ≡ ds) × (ws' ≡ ws)
 
 -- the same beside every table
-abbrev pub Stepped : Settings → List ℕ → List Float → List Float → ℕ → Bool → Entry → Owned → List Float → List Float → Type 0
+abbrev pub Stepped : Settings → List ℕ → List Float → List Float → ℕ → Bool → Entry → Result Owned Refusal → List Float → List Float → Type 0
 Stepped s ks ds ws own spare r step ds' ws' =
     (t :
     Table) (added : ℕ) → Ready s t ks ds ws own added → (spare ≡ true
     → t.count + added < length t.keys) → StepLeft s t ks ds ws own added r step ds' ws'
 
 -- a reading is passed over as far
-unfoldable pub passed_far : Owned → Bool
-passed_far Owned.Far = true
-passed_far Owned.Added = false
-passed_far Owned.Changed = false
-passed_far Owned.Unknown = false
-passed_far (Owned.Refused why) = false
+unfoldable pub passed_far : Result Owned Refusal → Bool
+passed_far (Ok Owned.Far) = true
+passed_far (Ok Owned.Added) = false
+passed_far (Ok Owned.Changed) = false
+passed_far (Ok Owned.Unknown) = false
+passed_far (Err why) = false
 
 -- where a part of a batch leaves off, at the least-th reading or later, it goes on with the table that is left; or it ends there
-unfoldable pub RunLeft : Settings → Table → List Entry → ℕ → ℕ → Run → Table → Type 0
-RunLeft s t rs from least (Run.Reached i far) u =
+unfoldable pub RunLeft : Settings → Table → List Entry → ℕ → ℕ → Result ℕ RefusedReading → Table → Type 0
+RunLeft s t rs from least (Ok i) u =
     (batch_from s from t (drop from rs) ≡ batch_from s i u (drop i rs)) × (least ≤ i) × (i ≤ length rs)
-RunLeft s t rs from least (Run.Refused why i far) u = batch_from s from t (drop from rs) ≡ batch_end (Ending.Refused why i) u
+RunLeft s t rs from least (Err refused) u = batch_from s from t (drop from rs) ≡ batch_end (Err refused) u
 
--- of the readings before the one where it leaves off, so many more are far than of those before the from-th
-unfoldable pub RunFar : Settings → List Entry → ℕ → Run → Type 0
-RunFar s rs from (Run.Reached i far) = far_up_to s rs i ≡ far_up_to s rs from + far
-RunFar s rs from (Run.Refused why i far) = far_up_to s rs i ≡ far_up_to s rs from + far
+-- the reading where it leaves off
+abbrev pub left_off : Result ℕ RefusedReading → ℕ
+left_off (Ok i) = i
+left_off (Err refused) = refused.at
+
+-- of the readings before that one, so many more are far than of those before the from-th
+abbrev pub RunFar : Settings → List Entry → ℕ → Run → Type 0
+RunFar s rs from run = far_up_to s rs (left_off run.end) ≡ far_up_to s rs from + run.far
 
 -- a part of a batch through own rows, beside every table
 abbrev pub RanOver : Settings → List ℕ → List Float → List Float → ℕ → ℕ → List Entry → ℕ → Ran → List Float → List Float → Type 0
 RanOver s ks ds ws own room rs from ran ds' ws' =
     (t : Table) → Ready s t ks ds ws own 0 → t.count + room ≤ length t.keys
-    → RunLeft s (over s t ks ds ws own) rs from from ran.run (over s t ks ds' ws' own) × Ready s t ks ds' ws' own ran.added
+    → RunLeft s (over s t ks ds ws own) rs from from ran.run.end (over s t ks ds' ws' own) × Ready s t ks ds' ws' own ran.added
 
 -- the same, and its far readings
 abbrev pub RanTo : Settings → List ℕ → List Float → List Float → ℕ → ℕ → List Entry → ℕ → Ran → List Float → List Float → Type 0
@@ -119,4 +124,4 @@ RanTo s ks ds ws own room rs from ran ds' ws' = RanOver s ks ds ws own room rs f
 
 -- a part of a batch, the table that it leaves, and its far readings
 abbrev pub RunTo : Settings → Table → List Entry → ℕ → ℕ → Run → Table → Type 0
-RunTo s t rs from least run u = RunLeft s t rs from least run u × (table_check s u ≡ (Ok tt)) × RunFar s rs from run
+RunTo s t rs from least run u = RunLeft s t rs from least run.end u × (table_check s u ≡ (Ok tt)) × RunFar s rs from run

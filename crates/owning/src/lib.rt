@@ -5,12 +5,14 @@ ghost use Rattle.std.specs.Prelude.{◌≡◌, true, ◌+◌, ◌<◌, ◌≤◌
 ghost use Rattle.search.specs.Keys.{ascending};
 ghost use Rattle.table.specs.Table.{table, rows_of, lengths_ok, settings_ok, table_check, relaid};
 ghost use Rattle.gathering.specs.Gathering.{puts, seats_of, Loaded};
-ghost use Rattle.batching.specs.Batches.{entry, entries};
+ghost use Rattle.batching.specs.Batches.{entry};
+ghost use Rattle.batching.specs.Read.{entries_in, OneLength};
 ghost use Rattle.sorting.specs.Sorting.{Numbered};
 ghost use Rattle.batching.specs.Steps.{is_far};
 ghost use Rattle.owning.specs.Runs.{old_voxel, Placed, Stepped, passed_far, OwnSlots, RanTo, RunTo};
 ghost use Rattle.table.specs.Read.{table_of};
 
+use batching::{Readings, RefusedReading};
 use floats::{Metres, between, within};
 use fusing::{Averaging, fused_voxel};
 use gathering::{hold_back, load, locate, settle};
@@ -19,22 +21,21 @@ use refusals::Refusal;
 use sorting::{distinct, sort};
 use table::{Rows, Settings, Voxel};
 
-// What a reading does to the own rows of a batch: nothing where it is far; a row is added or changed; it is left to
-// others where its row has no place in the table; or why it is refused.
+// What a reading that is not refused does to the own rows of a batch: nothing where it is far; a row is added or changed;
+// or it is left to others where its row has no place in the table.
 #[derive(Clone, Copy)]
 enum Owned {
     Far,
     Added,
     Changed,
     Unknown,
-    Refused(Refusal),
 }
 
 // How far a part of a batch went, or where it was refused; and how many of its readings were far.
 #[derive(Clone, Copy)]
-pub enum Run {
-    Reached(usize, usize),
-    Refused(Refusal, usize, usize),
+pub struct Run {
+    pub end: Result<usize, RefusedReading>,
+    pub far: usize,
 }
 
 // How many rows a part of a batch adds, and how far it went.
@@ -66,7 +67,7 @@ fn fuse_place(
     place: usize,
     spare: bool,
     m: Measured,
-) -> Owned
+) -> Result<Owned, Refusal>
     requires { (place < length own_distances.old) × (length own_weights.old ≡ length own_distances.old) }
     ensures { Placed how own_distances.old own_weights.old place spare m result
         own_distances.new own_weights.new }
@@ -75,18 +76,18 @@ fn fuse_place(
     let weight = own_weights[place];
     let stands = between(0.0, how.most, weight);
     if !(stands | spare) {
-        return Owned::Unknown;
+        return Ok(Owned::Unknown);
     }
     let v = fused_voxel(how, old_voxel(stands, distance, weight), m);
     if !within(1000000.0, v.distance) {
-        return Owned::Refused(Refusal::TooLarge);
+        return Err(Refusal::TooLarge);
     }
     own_distances[place] = v.distance;
     own_weights[place] = v.weight;
     if stands {
-        return Owned::Changed;
+        return Ok(Owned::Changed);
     }
-    Owned::Added
+    Ok(Owned::Added)
 }
 
 // One reading of a batch, into the own rows; its slot is the number of its key among them, counted from 1.
@@ -101,7 +102,7 @@ fn fuse_own(
     key: u64,
     distance: f32,
     confidence: f32,
-) -> Owned
+) -> Result<Owned, Refusal>
     requires settings_value { settings_ok settings ≡ true }
     requires own_value { lengths_ok (length own_keys.now) (length own_distances.old) (length own_weights.old) own ≡ true }
     requires numbered { Numbered (take own own_keys.now) key slot }
@@ -114,21 +115,18 @@ fn fuse_own(
         distance: Metres(distance),
         confidence,
     };
-    match admit(settings, key, reading) {
-        Err(why) => Owned::Refused(why),
-        Ok(None) => Owned::Far,
-        Ok(Some(near)) => {
-            let place = slot as usize - 1;
-            fuse_place(
-                Averaging::from(settings),
-                own_distances,
-                own_weights,
-                place,
-                spare,
-                near,
-            )
-        }
-    }
+    let Some(near) = admit(settings, key, reading)? else {
+        return Ok(Owned::Far);
+    };
+    let place = slot as usize - 1;
+    fuse_place(
+        Averaging::from(settings),
+        own_distances,
+        own_weights,
+        place,
+        spare,
+        near,
+    )
 }
 
 // The readings from `from` up to `to`, into the own rows, as far as they go; `room` rows can be added.
@@ -140,26 +138,28 @@ fn fuse_run(
     own: usize,
     slots: &[u16],
     room: usize,
-    batch_keys: &[u64],
-    batch_distances: &[f32],
-    batch_confidences: &[f32],
+    readings: &Readings,
     from: usize,
     to: usize,
 ) -> Ran
     requires settings_value { settings_ok settings ≡ true }
     requires own_value { lengths_ok (length own_keys.now) (length own_distances.old) (length own_weights.old) own ≡ true }
-    requires from_le_to { (from ≤ to) × (to ≤ from + 4096) × (to ≤ length batch_keys.now) }
-    requires batch_distances_len { (length batch_distances.now ≡ length batch_keys.now) × (length batch_confidences.now ≡ length batch_keys.now) }
-    requires in_bounds { (4096 ≤ length slots.now) × OwnSlots batch_keys.now from to (take own own_keys.now) slots.now }
+    requires from_le_to { (from ≤ to) × (to ≤ from + 4096) × (to ≤ length readings.now.keys.now) }
+    requires batch_distances_len { OneLength readings.now }
+    requires in_bounds { (4096 ≤ length slots.now) × OwnSlots readings.now.keys.now from to (take own own_keys.now) slots.now }
     ensures { RanTo settings own_keys.now own_distances.old
         own_weights.old own room
-        (entries batch_keys.now batch_distances.now batch_confidences.now) from result
+        (entries_in readings.now) from result
         own_distances.new own_weights.new }
 {
+    let Readings {
+        keys,
+        distances,
+        confidences,
+    } = *readings;
     let mut added = 0;
     let mut far = 0;
-    let mut i = from;
-    while i < to {
+    for i in from..to {
         let offset = i - from;
         let step = fuse_own(
             settings,
@@ -169,39 +169,38 @@ fn fuse_run(
             own,
             slots[offset],
             added < room,
-            batch_keys[i],
-            batch_distances[i],
-            batch_confidences[i],
+            keys[i],
+            distances[i],
+            confidences[i],
         );
         match step {
-            Owned::Far => {
+            Ok(Owned::Far) => {
                 far += 1;
-                i += 1;
             }
-            Owned::Changed => {
-                i += 1;
-            }
-            Owned::Added => {
+            Ok(Owned::Changed) => {}
+            Ok(Owned::Added) => {
                 added += 1;
-                i += 1;
             }
-            Owned::Unknown => {
+            Ok(Owned::Unknown) => {
                 return Ran {
                     added,
-                    run: Run::Reached(i, far),
+                    run: Run { end: Ok(i), far },
                 };
             }
-            Owned::Refused(why) => {
+            Err(why) => {
                 return Ran {
                     added,
-                    run: Run::Refused(why, i, far),
+                    run: Run {
+                        end: Err(RefusedReading { why, at: i }),
+                        far,
+                    },
                 };
             }
         }
     }
     Ran {
         added,
-        run: Run::Reached(i, far),
+        run: Run { end: Ok(to), far },
     }
 }
 
@@ -317,27 +316,25 @@ pub fn batch_run(
     distances: &mut [f32],
     weights: &mut [f32],
     count: &mut usize,
-    batch_keys: &[u64],
-    batch_distances: &[f32],
-    batch_confidences: &[f32],
+    readings: &Readings,
     from: usize,
 ) -> Run
     requires count_value { table_check settings (table keys.old distances.old weights.old count.old) ≡ (Ok tt) }
-    requires from_in_bounds { from ≤ length batch_keys.now }
-    requires batch_distances_len { (length batch_distances.now ≡ length batch_keys.now) × (length batch_confidences.now ≡ length batch_keys.now) }
+    requires from_in_bounds { from ≤ length readings.now.keys.now }
+    requires batch_distances_len { OneLength readings.now }
     ensures { RunTo settings
         (table keys.old distances.old weights.old count.old)
-        (entries batch_keys.now batch_distances.now batch_confidences.now) from from
+        (entries_in readings.now) from from
         result (table keys.new distances.new weights.new count.new) }
 {
-    let to = end_of(batch_keys.len(), from);
+    let to = end_of(readings.keys.len(), from);
     let mut own_keys = [0u64; 4096];
     let mut own_distances = [0.0f32; 4096];
     let mut own_weights = [0.0f32; 4096];
     let mut slots = [0u16; 4096];
     let mut seats = [0u32; 4096];
     let n = *count;
-    let own = own_rows(&mut own_keys, &mut slots, batch_keys, from, to);
+    let own = own_rows(&mut own_keys, &mut slots, readings.keys, from, to);
     load_own(
         &Rows {
             keys,
@@ -359,9 +356,7 @@ pub fn batch_run(
         own,
         &slots,
         keys.len() - n,
-        batch_keys,
-        batch_distances,
-        batch_confidences,
+        readings,
         from,
         to,
     );

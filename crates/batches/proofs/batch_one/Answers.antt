@@ -1,6 +1,7 @@
 -- `batches::batch_one` meets its contract: it ends the batch or leaves the rest to the table that it left, and tells whether it is far.
 -- Assumes nothing.
-use mathlib.Core.Path.{sym}
+use Rattle.std.specs.Prelude.{Ok}
+use mathlib.Core.Path.{sym, ap, ◌∙◌}
 use Prim.Native.Nat.{◌<◌}
 use native.Mathlib.Nat.{add-zero}
 use native.Mathlib.Omega.{arith}
@@ -8,88 +9,60 @@ use lib.ListN.{length}
 use Rattle.lists.proofs.BesideLaws.{by_length}
 use Rattle.batching.specs.Batches.{entry}
 use Rattle.table.specs.Table.{table}
-use Rattle.fusing.specs.Steps.{answers_far}
-use Rattle.owning.specs.Runs.{RunLeft, RunFar}
-use Rattle.batching.proofs.Batching.{stops, goes_on_far, goes_on_added, goes_on_changed, far_here, near_here, passes_again}
+use Rattle.owning.specs.Runs.{RunLeft}
+use Rattle.batching.proofs.Batching.{stops, goes_on, far_here, near_here, passes_again}
+use borrow.Author.Rules.{rules}
 use Rattle.batches.proofs.batch_one.Goals as goal
 
 pub returns-in-Err : goal.returns-in-Err
-unfolding RunLeft RunFar
+unfolding RunLeft
 returns-in-Err c =
     let a = c.args in
+    let t = table a.keys.now a.distances.now a.weights.now a.count.now in
+    let ks = a.readings.now.keys.now in
+    let ds = a.readings.now.distances.now in
+    let cs = a.readings.now.confidences.now in
     let len = c.requires.batch_distances_len in
-    let h : a.from < length a.batch_keys.now = c.requires.from_in_bounds in (
-      stops a.settings (table a.keys.now a.distances.now a.weights.now a.count.now)
-          a.batch_keys.now a.batch_distances.now a.batch_confidences.now a.from len.0 len.1 h
-          _ _ c.fuse_sound-step.ensures _ c.in-Err.is,
-      passes_again a.settings (table a.keys.now a.distances.now a.weights.now a.count.now)
-          a.batch_keys.now a.batch_distances.now a.batch_confidences.now a.from len.0 len.1 h
-          _ _ c.fuse_sound-step.ensures c.requires.count_value,
+    let h : a.from < length ks = c.requires.from_in_bounds in (
+      stops a.settings t ks ds cs a.from len.0 len.1 h _ _ c.fuse_sound.ensures _ c.in-Err.is,
+      passes_again a.settings t ks ds cs a.from len.0 len.1 h _ _ c.fuse_sound.ensures c.requires.count_value,
       sym (add-zero _),
     )
 
 pub returns-in-Ok-Far : goal.returns-in-Ok-Far
-unfolding RunLeft RunFar
+unfolding RunLeft
 returns-in-Ok-Far c =
     let a = c.args in
+    let t = table a.keys.now a.distances.now a.weights.now a.count.now in
+    let ks = a.readings.now.keys.now in
+    let ds = a.readings.now.distances.now in
+    let cs = a.readings.now.confidences.now in
     let len = c.requires.batch_distances_len in
-    let h : a.from < length a.batch_keys.now = c.requires.from_in_bounds in (
+    let h : a.from < length ks = c.requires.from_in_bounds in (
       (
-        goes_on_far a.settings (table a.keys.now a.distances.now a.weights.now a.count.now)
-            a.batch_keys.now a.batch_distances.now a.batch_confidences.now a.from len.0 len.1
-            h _ _ c.fuse_sound-step.ensures c.in-Ok-Far.is,
+        goes_on a.settings t ks ds cs a.from len.0 len.1 h _ _ c.fuse_sound.ensures _ c.in-Ok-Far.is,
         omega arith,
-        rw (by_length entry a.batch_keys.now a.batch_distances.now a.batch_confidences.now len.0
-            len.1) (omega arith),
+        rw (by_length entry ks ds cs len.0 len.1) (omega arith),
       ),
-      passes_again a.settings (table a.keys.now a.distances.now a.weights.now a.count.now)
-          a.batch_keys.now a.batch_distances.now a.batch_confidences.now a.from len.0 len.1 h
-          _ _ c.fuse_sound-step.ensures c.requires.count_value,
-      far_here a.settings (table a.keys.now a.distances.now a.weights.now a.count.now)
-          a.batch_keys.now a.batch_distances.now a.batch_confidences.now a.from len.0 len.1 h
-          _ _ c.fuse_sound-step.ensures c.requires.count_value c.in-Ok-Far.is,
+      passes_again a.settings t ks ds cs a.from len.0 len.1 h _ _ c.fuse_sound.ensures c.requires.count_value,
+      far_here a.settings t ks ds cs a.from len.0 len.1 h _ _ c.fuse_sound.ensures c.requires.count_value (c.in-Ok-Far.is ∙ ap Ok c.in-Ok-Far.field-0-is),
     )
 
 pub returns-in-Ok : goal.returns-in-Ok
-unfolding RunLeft RunFar answers_far
+unfolding RunLeft
 returns-in-Ok c =
     let a = c.args in
+    let t = table a.keys.now a.distances.now a.weights.now a.count.now in
+    let ks = a.readings.now.keys.now in
+    let ds = a.readings.now.distances.now in
+    let cs = a.readings.now.confidences.now in
     let len = c.requires.batch_distances_len in
-    let h : a.from < length a.batch_keys.now = c.requires.from_in_bounds in (
+    let h : a.from < length ks = c.requires.from_in_bounds in (
       (
-        goes_on_added a.settings (table a.keys.now a.distances.now a.weights.now a.count.now)
-            a.batch_keys.now a.batch_distances.now a.batch_confidences.now a.from len.0 len.1
-            h _ _ c.fuse_sound-step.ensures _ c.in-Ok.is,
+        goes_on a.settings t ks ds cs a.from len.0 len.1 h _ _ c.fuse_sound.ensures _ c.in-Ok.is,
         omega arith,
-        rw (by_length entry a.batch_keys.now a.batch_distances.now a.batch_confidences.now len.0
-            len.1) (omega arith),
+        rw (by_length entry ks ds cs len.0 len.1) (omega arith),
       ),
-      passes_again a.settings (table a.keys.now a.distances.now a.weights.now a.count.now)
-          a.batch_keys.now a.batch_distances.now a.batch_confidences.now a.from len.0 len.1 h
-          _ _ c.fuse_sound-step.ensures c.requires.count_value,
-      near_here a.settings (table a.keys.now a.distances.now a.weights.now a.count.now)
-          a.batch_keys.now a.batch_distances.now a.batch_confidences.now a.from len.0 len.1 h
-          _ _ c.fuse_sound-step.ensures c.requires.count_value (rw c.in-Ok.is),
-    )
-
-pub returns-in-Ok : goal.returns-in-Ok
-unfolding RunLeft RunFar answers_far
-returns-in-Ok c =
-    let a = c.args in
-    let len = c.requires.batch_distances_len in
-    let h : a.from < length a.batch_keys.now = c.requires.from_in_bounds in (
-      (
-        goes_on_changed a.settings (table a.keys.now a.distances.now a.weights.now a.count.now)
-            a.batch_keys.now a.batch_distances.now a.batch_confidences.now a.from len.0 len.1
-            h _ _ c.fuse_sound-step.ensures _ c.in-Ok.is,
-        omega arith,
-        rw (by_length entry a.batch_keys.now a.batch_distances.now a.batch_confidences.now len.0
-            len.1) (omega arith),
-      ),
-      passes_again a.settings (table a.keys.now a.distances.now a.weights.now a.count.now)
-          a.batch_keys.now a.batch_distances.now a.batch_confidences.now a.from len.0 len.1 h
-          _ _ c.fuse_sound-step.ensures c.requires.count_value,
-      near_here a.settings (table a.keys.now a.distances.now a.weights.now a.count.now)
-          a.batch_keys.now a.batch_distances.now a.batch_confidences.now a.from len.0 len.1 h
-          _ _ c.fuse_sound-step.ensures c.requires.count_value (rw c.in-Ok.is),
+      passes_again a.settings t ks ds cs a.from len.0 len.1 h _ _ c.fuse_sound.ensures c.requires.count_value,
+      near_here a.settings t ks ds cs a.from len.0 len.1 h _ _ c.fuse_sound.ensures c.requires.count_value _ c.in-Ok.is (search rules),
     )

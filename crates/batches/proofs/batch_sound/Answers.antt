@@ -8,9 +8,11 @@ use lib.Ieee.{Float}
 use Rattle.table.specs.declared.Settings.{Settings}
 use Rattle.lists.proofs.BesideLaws.{by_length}
 use Rattle.batching.specs.Batches.{entry, entries}
+use Rattle.batching.specs.Read.{entries_in}
 use Rattle.batching.specs.Steps.{far_up_to}
 use Rattle.batching.proofs.CountLaws.{far_few}
 use Rattle.batching.proofs.Batching.{ended}
+use Rattle.owning.specs.Runs.{left_off}
 use Rattle.owning.proofs.Running.{run_stops, run_goes}
 use borrow.Author.Rules.{rules}
 use Rattle.batches.proofs.batch_sound.Goals as goal
@@ -30,71 +32,52 @@ pub loop-i-init : goal.loop-i-init
 unfolding far_up_to
 loop-i-init c = (search rules, c.requires.count_value, refl, refl, refl, refl, refl)
 
-pub batch_step-run-requires : goal.batch_step-run-requires
-batch_step-run-requires c = record {
-  count_value = c.loop-i.invariant.1;
-  from_in_bounds = omega arith;
-  batch_distances_len = c.requires.batch_distances_len;
-}
-
-pub overflow_add-result : goal.overflow_add-result
-overflow_add-result c =
-    let r = run_stops _ _ _ _ _ _ _ c.batch_step-run.ensures _ _ _ c.in-Refused.is in
-    omega (
-      arith,
-      c.loop-i.invariant.6,
-      r.1,
-      few c.args.settings c.args.batch_keys.now c.args.batch_distances.now c.args.batch_confidences.now
-          c.requires.batch_distances_len.0 c.requires.batch_distances_len.1 c.in-Refused.at,
-    )
-
-pub returns-in-Refused : goal.returns-in-Refused
-returns-in-Refused c =
-    let r = run_stops _ _ _ _ _ _ _ c.batch_step-run.ensures _ _ _ c.in-Refused.is in
-    record {
-      count_after = sym (c.loop-i.invariant.2 ∙ r.0);
-      far_value = more_far c.in-Refused.more c.loop-i.invariant.6 r.1;
-    }
-
 pub overflow_add-far : goal.overflow_add-far
 overflow_add-far c =
-    let r = run_goes _ _ _ _ _ _ _ c.batch_step-run.ensures _ _ c.in-Reached.is in
+    let r = c.args.readings.now in
     omega (
       arith,
       c.loop-i.invariant.6,
-      r.3,
-      few c.args.settings c.args.batch_keys.now c.args.batch_distances.now c.args.batch_confidences.now
-          c.requires.batch_distances_len.0 c.requires.batch_distances_len.1 c.in-Reached.reached,
+      c.batch_step-run.ensures.2,
+      few c.args.settings r.keys.now r.distances.now r.confidences.now c.requires.batch_distances_len.0 c.requires.batch_distances_len.1
+          (left_off c.batch_step-run.result.end),
     )
+
+pub returns-in-Err : goal.returns-in-Err
+returns-in-Err c =
+    let r = run_stops _ _ _ _ _ _ _ c.batch_step-run.ensures _ c.in-Err.is in
+    record {
+      count_after = sym (c.loop-i.invariant.2 ∙ r.0);
+      far_value = more_far c.batch_step-run.result.far c.loop-i.invariant.6 r.1;
+    }
 
 pub loop-i-smaller : goal.loop-i-smaller
 loop-i-smaller c =
-    let a = c.args in
-    let n = by_length entry a.batch_keys.now a.batch_distances.now a.batch_confidences.now c.requires.batch_distances_len.0 c.requires.batch_distances_len.1 in
-    let r = run_goes _ _ _ _ _ _ _ c.batch_step-run.ensures _ _ c.in-Reached.is in
+    let a = c.args.readings.now in
+    let n = by_length entry a.keys.now a.distances.now a.confidences.now c.requires.batch_distances_len.0 c.requires.batch_distances_len.1 in
+    let r = run_goes _ _ _ _ _ _ _ c.batch_step-run.ensures _ c.in-Ok.is in
     omega (arith, n, r.1, r.2, c.loop-i-test.true)
 
 pub loop-i-preserved : goal.loop-i-preserved
 loop-i-preserved c =
-    let a = c.args in
-    let n = by_length entry a.batch_keys.now a.batch_distances.now a.batch_confidences.now c.requires.batch_distances_len.0 c.requires.batch_distances_len.1 in
-    let r = run_goes _ _ _ _ _ _ _ c.batch_step-run.ensures _ _ c.in-Reached.is in (
+    let a = c.args.readings.now in
+    let n = by_length entry a.keys.now a.distances.now a.confidences.now c.requires.batch_distances_len.0 c.requires.batch_distances_len.1 in
+    let r = run_goes _ _ _ _ _ _ _ c.batch_step-run.ensures _ c.in-Ok.is in (
       omega (arith, n, r.2),
       c.batch_step-run.ensures.1,
       c.loop-i.invariant.2 ∙ r.0,
       c.batch_step-run.auto.keys ∙ c.loop-i.invariant.3,
       c.batch_step-run.auto.distances ∙ c.loop-i.invariant.4,
       c.batch_step-run.auto.weights ∙ c.loop-i.invariant.5,
-      more_far c.in-Reached.more c.loop-i.invariant.6 r.3,
+      more_far c.batch_step-run.result.far c.loop-i.invariant.6 r.3,
     )
 
 pub returns : goal.returns
 returns c =
-    let a = c.args in
-    let all : c.loop-i.i ≡ length a.batch_keys.now = omega (arith, c.loop-i.invariant.0, c.loop-i-test.false) in record {
+    let a = c.args.readings.now in
+    let all : c.loop-i.i ≡ length a.keys.now = omega (arith, c.loop-i.invariant.0, c.loop-i-test.false) in record {
       count_after = sym (c.loop-i.invariant.2
-          ∙ ended a.settings _ a.batch_keys.now a.batch_distances.now a.batch_confidences.now
+          ∙ ended c.args.settings _ a.keys.now a.distances.now a.confidences.now
           c.loop-i.i c.loop-i-test.false);
-      far_value = c.loop-i.invariant.6
-          ∙ ap (far_up_to a.settings (entries a.batch_keys.now a.batch_distances.now a.batch_confidences.now)) all;
+      far_value = c.loop-i.invariant.6 ∙ ap (far_up_to c.args.settings (entries_in a)) all;
     }

@@ -5,21 +5,22 @@ use mathlib.Core.Path.{◌≡◌}
 use Prim.Native.Nat.{◌≤◌, ◌-◌}
 use lib.ListN.{length, drop}
 use Rattle.table.specs.Table.{table, table_check}
-use Rattle.batching.specs.Batches.{entries, batch_from}
+use Rattle.batching.specs.Batches.{batch_from}
+use Rattle.batching.specs.Read.{entries_in}
 use Rattle.batching.specs.Steps.{far_up_to}
 use Rattle.batches.proofs.batch_sound.Given as goal
 
 abbrev pub invariant-loop-i : goal.invariant-loop-i
-invariant-loop-i l = (l.i ≤ length l.batch_keys)
+invariant-loop-i l = (l.i ≤ length l.readings.keys.now)
     × (table_check l.settings (table l.keys l.distances l.weights l.count) ≡ (Ok tt))
     × (batch_from l.settings 0 (table l.initial.keys l.initial.distances l.initial.weights l.initial.count)
-    (entries l.batch_keys l.batch_distances l.batch_confidences)
+    (entries_in l.readings)
     ≡ batch_from l.settings l.i (table l.keys l.distances l.weights l.count)
-    (drop l.i (entries l.batch_keys l.batch_distances l.batch_confidences)))
+    (drop l.i (entries_in l.readings)))
     × (length l.keys ≡ length l.initial.keys)
     × (length l.distances ≡ length l.initial.distances)
     × (length l.weights ≡ length l.initial.weights)
-    × (l.far ≡ far_up_to l.settings (entries l.batch_keys l.batch_distances l.batch_confidences) l.i)
+    × (l.far ≡ far_up_to l.settings (entries_in l.readings) l.i)
 
 abbrev pub decreases-loop-i : goal.decreases-loop-i
-decreases-loop-i l = length l.batch_keys - l.i
+decreases-loop-i l = length l.readings.keys.now - l.i

@@ -1,24 +1,37 @@
 -- `batches::batch_step` meets its contract: what a part through own rows leaves, or one reading more.
 -- Assumes nothing.
-use native.Mathlib.Omega.{arith}
-use Rattle.owning.proofs.Running.{run_goes, stops_too, goes_too, then_runs}
+use Rattle.std.specs.Prelude.{ℕ, Bool, true, false, Ok, Err, Result}
+use Rattle.std.specs.Result.{result_eq}
+use Rattle.std.proofs.Common.{ap, not}
+use mathlib.Core.Path.{◌≡◌, refl, ◌∙◌, sym}
+use borrow.Author.Tests.{eqb-true, eq-eqb}
+use lib.Dec.{eqb}
+use Rattle.batching.specs.declared.RefusedReading.{RefusedReading}
+use Rattle.owning.proofs.Running.{went_on, then_runs}
 use Rattle.batches.proofs.batch_step.Goals as goal
+use Rattle.batches.proofs.batch_step.Goals.{then-readings-from-ge-MANY+else-ne, else-readings-from-ge-MANY}
 
-pub batch_run-run-requires : goal.batch_run-run-requires
-batch_run-run-requires c = record {
-  count_value = c.requires.count_value;
-  from_in_bounds = omega arith;
-  batch_distances_len = c.requires.batch_distances_len;
-}
+held : (b : Bool) → not b ≡ false → b ≡ true
+held true h = refl
+held false h = sym h
 
-pub returns-in-Refused : goal.returns-in-Refused
-returns-in-Refused c = stops_too _ _ _ _ _ _ _ c.batch_run-run.ensures _ _ _ c.in-Refused.is
+-- the test tells whether a part went nowhere
+stayed : (g : RefusedReading → RefusedReading → Bool) (e : Result ℕ RefusedReading) (n : ℕ) → not (result_eq eqb g e (Ok n)) ≡ false → e ≡ Ok n
+stayed g (Ok i) n h = ap {B = Result ℕ RefusedReading} (λ (j : ℕ). Ok j) (eqb-true i n (held (eqb i n) h))
+stayed g (Err refused) n h = cc
 
-pub returns-then-from-reached : goal.returns-then-from-reached
-returns-then-from-reached c = goes_too _ _ _ _ _ _ _ c.batch_run-run.ensures _ _ c.in-Reached.is c.if-from-reached.true
+moved : (g : RefusedReading → RefusedReading → Bool) (e : Result ℕ RefusedReading) (n : ℕ) → not (result_eq eqb g e (Ok n)) ≡ true → e ≡ Ok n → ⊥
+moved g (Ok i) n h e = let same : i ≡ n = cc in let wrong : false ≡ true = rw (eq-eqb i n same) at h in cc
+moved g (Err refused) n h e = cc
 
-pub returns-in-Reached : goal.returns-in-Reached
-returns-in-Reached c =
-    then_runs _ _ _ _ _ _ _ c.batch_run-run.ensures _ _ c.in-Reached.is c.if-from-reached.false
-    (run_goes _ _ _ _ _ _ _ c.batch_run-run.ensures _ _ c.in-Reached.is).1 _ _
-    c.batch_one-in-Reached.ensures
+pub returns-then-ne : goal.returns-then-ne
+returns-then-ne c = went_on _ _ _ _ _ _ c.batch_run-run.ensures (moved _ _ _ (sym c.ne.ensures ∙ c.if-ne.true))
+
+pub returns : goal.returns
+returns c =
+    elim c.if-readings-from-ge-MANY.branch [
+      | then-readings-from-ge-MANY+else-ne w ↦
+          then_runs _ _ _ _ _ _ w.batch_run-run.ensures (stayed _ _ _ (sym w.ne.ensures ∙ w.if-ne.false)) _ _
+          (rw (w.keys-is, w.distances-is, w.weights-is, w.count-is) at c.batch_one.ensures)
+      | else-readings-from-ge-MANY w ↦ rw (w.keys-is, w.distances-is, w.weights-is, w.count-is) at c.batch_one.ensures
+    ]

@@ -38,33 +38,6 @@ renumbered {own} {k} {l} {s} e n = subst (λ (x : ℕ). Numbered own x s) e n
 pub loop-i-init : goal.loop-i-init
 loop-i-init c = (search rules, refl, refl, λ j l. absurd (not-suc-le-zero l))
 
-pub overflow_add-sorted : goal.overflow_add-sorted
-overflow_add-sorted c = omega arith
-
-pub offset_bounds-batch_keys-from : goal.offset_bounds-batch_keys-from
-offset_bounds-batch_keys-from c = omega arith
-
-pub bounds-batch_keys-from : goal.bounds-batch_keys-from
-bounds-batch_keys-from c = omega arith
-
-pub offset_bounds-sorted-i : goal.offset_bounds-sorted-i
-offset_bounds-sorted-i c = omega arith
-
-pub bounds-sorted-i : goal.bounds-sorted-i
-bounds-sorted-i c = omega arith
-
-pub offset_bounds-places-i : goal.offset_bounds-places-i
-offset_bounds-places-i c = omega arith
-
-pub bounds-places-i : goal.bounds-places-i
-bounds-places-i c = omega arith
-
-pub overflow_add-i : goal.overflow_add-i
-overflow_add-i c = omega arith
-
-pub loop-i-smaller : goal.loop-i-smaller
-loop-i-smaller c = omega arith
-
 pub loop-i-preserved : goal.loop-i-preserved
 loop-i-preserved c =
     let L = c.loop-i in (

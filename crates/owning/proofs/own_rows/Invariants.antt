@@ -12,6 +12,3 @@ Copied ks from i sorted places = (j : ℕ) → j < i → (get_or sorted j 0 ≡ 
 
 abbrev pub invariant-loop-i : goal.invariant-loop-i
 invariant-loop-i l = (l.i ≤ l.n) × (length l.sorted ≡ 4096) × (length l.places ≡ 4096) × Copied l.batch_keys l.from l.i l.sorted l.places
-
-abbrev pub decreases-loop-i : goal.decreases-loop-i
-decreases-loop-i l = l.n - l.i
