@@ -6,6 +6,7 @@ ghost use Rattle.batching.specs.Batches.{counts, batch};
 ghost use Rattle.answers.specs.Readings.{direct_reading, ray_reading, fuse_back, fuse_handed, batch_back, batch_handed};
 
 use answers::readings::{batch_back, fused_number};
+use batching::Readings;
 use floats::Metres;
 use table::settings_of;
 
@@ -115,9 +116,11 @@ pub extern "C" fn akf_batch_update(
         distances,
         weights,
         count,
-        batch_keys,
-        batch_distances,
-        batch_confidences,
+        &Readings {
+            keys: batch_keys,
+            distances: batch_distances,
+            confidences: batch_confidences,
+        },
     );
     let back = batch_back(batched);
     let counts = back.counts;

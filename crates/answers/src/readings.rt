@@ -35,15 +35,15 @@ pub fn batch_back(batched: Batched) -> ReadingsBack
     ensures at_value { result.at ≡ batched_at batched }
 {
     match batched {
-        Batched::Done(counts) => ReadingsBack {
+        Ok(counts) => ReadingsBack {
             number: DONE,
             counts,
             at: 0,
         },
-        Batched::Refused(why, at, counts) => ReadingsBack {
-            number: u32::from(why),
-            counts,
-            at,
+        Err(refused) => ReadingsBack {
+            number: u32::from(refused.why),
+            counts: refused.counts,
+            at: refused.at,
         },
     }
 }

@@ -1,7 +1,7 @@
 -- A part of a batch through own rows: what is left of it ends as the whole does, beside every table.
 -- Assumes nothing.
 use Rattle.std.specs.Prelude.{Ok, Err, Some, None, Result}
-use mathlib.Core.Path.{◌≡◌, refl, sym, ap, subst, ◌∙◌}
+use mathlib.Core.Path.{◌≡◌, refl, sym, ap, ◌∙◌}
 use mathlib.Core.Bool.{Bool, true, false}
 use mathlib.Core.List.{List, ◌∷◌}
 use Prim.Native.Nat.{ℕ, suc, ◌+◌, ◌<◌, ◌≤◌}

@@ -2,7 +2,7 @@
 // and what is counted, of few readings and of many.
 #![tactic(auto)]
 
-use batching::{Batched, Counts};
+use batching::{Batched, Counts, Readings};
 use floats::Metres;
 use fusing::Fused;
 use refusals::Refusal;
@@ -61,16 +61,18 @@ impl<const ROOM: usize> Field<ROOM> {
         )
     }
 
-    fn take_batch(&mut self, cells: &[u64], sdfs: &[f32], confidences: &[f32]) -> Batched {
+    fn take_batch(&mut self, keys: &[u64], distances: &[f32], confidences: &[f32]) -> Batched {
         batches::batch_update(
             self.settings,
             &mut self.keys,
             &mut self.distances,
             &mut self.weights,
             &mut self.count,
-            cells,
-            sdfs,
-            confidences,
+            &Readings {
+                keys,
+                distances,
+                confidences,
+            },
         )
     }
 }
@@ -93,13 +95,13 @@ fn say_counts(rt: &impl Print, counts: Counts) -> io::Result<()> {
 
 fn say_batch(rt: &impl Print, batched: Batched) -> io::Result<()> {
     match batched {
-        Batched::Done(counts) => {
+        Ok(counts) => {
             println!(rt; "done")?;
             say_counts(rt, counts)
         }
-        Batched::Refused(why, at, counts) => {
-            println!(rt; "refused {}\nat {at}", u32::from(why))?;
-            say_counts(rt, counts)
+        Err(refused) => {
+            println!(rt; "refused {}\nat {}", u32::from(refused.why), refused.at)?;
+            say_counts(rt, refused.counts)
         }
     }
 }

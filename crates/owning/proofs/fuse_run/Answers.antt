@@ -1,19 +1,16 @@
 -- `owning::fuse_run` meets its contract: what is left of the readings ends as the whole does.
 use Rattle.std.specs.Prelude.{Ok}
 use Rattle.owning.specs.declared.Owned.{Owned}
-use mathlib.Core.Path.{◌≡◌, refl, sym, ap, subst, ◌∙◌}
-use Prim.Native.Nat.{ℕ, ◌<◌, ◌-◌, ◌+◌}
-use native.Mathlib.Nat.{add-zero}
+use mathlib.Core.Path.{◌≡◌, ap, ◌∙◌}
 use native.Mathlib.Omega.{arith}
 use borrow.Author.Tests.{ltb-true}
 use lib.Dec.{ltb}
-use lib.ListN.{get_or, take}
+use lib.ListN.{get_or}
 use lib.Ieee.{nan}
 use Rattle.lists.proofs.BesideLaws.{by_length}
 use Rattle.batching.specs.Batches.{entry}
 use Rattle.batching.specs.Read.{entries_in}
 use Rattle.batching.proofs.Batching.{entry_at}
-use Rattle.sorting.specs.Sorting.{Numbered}
 use Rattle.owning.specs.Runs.{passed_far}
 use Rattle.owning.proofs.Running.{passes_over, changes, adds, refuses, stays, ends, one_far, one_near}
 use borrow.Author.Rules.{rules}

@@ -1,7 +1,7 @@
 -- `owning::fuse_run` meets its contract: what is left of the readings ends as the whole does.
 -- Assumes nothing.
 use mathlib.Core.Path.{◌≡◌}
-use Prim.Native.Nat.{◌≤◌, ◌-◌}
+use Prim.Native.Nat.{◌≤◌}
 use lib.ListN.{length}
 use Rattle.batching.specs.Read.{entries_in}
 use Rattle.owning.proofs.Running.{Running, FarRunning}

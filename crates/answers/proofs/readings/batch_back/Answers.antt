@@ -2,18 +2,18 @@
 use mathlib.Core.Path.{refl}
 use Rattle.answers.proofs.readings.batch_back.Goals as goal
 
-pub returns-in-Done : goal.returns-in-Done
-returns-in-Done c =
+pub returns-in-Ok : goal.returns-in-Ok
+returns-in-Ok c =
     record {
-      number_value = rw c.in-Done.is refl;
-      counts_value = rw c.in-Done.is refl;
-      at_value = rw c.in-Done.is refl;
+      number_value = rw c.in-Ok.is refl;
+      counts_value = rw c.in-Ok.is refl;
+      at_value = rw c.in-Ok.is refl;
     }
 
-pub returns-in-Refused : goal.returns-in-Refused
-returns-in-Refused c =
+pub returns-in-Err : goal.returns-in-Err
+returns-in-Err c =
     record {
-      number_value = rw c.in-Refused.is c.from.ensures;
-      counts_value = rw c.in-Refused.is refl;
-      at_value = rw c.in-Refused.is refl;
+      number_value = rw c.in-Err.is c.from.ensures;
+      counts_value = rw c.in-Err.is refl;
+      at_value = rw c.in-Err.is refl;
     }
