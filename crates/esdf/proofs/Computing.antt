@@ -1,7 +1,8 @@
 -- The public call: the tests say what the march may build on, and its answer says what the lists hold. Assumes nothing.
 use Rattle.std.specs.Prelude.{Ok, Err, Result}
+use Rattle.std.specs.Result.{is_err}
 use mathlib.Core.Path.{◌≡◌, refl, sym, ap, subst, ◌∙◌}
-use mathlib.Core.Bool.{Bool, true, ◌&&◌}
+use mathlib.Core.Bool.{Bool, true, ◌&&◌, false, true≢false, false≢true}
 use mathlib.Core.List.{List, [], ◌∷◌}
 use Prim.Native.Nat.{ℕ, zero, suc, ◌-◌, ◌<◌, ◌≤◌}
 use native.Mathlib.Nat.{not-suc-le-zero, le_of_suc-le-suc}
@@ -34,8 +35,10 @@ use Rattle.floats.proofs.Order.{within_finite, between_finite}
 use Rattle.table.specs.Rows.{keys_of as table_keys}
 use Rattle.table.proofs.Laying.{columns, distances_of as table_distances, weights_of as table_weights}
 use Rattle.table.proofs.SettingsLaws.{settings_known, farthest_known}
-use Rattle.esdf.specs.Steps.{Finished, MayMarch, tidied}
-use Rattle.esdf.specs.Compute.{Places, places, set_ok, march_check, tested, marching, outcome, answer_of, keys_left, distances_left, left, computed}
+use Rattle.racing.specs.Racing.{Finished}
+use Rattle.esdf.specs.Steps.{MayMarch, tidied}
+use Rattle.marched.specs.Marched.{pair_ok}
+use Rattle.esdf.specs.Compute.{Places, places, march_check, tested, marching, outcome, answer_of, keys_left, distances_left, left, computed}
 
 -- ---- what passed
 
@@ -112,10 +115,10 @@ tested_course s t threshold fit e =
     record { least = k.0; finite = between_finite zero32 million s.max_distance.0 refl refl b }
 
 -- the lists of a set are equally long
-sets_equal : (a b c d : ℕ) → set_ok a b && set_ok c d ≡ true → (b ≡ a) × (c ≡ d)
+sets_equal : (a b c d : ℕ) → pair_ok a b && pair_ok c d ≡ true → (b ≡ a) × (c ≡ d)
 sets_equal a b c d h = (
-  sym (eqb-true a b (and_first (eqb a b) (leb a 1048576) (and_first (set_ok a b) (set_ok c d) h))),
-  eqb-true c d (and_first (eqb c d) (leb c 1048576) (and_second (set_ok a b) (set_ok c d) h)),
+  sym (eqb-true a b (and_first (eqb a b) (leb a 1048576) (and_first (pair_ok a b) (pair_ok c d) h))),
+  eqb-true c d (and_first (eqb c d) (leb c 1048576) (and_second (pair_ok a b) (pair_ok c d) h)),
 )
 
 -- ---- the lists
@@ -169,13 +172,15 @@ module _ (p : Places) (g : Going) (ks : List ℕ) (ds es : List Float) (cs : Lis
 -- ---- the code's steps
 
 -- a march that is done leaves a list, one that is refused wipes it
-pub stays : {A : Type 0} {n k : ℕ} (v : A) (r : Result (ℕ × ℕ) Refusal) (l : List A) → r ≡ Ok (n, k) → l ≡ tidied v r l
+pub stays : {A : Type 0} (v : A) (r : Result (ℕ × ℕ) Refusal) (l : List A) → is_err r ≡ false → l ≡ tidied v r l
 unfolding tidied
-stays v r l e = rw e
+stays v (Ok (n, t)) l e = refl
+stays v (Err why) l e = absurd (true≢false e)
 
-pub wiped : {A : Type 0} {why : Refusal} (v : A) (r : Result (ℕ × ℕ) Refusal) (l l' : List A) → r ≡ Err why → l' ≡ filled v l → l' ≡ tidied v r l
+pub wiped : {A : Type 0} (v : A) (r : Result (ℕ × ℕ) Refusal) (l l' : List A) → is_err r ≡ true → l' ≡ filled v l → l' ≡ tidied v r l
 unfolding tidied
-wiped v r l l' e f = rw e f
+wiped v (Ok (n, t)) l l' e f = absurd (false≢true e)
+wiped v (Err why) l l' e f = f
 
 module _ (verdict : Result (Unit {0}) Refusal) (g : Going) (ks : List ℕ) (ds es : List Float) (cs : List ℕ) where
   -- a verdict that refuses is the answer
@@ -191,13 +196,13 @@ module _ (verdict : Result (Unit {0}) Refusal) (g : Going) (ks : List ℕ) (ds e
 module _ (s : Settings) (tks : List ℕ) (tds tws : List Float) (n : ℕ) (threshold : Float) (ks₀ cs₀ : List ℕ) (ds₀ es₀ : List Float) where
   pub may_march :
       (ks cs : List ℕ) (ds es : List Float) {fit : Bool} {verdict : Result (Unit {0}) Refusal}
-      → fit ≡ set_ok (length ks₀) (length ds₀) && set_ok (length es₀) (length cs₀)
+      → fit ≡ pair_ok (length ks₀) (length ds₀) && pair_ok (length es₀) (length cs₀)
       → verdict ≡ march_check s (table tks tds tws n) threshold fit
       → ks ≡ filled 0 ks₀
       → ds ≡ filled zero32 ds₀
       → es ≡ filled zero32 es₀
       → cs ≡ filled 0 cs₀
-      → MayMarch verdict (record { size = s.voxel_size.0; most = s.max_distance.0 }) tks tds tws n ks ds es cs
+      → MayMarch verdict (record { size = s.voxel_size.0; most = s.max_distance.0 }) (table tks tds tws n) ks ds es cs
   may_march ks cs ds es {fit} p q a b c d e =
       let h = sym q ∙ e in
       let k = sets_equal (length ks₀) (length ds₀) (length es₀) (length cs₀) (sym p ∙ (tests s (table tks tds tws n) threshold fit h).places) in (
@@ -208,7 +213,7 @@ module _ (s : Settings) (tks : List ℕ) (tds tws : List Float) (n : ℕ) (thres
   -- the whole call
   pub march_left :
       {fit : Bool} {verdict : Result (Unit {0}) Refusal} (ks₁ cs₁ : List ℕ)
-      → fit ≡ set_ok (length ks₀) (length ds₀) && set_ok (length es₀) (length cs₀)
+      → fit ≡ pair_ok (length ks₀) (length ds₀) && pair_ok (length es₀) (length cs₀)
       → verdict ≡ march_check s (table tks tds tws n) threshold fit
       → length ks₁ ≡ length ks₀
       → length cs₁ ≡ length cs₀

@@ -16,9 +16,9 @@ use Rattle.table.specs.declared.Settings.{Settings}
 use Rattle.table.proofs.Checking.{with_passed, went_on}
 use Rattle.marching.specs.March.{State, Going, on, refused, rooms, keys_of, distances_of}
 use Rattle.marching.specs.Lattice.{march_from}
-use Rattle.marched.specs.Marched.{marched_table, marched_check}
+use Rattle.marched.specs.Marched.{marched_table, marched_check, pair_ok}
 use Rattle.marched.proofs.Passing.{march_passes}
-use Rattle.esdf.specs.Compute.{Places, set_ok, places_ok, march_check, tested, marching, answer_of, keys_left, distances_left, left, computed}
+use Rattle.esdf.specs.Compute.{Places, places_ok, march_check, tested, marching, answer_of, keys_left, distances_left, left, computed}
 use Rattle.refusals.specs.declared.Refusal.{Refusal}
 
 module _ (p : Places) (n k : ℕ) where
@@ -53,7 +53,7 @@ module _ (p : Places) (n k : ℕ) where
       (march_from s.voxel_size.0 s.max_distance.0 (rooms p.keys p.cells) threshold (rows t))
       (λ v st g.
       let a = with_passed (places_ok p) s t (went_on (check_with (places_ok p) s t) (need (is_finite threshold) BadReading (Ok tt)) v).0 in
-      let pair = and_first (set_ok p.keys p.distances) _ a.0 in
+      let pair = and_first (pair_ok p.keys p.distances) _ a.0 in
       let same = eqb-true p.keys p.distances (and_first (eqb p.keys p.distances) _ pair) in
       let few = leb-true p.keys 1048576 (and_second (eqb p.keys p.distances) _ pair) in
       rw (← same) (march_passes s t (rooms p.keys p.cells) threshold st a.1 g few)) e

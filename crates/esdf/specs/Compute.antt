@@ -1,5 +1,5 @@
 -- Marching a fused table into lent lists: the tests before the march, and what stands in the lists after it.
-use Rattle.std.specs.Prelude.{ℕ, Bool, ◌&&◌, List, eqb, leb, length, replicate, Float, Ok, Err, Result}
+use Rattle.std.specs.Prelude.{ℕ, Bool, ◌&&◌, List, length, replicate, Float, Ok, Err, Result}
 use Rattle.floats.specs.Floats.{zero32, is_finite}
 use Rattle.lists.specs.Padding.{padded}
 use Rattle.refusals.specs.Refusals.{number_of}
@@ -8,6 +8,7 @@ use Rattle.table.specs.Table.{Table, rows, need, check_with, then_test}
 use Rattle.table.specs.declared.Settings.{Settings}
 use Rattle.marching.specs.March.{Going, on, refused, rooms, keys_of, distances_of}
 use Rattle.marching.specs.Lattice.{march_from}
+use Rattle.marched.specs.Marched.{pair_ok}
 use Rattle.refusals.specs.declared.Refusal.{Refusal}
 
 -- the lengths of the four lists that are filled: marched keys and distances, waiting estimates and keys
@@ -21,11 +22,8 @@ abbrev pub places : ℕ → ℕ → ℕ → ℕ → Places
 places ks ds es cs = record { keys = ks; distances = ds; estimates = es; cells = cs }
 
 -- the two lists of a set are equally long, and no longer than 1,048,576
-abbrev pub set_ok : ℕ → ℕ → Bool
-set_ok a b = eqb a b && leb a 1048576
-
 abbrev pub places_ok : Places → Bool
-places_ok p = set_ok p.keys p.distances && set_ok p.estimates p.cells
+places_ok p = pair_ok p.keys p.distances && pair_ok p.estimates p.cells
 
 -- refusals 1, 2, 3 and 5, in this order; `fit` says that the lists to be filled pass
 unfoldable pub march_check : Settings → Table → Float → Bool → Result (Unit {0}) Refusal

@@ -4,39 +4,20 @@
 ghost use Rattle.std.specs.Prelude.{◌≡◌, length};
 ghost use Rattle.floats.specs.Floats.{zero32};
 ghost use Rattle.lists.specs.Places.{filled};
-ghost use Rattle.table.specs.Table.{table, rows_of};
+ghost use Rattle.table.specs.Table.{table};
 ghost use Rattle.marching.specs.Lattice.{march_from};
 ghost use Rattle.fronts.specs.Fronts.{rooms_of};
-ghost use Rattle.esdf.specs.Steps.{refusal_of, marched_of, Finished, MayMarch, tidied};
-ghost use Rattle.esdf.specs.Compute.{places, set_ok, march_check, tested, outcome, computed};
+ghost use Rattle.racing.specs.Racing.{Finished};
+ghost use Rattle.esdf.specs.Steps.{MayMarch, tidied};
+ghost use Rattle.esdf.specs.Compute.{places, march_check, tested, outcome, computed};
 ghost use Rattle.table.specs.Read.{table_of, rows_in};
 
-use fronts::Stop;
-use lists::LONGEST_LIST;
+use hearing::Plan;
+use marched::pair_ok;
 use marching::Course;
 use racing::{clear, march};
 use refusals::Refusal;
 use table::{Rows, Settings, check_with, then_test};
-
-// What is answered to why a march stopped.
-fn refusal_of(why: Stop) -> Refusal
-    ensures { result ≡ refusal_of why }
-{
-    match why {
-        Stop::NoRow => Refusal::NoPlace,
-        Stop::NoCell => Refusal::NoWaitingPlace,
-    }
-}
-
-// What is answered to what a march says.
-fn marched_of(raced: Result<(usize, usize), Stop>) -> Result<(usize, usize), Refusal>
-    ensures { result ≡ marched_of raced }
-{
-    match raced {
-        Ok((rows, takings)) => Ok((rows, takings)),
-        Err(why) => Err(refusal_of(why)),
-    }
-}
 
 // A refused march leaves zeros.
 fn tidy(
@@ -51,17 +32,9 @@ fn tidy(
     ensures estimates_after { estimates.new ≡ tidied zero32 answer estimates.old }
     ensures cells_after { cells.new ≡ tidied 0 answer cells.old }
 {
-    match answer {
-        Ok((_, _)) => {}
-        Err(_) => clear(keys, distances, estimates, cells),
+    if answer.is_err() {
+        clear(keys, distances, estimates, cells);
     }
-}
-
-// The lists of a set are equally long, and no longer than the limit.
-fn set_ok(a: usize, b: usize) -> bool
-    ensures { result ≡ set_ok a b }
-{
-    (a == b) & (a <= LONGEST_LIST)
 }
 
 // Refusals 1, 2, 3 and 5; `fit` says that the lists to be filled pass.
@@ -75,25 +48,20 @@ fn check(settings: Settings, rows: &Rows, threshold: f32, fit: bool) -> Result<(
 // The march, if the tests have passed.
 fn march_if(
     verdict: Result<(), Refusal>,
-    fused: &Rows,
-    threshold: f32,
-    course: Course,
+    plan: &Plan,
     keys: &mut [u64],
     distances: &mut [f32],
     estimates: &mut [f32],
     cells: &mut [u64],
 ) -> Result<(usize, usize), Refusal>
-    requires { MayMarch verdict course fused.now.keys.now fused.now.distances.now fused.now.weights.now fused.now.count
-        keys.old distances.old estimates.old cells.old }
+    requires { MayMarch verdict plan.now.course (table_of plan.now.fused) keys.old distances.old estimates.old cells.old }
     ensures { Finished (tested verdict
-        (march_from course.size course.most (rooms_of keys.old cells.old) threshold
-        (rows_in fused.now))) result
+        (march_from plan.now.course.size plan.now.course.most (rooms_of keys.old cells.old) plan.now.threshold
+        (rows_in plan.now.fused))) result
         keys.new distances.new estimates.new cells.new }
 {
-    match verdict {
-        Err(why) => Err(why),
-        Ok(()) => marched_of(march(fused, threshold, course, keys, distances, estimates, cells)),
-    }
+    verdict?;
+    march(plan, keys, distances, estimates, cells)
 }
 
 // The march over a fused table: its rows into the marched lists, by way of the waiting ones.
@@ -112,8 +80,8 @@ pub fn compute_from_tsdf(
         (places (length marched_keys.old) (length marched_distances.old)
         (length waiting_estimates.old) (length waiting_keys.old)) }
 {
-    let fit = set_ok(marched_keys.len(), marched_distances.len())
-        & set_ok(waiting_estimates.len(), waiting_keys.len());
+    let fit = pair_ok(marched_keys.len(), marched_distances.len())
+        & pair_ok(waiting_estimates.len(), waiting_keys.len());
     let verdict = check(settings, rows, threshold, fit);
     clear(
         marched_keys,
@@ -121,15 +89,17 @@ pub fn compute_from_tsdf(
         waiting_estimates,
         waiting_keys,
     );
-    let course = Course {
-        size: settings.voxel_size.0,
-        most: settings.max_distance.0,
+    let plan = Plan {
+        fused: *rows,
+        threshold,
+        course: Course {
+            size: settings.voxel_size.0,
+            most: settings.max_distance.0,
+        },
     };
     let answer = march_if(
         verdict,
-        rows,
-        threshold,
-        course,
+        &plan,
         marched_keys,
         marched_distances,
         waiting_estimates,

@@ -26,9 +26,9 @@ use Rattle.hearing.specs.Hearing.{waiting_mark, or_waits, mark_of, Marked}
 use Rattle.hearing.proofs.Fitting.{marks_fit}
 use Rattle.hearing.proofs.Saying.{unmarked}
 use Rattle.hearing.proofs.Walking.{real_key}
-use Rattle.fronts.specs.declared.Stop.TheVariants.{NoRow, NoCell}
-use Rattle.fronts.specs.Fronts.{marking, Front, Stopped, LeftRows, LeftCells, DoesWait}
-use Rattle.fronts.specs.declared.Stop.{Stop}
+use Rattle.refusals.specs.declared.Refusal.TheVariants.{NoPlace, NoWaitingPlace}
+use Rattle.fronts.specs.Fronts.{marking, Front, LeftRows, LeftCells, DoesWait}
+use Rattle.refusals.specs.declared.Refusal.{Refusal}
 
 -- ---- stored cells
 
@@ -143,8 +143,8 @@ module _ (lean : Bool) (e : Float) (k : ℕ) (s : State) (w : ℕ) (ks : List �
 
   module _ (p : is_stored k s.stored ≡ false) (q : waits k s.waiting ≡ false) where
     -- no place is left
-    wait_refused : length cs ≤ w → LeftCells lean (wait (length cs) e k s) s (Err NoCell) ks ds es cs
-    unfolding wait LeftCells Stopped
+    wait_refused : length cs ≤ w → LeftCells lean (wait (length cs) e k s) s (Err NoWaitingPlace) ks ds es cs
+    unfolding wait LeftCells
     wait_refused l = rw (p, q, le-ltb (length s.waiting) (length cs) (let c = h.heap.counted in omega arith))
 
     -- it gets a place
@@ -182,7 +182,7 @@ module _ (e : Float) (k : ℕ) (on-lattice : on_lattice k ≡ true) (s : State) 
       let u = unmarked s.stored (cells_of s.waiting) ks ds h.marked k (real_key k on-lattice) (value_absent (label k) ks ds p a) in
       (no_stored k s.stored u.0, u.1)
 
-  pub mark_full : length cs ≤ w → LeftCells false (wait (length cs) e k s) s (Err NoCell) ks ds es cs
+  pub mark_full : length cs ≤ w → LeftCells false (wait (length cs) e k s) s (Err NoWaitingPlace) ks ds es cs
   mark_full l = wait_refused false e k s w ks ds es cs h bare.0 bare.1 l
 
   -- it gets a mark and a place
@@ -229,7 +229,7 @@ module _ (seed : ℕ → Bool) (f : Field) (from : ℕ) (e : Float) (k : ℕ) (o
   pub lean_already : b ≡ true → LeftCells true (wait (length cs) e k s) s (Ok w) ks ds es cs
   lean_already t = wait_skips true e k s w ks ds es cs h (rw (tells ∙ t) (or-true (is_stored k s.stored)))
 
-  pub lean_full : b ≡ false → length cs ≤ w → LeftCells true (wait (length cs) e k s) s (Err NoCell) ks ds es cs
+  pub lean_full : b ≡ false → length cs ≤ w → LeftCells true (wait (length cs) e k s) s (Err NoWaitingPlace) ks ds es cs
   lean_full t l = wait_refused true e k s w ks ds es cs h new (tells ∙ t) l
 
   pub lean_placed :
@@ -260,8 +260,8 @@ module _ (seed : ℕ → Bool) (f : Field) (from : ℕ) (e : Float) (k : ℕ) (o
 module _ (k : ℕ) (on-lattice : on_lattice k ≡ true) (v : Float) (f : is_finite v ≡ true) (s : State) (ws vs : List ℕ) (n : ℕ) (ks : List ℕ) (ds : List Float)
     (h : Marked s.stored ws ks ds) (same : (j : ℕ) → (k ≡ j → ⊥) → member j ws ≡ member j vs) (c : n ≡ length s.stored)
     (o : member k (keys_of s.stored) ≡ false) where
-  pub store_full : length ks ≤ n → LeftRows (store (length ks) (marched_row k v) s) s vs (Err NoRow) ks ds
-  unfolding store LeftRows Stopped
+  pub store_full : length ks ≤ n → LeftRows (store (length ks) (marched_row k v) s) s vs (Err NoPlace) ks ds
+  unfolding store LeftRows
   store_full l = rw (le-ltb (length s.stored) (length ks) (omega arith))
 
   module _ (l : n < length ks) where
@@ -326,7 +326,7 @@ waits_entered s k p v ks ds ks' ds' w es cs did h few absent =
 -- a march of the same kind
 pub wait_as :
     (lean l : Bool) (seed : ℕ → Bool) (f : Field) (k : ℕ) (ns : List ℕ) (go : State → Going) (ks : List ℕ) (ds : List Float) (w : ℕ) (es : List Float)
-    (cs : List ℕ) (r : Result ℕ Stop) (ks' : List ℕ) (ds' es' : List Float) (cs' : List ℕ)
+    (cs : List ℕ) (r : Result ℕ Refusal) (ks' : List ℕ) (ds' es' : List Float) (cs' : List ℕ)
     → lean ≡ l
     → DoesWait l seed f k ns go ks ds w es cs r ks' ds' es' cs'
     → DoesWait lean seed f k ns go ks ds w es cs r ks' ds' es' cs'

@@ -27,7 +27,7 @@ use Rattle.marching.proofs.Numbers.{settled_finite, number_equal}
 use Rattle.marching.proofs.Sound.{after_on}
 use Rattle.marching.proofs.Spreading.{no_stored, store_is}
 use Rattle.hearing.specs.Hearing.{Marked, said}
-use Rattle.fronts.specs.declared.Stop.{Stop}
+use Rattle.refusals.specs.declared.Refusal.{Refusal}
 use Rattle.fronts.specs.Fronts.{Fair, marking, marking_also, Front, Held, Taken, MarksFit, rooms_of, LeftRows, LeftCells, Left, ToldOnce, ToldFirst, DoesWait}
 use Rattle.fronts.proofs.Marking.{marked_skip, stored_some}
 use Rattle.fronts.proofs.Walking.{stopped_then, stopped_by}
@@ -66,17 +66,17 @@ stored_room lean m n r s ks ks' wide room t e q =
 -- ---- a row is stored (g), then cells wait (go)
 
 module _ (lean : Bool) (seed : ℕ → Bool) (f : Field) (k : ℕ) (g : Going) (go : State → Going) (s : State) (w : ℕ) (es : List Float) (cs : List ℕ)
-    (h : Heaped s.waiting w es cs) (lattice : (j : ℕ) → member j (cells_of s.waiting) ≡ true → on_lattice j ≡ true) (p : Result ℕ Stop) (ks : List ℕ)
+    (h : Heaped s.waiting w es cs) (lattice : (j : ℕ) → member j (cells_of s.waiting) ≡ true → on_lattice j ≡ true) (p : Result ℕ Refusal) (ks : List ℕ)
     (ds : List Float) (did : LeftRows g s (marking lean s.waiting) p ks ds) where
-  pub no_row : (why : Stop) → p ≡ Err why → (es' : List Float) (cs' : List ℕ) → Left lean (and_then g go) (Err why) ks ds es' cs'
+  pub no_row : (why : Refusal) → p ≡ Err why → (es' : List Float) (cs' : List ℕ) → Left lean (and_then g go) (Err why) ks ds es' cs'
   unfolding LeftRows Left
-  no_row why e es' cs' = stopped_then g go why (subst (λ (o : Result ℕ Stop). LeftRows g s (marking lean s.waiting) o ks ds) e did)
+  no_row why e es' cs' = stopped_then g go why (subst (λ (o : Result ℕ Refusal). LeftRows g s (marking lean s.waiting) o ks ds) e did)
 
   module _ (told : (t : State) → g ≡ on t → Told seed f k (f.near k) t) (room : (t : State) → g ≡ on t → MarksFit lean (length (f.near k)) t ks) (n : ℕ)
-      (e : p ≡ Ok n) (q : Result ℕ Stop) (ks' : List ℕ) (ds' es' : List Float) (cs' : List ℕ)
+      (e : p ≡ Ok n) (q : Result ℕ Refusal) (ks' : List ℕ) (ds' es' : List Float) (cs' : List ℕ)
       (then-did : DoesWait lean seed f k (f.near k) go ks ds w es cs q ks' ds' es' cs') where
     stored : LeftRows g s (marking lean s.waiting) (Ok n) ks ds
-    stored = subst (λ (o : Result ℕ Stop). LeftRows g s (marking lean s.waiting) o ks ds) e did
+    stored = subst (λ (o : Result ℕ Refusal). LeftRows g s (marking lean s.waiting) o ks ds) e did
 
     front : (t : State)
         → t.waiting ≡ s.waiting
@@ -89,10 +89,10 @@ module _ (lean : Bool) (seed : ℕ → Bool) (f : Field) (k : ℕ) (g : Going) (
           lattice = λ j i. lattice j (sym (ap (λ (l : List Cell). member j (cells_of l)) a) ∙ i);
         }
 
-    waited : (o : Result ℕ Stop) → q ≡ o → (t : State) → Front lean t ks ds w es cs → g ≡ on t → LeftCells lean (go t) t o ks' ds' es' cs'
-    waited o a t b m = subst (λ (o : Result ℕ Stop). LeftCells lean (go t) t o ks' ds' es' cs') a (then-did t b (told t m) (room t m))
+    waited : (o : Result ℕ Refusal) → q ≡ o → (t : State) → Front lean t ks ds w es cs → g ≡ on t → LeftCells lean (go t) t o ks' ds' es' cs'
+    waited o a t b m = subst (λ (o : Result ℕ Refusal). LeftCells lean (go t) t o ks' ds' es' cs') a (then-did t b (told t m) (room t m))
 
-    pub no_cell : (why : Stop) → q ≡ Err why → Left lean (and_then g go) (Err why) ks' ds' es' cs'
+    pub no_cell : (why : Refusal) → q ≡ Err why → Left lean (and_then g go) (Err why) ks' ds' es' cs'
     unfolding LeftRows LeftCells Left and_then
     no_cell why a =
         let x = stored in
@@ -114,7 +114,7 @@ module _ (lean : Bool) (seed : ℕ → Bool) (f : Field) (k : ℕ) (g : Going) (
 -- an equal estimate serves as well
 pub with_size :
     (lean : Bool) (seed : ℕ → Bool) (f : Field) (k m : ℕ) (e e' : Float) (ns : List ℕ) (ks : List ℕ) (ds : List Float) (w : ℕ) (es : List Float)
-    (cs : List ℕ) (q : Result ℕ Stop) (ks' : List ℕ) (ds' es' : List Float) (cs' : List ℕ)
+    (cs : List ℕ) (q : Result ℕ Refusal) (ks' : List ℕ) (ds' es' : List Float) (cs' : List ℕ)
     → e ≡ e'
     → DoesWait lean seed f k ns (wait_all m e ns) ks ds w es cs q ks' ds' es' cs'
     → DoesWait lean seed f k ns (wait_all m e' ns) ks ds w es cs q ks' ds' es' cs'
@@ -127,7 +127,7 @@ module _ (lean : Bool) (seed : ℕ → Bool) (f : Field) (r : MarchedRow) (ks : 
     (o : e ≡ onward f r.distance) (b : Bool) (asked : b ≡ le e f.most) where
   pub spread_waits :
       b ≡ true
-      → (q : Result ℕ Stop) (ks' : List ℕ) (ds' es' : List Float) (cs' : List ℕ)
+      → (q : Result ℕ Refusal) (ks' : List ℕ) (ds' es' : List Float) (cs' : List ℕ)
       → DoesWait lean seed f r.key (f.near r.key) (wait_all (length cs) e (f.near r.key)) ks ds w es cs q ks' ds' es' cs'
       → DoesWait lean seed f r.key (f.near r.key) (spread f (length cs) r) ks ds w es cs q ks' ds' es' cs'
   unfolding spread
@@ -143,7 +143,7 @@ module _ (lean : Bool) (seed : ℕ → Bool) (f : Field) (r : MarchedRow) (ks : 
 pub settle_by :
     (lean : Bool) (f : Field) (m : Rooms) (k : ℕ) (s : State) (d : Float)
     → d ≡ settled f s.stored k
-    → (r : Result (ℕ × ℕ) Stop) (ks : List ℕ) (ds : List Float) (es : List Float) (cs : List ℕ)
+    → (r : Result (ℕ × ℕ) Refusal) (ks : List ℕ) (ds : List Float) (es : List Float) (cs : List ℕ)
     → Left lean (and_then (store m.rows (marched_row k d) s) (spread f m.cells (marched_row k d))) r ks ds es cs
     → Left lean (settle f m k s) r ks ds es cs
 unfolding settle
@@ -245,7 +245,7 @@ module _ (lean : Bool) (seed : ℕ → Bool) (f : Field) (s : State) (n : ℕ) (
       is_finite d ≡ false
       → ToldFirst seed f s
       → ((k : ℕ) → MarksFit lean (suc (length (f.near k))) s ks)
-      → (r : Result (ℕ × ℕ) Stop) (ks' : List ℕ) (ds' es'' : List Float) (cs'' : List ℕ)
+      → (r : Result (ℕ × ℕ) Refusal) (ks' : List ℕ) (ds' es'' : List Float) (cs'' : List ℕ)
       → ((t : State)
       → Taken lean (get_or cs 0 0) t n ks ds (w - 1) es' cs'
       → ToldOnce seed f (get_or cs 0 0) t
@@ -277,7 +277,7 @@ finite_by c d rs k fair e = rw e (settled_finite (lattice_of c) rs k fair.least 
 -- ---- the two steps whole
 
 -- what storing k at the distance d says
-abbrev pub Stores : ℕ → Float → ℕ → List ℕ → List Float → Result ℕ Stop → List ℕ → List Float → Type 0
+abbrev pub Stores : ℕ → Float → ℕ → List ℕ → List Float → Result ℕ Refusal → List ℕ → List Float → Type 0
 Stores k d n ks ds p ks' ds' =
     (s : State) (ws vs : List ℕ)
     → Marked s.stored ws ks ds
@@ -291,7 +291,7 @@ Stores k d n ks ds p ks' ds' =
 -- a seed is sown
 module _ (c : Course) (lean : Bool) (seed : ℕ → Bool) (k n : ℕ) (ks : List ℕ) (ds : List Float) (w : ℕ) (es : List Float) (cs : List ℕ) (s : State)
     (h : Held lean s n ks ds w es cs) (o : member k (keys_of s.stored) ≡ false) (told : ToldOnce seed (lattice_of c) k s)
-    (room : MarksFit lean (suc (length (neighbours k))) s ks) (d : Float) (finite : is_finite d ≡ true) (p : Result ℕ Stop) (ks₁ : List ℕ) (ds₁ : List Float)
+    (room : MarksFit lean (suc (length (neighbours k))) s ks) (d : Float) (finite : is_finite d ≡ true) (p : Result ℕ Refusal) (ks₁ : List ℕ) (ds₁ : List Float)
     (wide : length ks₁ ≡ length ks) (stores : Stores k d n ks ds p ks₁ ds₁) where
   sown_row : LeftRows (store (length ks) (marched_row k d) s) s (marking lean s.waiting) p ks₁ ds₁
   sown_row =
@@ -301,15 +301,15 @@ module _ (c : Course) (lean : Bool) (seed : ℕ → Bool) (k n : ℕ) (ks : List
   after_room : (t : State) → store (length ks) (marched_row k d) s ≡ on t → MarksFit lean (length (neighbours k)) t ks₁
   after_room = stored_room lean (length ks) (length (neighbours k)) (marched_row k d) s ks ks₁ wide room
 
-  pub sow_no_row : (why : Stop) → p ≡ Err why → Left lean (sow neighbours (rooms_of ks cs) (marched_row k d) s) (Err why) ks₁ ds₁ es cs
+  pub sow_no_row : (why : Refusal) → p ≡ Err why → Left lean (sow neighbours (rooms_of ks cs) (marched_row k d) s) (Err why) ks₁ ds₁ es cs
   unfolding sow
   sow_no_row why e =
       no_row lean seed (lattice_of c) k (store (length ks) (marched_row k d) s) (wait_all (length cs) (size_of d) (neighbours k)) s w es cs
       h.front.heap h.front.lattice p ks₁ ds₁ sown_row why e es cs
 
-  module _ (m : ℕ) (e : p ≡ Ok m) (x : Float) (is : x ≡ size_of d) (q : Result ℕ Stop) (ks' : List ℕ) (ds' es' : List Float) (cs' : List ℕ)
+  module _ (m : ℕ) (e : p ≡ Ok m) (x : Float) (is : x ≡ size_of d) (q : Result ℕ Refusal) (ks' : List ℕ) (ds' es' : List Float) (cs' : List ℕ)
       (waits : DoesWait lean seed (lattice_of c) k (neighbours k) (wait_all (length cs) x (neighbours k)) ks₁ ds₁ w es cs q ks' ds' es' cs') where
-    pub sow_no_cell : (why : Stop) → q ≡ Err why → Left lean (sow neighbours (rooms_of ks cs) (marched_row k d) s) (Err why) ks' ds' es' cs'
+    pub sow_no_cell : (why : Refusal) → q ≡ Err why → Left lean (sow neighbours (rooms_of ks cs) (marched_row k d) s) (Err why) ks' ds' es' cs'
     unfolding sow
     sow_no_cell why a =
         no_cell lean seed (lattice_of c) k (store (length ks) (marched_row k d) s) (wait_all (length cs) (size_of d) (neighbours k)) s w es cs
@@ -329,7 +329,7 @@ module _ (c : Course) (lean : Bool) (seed : ℕ → Bool) (k n : ℕ) (ks : List
 module _ (c : Course) (fair : Fair c) (lean : Bool) (seed : ℕ → Bool) (k n : ℕ) (ks : List ℕ) (ds : List Float) (w : ℕ) (es : List Float) (cs : List ℕ)
     (s : State) (h : Taken lean k s n ks ds w es cs) (told : ToldOnce seed (lattice_of c) k s)
     (room : MarksFit lean (suc (suc (length (neighbours k)))) s ks) (d : Float) (is : d ≡ settled (lattice_of c) s.stored k)
-    (p : Result ℕ Stop) (ks₁ : List ℕ) (ds₁ : List Float) (wide : length ks₁ ≡ length ks) (stores : Stores k d n ks ds p ks₁ ds₁) where
+    (p : Result ℕ Refusal) (ks₁ : List ℕ) (ds₁ : List Float) (wide : length ks₁ ≡ length ks) (stores : Stores k d n ks ds p ks₁ ds₁) where
   settled_row : LeftRows (store (length ks) (marched_row k d) s) s (marking lean s.waiting) p ks₁ ds₁
   settled_row =
       stores s (marking_also lean k s.waiting) (marking lean s.waiting) h.marked (taken_same lean k s.waiting)
@@ -339,15 +339,15 @@ module _ (c : Course) (fair : Fair c) (lean : Bool) (seed : ℕ → Bool) (k n :
   settled_room =
       stored_room lean (length ks) (length (neighbours k)) (marched_row k d) s ks ks₁ wide (λ q. let a = room q in omega arith)
 
-  pub settle_no_row : (why : Stop) → p ≡ Err why → Left lean (settle (lattice_of c) (rooms_of ks cs) k s) (Err why) ks₁ ds₁ es cs
+  pub settle_no_row : (why : Refusal) → p ≡ Err why → Left lean (settle (lattice_of c) (rooms_of ks cs) k s) (Err why) ks₁ ds₁ es cs
   settle_no_row why e =
       settle_by lean (lattice_of c) (rooms_of ks cs) k s d is (Err why) ks₁ ds₁ es cs
       (no_row lean seed (lattice_of c) k (store (length ks) (marched_row k d) s) (spread (lattice_of c) (length cs) (marched_row k d)) s w es cs
       h.heap h.lattice p ks₁ ds₁ settled_row why e es cs)
 
-  module _ (m : ℕ) (e : p ≡ Ok m) (q : Result ℕ Stop) (ks' : List ℕ) (ds' es' : List Float) (cs' : List ℕ)
+  module _ (m : ℕ) (e : p ≡ Ok m) (q : Result ℕ Refusal) (ks' : List ℕ) (ds' es' : List Float) (cs' : List ℕ)
       (waits : DoesWait lean seed (lattice_of c) k (neighbours k) (spread (lattice_of c) (length cs) (marched_row k d)) ks₁ ds₁ w es cs q ks' ds' es' cs') where
-    pub settle_no_cell : (why : Stop) → q ≡ Err why → Left lean (settle (lattice_of c) (rooms_of ks cs) k s) (Err why) ks' ds' es' cs'
+    pub settle_no_cell : (why : Refusal) → q ≡ Err why → Left lean (settle (lattice_of c) (rooms_of ks cs) k s) (Err why) ks' ds' es' cs'
     settle_no_cell why a =
         settle_by lean (lattice_of c) (rooms_of ks cs) k s d is (Err why) ks' ds' es' cs'
         (no_cell lean seed (lattice_of c) k (store (length ks) (marched_row k d) s) (spread (lattice_of c) (length cs) (marched_row k d)) s w es cs

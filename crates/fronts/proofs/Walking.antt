@@ -20,19 +20,17 @@ use Rattle.marching.proofs.Sound.{after_on}
 use Rattle.marching.proofs.Crowding.{Waiting, wait_adds}
 use Rattle.marching.proofs.Spreading.{Waited, wait_waited}
 use Rattle.marching.proofs.Telling.{told_on}
-use Rattle.fronts.specs.declared.Stop.{Stop}
-use Rattle.fronts.specs.declared.Stop.TheVariants.{NoRow, NoCell}
+use Rattle.refusals.specs.declared.Refusal.{Refusal}
 use Rattle.fronts.specs.Fronts.{Front, MarksFit, Stopped, LeftCells, DoesWait}
 
 -- ---- a step that stopped
 
 -- what comes after it does not count
-pub stopped_then : (g : Going) (f : State → Going) (why : Stop) → Stopped g why → Stopped (and_then g f) why
-unfolding Stopped and_then
-stopped_then g f NoRow h = rw h
-stopped_then g f NoCell h = rw h
+pub stopped_then : (g : Going) (f : State → Going) (why : Refusal) → Stopped g why → Stopped (and_then g f) why
+unfolding and_then
+stopped_then g f why h = rw h
 
-pub stopped_by : (g g' : Going) (why : Stop) → g ≡ g' → Stopped g' why → Stopped g why
+pub stopped_by : (g g' : Going) (why : Refusal) → g ≡ g' → Stopped g' why → Stopped g why
 stopped_by g g' why e h = subst (λ (x : Going). Stopped x why) (sym e) h
 
 -- ---- all neighbours wait, from place i of them on
@@ -64,7 +62,7 @@ module _ (lean : Bool) (seed : ℕ → Bool) (f : Field) (k : ℕ) (e : Float) (
   rest_all s h told room = (s, (refl, (h, (told, (room, refl)))))
 
   module _ (i : ℕ) (ks : List ℕ) (ds : List Float) (w : ℕ) (es : List Float) (cs : List ℕ) (r : Rest_at i ks ds w es cs) where
-    module _ (long : length cs ≡ length cs₀) (l : i < length ns) (p : Result ℕ Stop) (ks' : List ℕ) (ds' es' : List Float)
+    module _ (long : length cs ≡ length cs₀) (l : i < length ns) (p : Result ℕ Refusal) (ks' : List ℕ) (ds' es' : List Float)
         (cs' : List ℕ) (does : DoesWait lean seed f k (get_or list i 0 ∷ []) (wait (length cs) e (get_or list i 0)) ks ds w es cs p ks' ds' es' cs') where
       here : drop i ns ≡ get_or list i 0 ∷ drop (suc i) ns
       here = drop-cons ns i 0 l ∙ ap (λ (n : ℕ). n ∷ drop (suc i) ns) (sym (ap (λ (x : List ℕ). get_or x i 0) listed ∙ padded_at 0 14 ns i))
@@ -81,10 +79,10 @@ module _ (lean : Bool) (seed : ℕ → Bool) (f : Field) (k : ℕ) (e : Float) (
           wider true b q = refl
           wider false b q = absurd (true≢false (sym q))
 
-      done : (o : Result ℕ Stop) → p ≡ o → (t : State) → Front lean t ks ds w es cs → Told seed f k (drop i ns) t → MarksFit lean (length (drop i ns)) t ks
+      done : (o : Result ℕ Refusal) → p ≡ o → (t : State) → Front lean t ks ds w es cs → Told seed f k (drop i ns) t → MarksFit lean (length (drop i ns)) t ks
           → LeftCells lean (wait (length cs) e (get_or list i 0) t) t o ks' ds' es' cs'
       done o a t h told room =
-          subst (λ (o : Result ℕ Stop). LeftCells lean (wait (length cs) e (get_or list i 0) t) t o ks' ds' es' cs') a
+          subst (λ (o : Result ℕ Refusal). LeftCells lean (wait (length cs) e (get_or list i 0) t) t o ks' ds' es' cs') a
           (does t h (told_here t told) (λ q. let x = room q in let y = ap length here in omega arith))
 
       -- a cell waits, or already did
@@ -120,7 +118,7 @@ module _ (lean : Bool) (seed : ℕ → Bool) (f : Field) (k : ℕ) (e : Float) (
           )
 
       -- one stops
-      pub rest_stop : (why : Stop) → p ≡ Err why
+      pub rest_stop : (why : Refusal) → p ≡ Err why
           → (s : State) → Front lean s ks₀ ds₀ w₀ es₀ cs₀ → Told seed f k ns s → MarksFit lean (length ns) s ks₀
           → LeftCells lean (wait_all (length cs₀) e ns s) s (Err why) ks' ds' es' cs'
       unfolding LeftCells

@@ -6,14 +6,12 @@ use Rattle.floats.specs.Floats.{zero32, is_finite}
 use Rattle.heap.specs.Heap.{Heaped}
 use Rattle.ids.specs.Key.{on_lattice}
 use Rattle.lists.specs.Lists.{insert}
-use Rattle.refusals.specs.declared.Refusal.TheVariants.{NoPlace, NoWaitingPlace}
 use Rattle.search.specs.Keys.{member}
 use Rattle.marching.specs.declared.Course.{Course}
 use Rattle.marching.specs.March.{marched_row, Cell, State, state, Field, Going, on, refused, Rooms, rooms, row_before, keys_of, cells_of, is_stored}
 use Rattle.marching.specs.Spreading.{Told}
 use Rattle.hearing.specs.Hearing.{Marked}
-use Rattle.fronts.specs.declared.Stop.{Stop}
-use Rattle.fronts.specs.declared.Stop.TheVariants.{NoRow, NoCell}
+use Rattle.refusals.specs.declared.Refusal.{Refusal}
 
 -- ---- what is lent
 
@@ -54,24 +52,23 @@ MarksFit lean n s ks = lean ≡ false → length s.stored + length s.waiting + n
 
 -- ---- what a step leaves
 
--- why a step stopped: a row or a cell has no place
-unfoldable pub Stopped : Going → Stop → Type 0
-Stopped g NoRow = g ≡ refused NoPlace
-Stopped g NoCell = g ≡ refused NoWaitingPlace
+-- why a step stopped
+abbrev pub Stopped : Going → Refusal → Type 0
+Stopped g why = g ≡ refused why
 
 -- a step on the rows, from the state s; afterwards the cells vs have marks beside them
-unfoldable pub LeftRows : Going → State → List ℕ → Result ℕ Stop → List ℕ → List Float → Type 0
+unfoldable pub LeftRows : Going → State → List ℕ → Result ℕ Refusal → List ℕ → List Float → Type 0
 LeftRows g s vs (Ok n) ks ds =
     (t : State) × ((g ≡ on t) × ((t.waiting ≡ s.waiting) × (Marked t.stored vs ks ds × (n ≡ length t.stored))))
 LeftRows g s vs (Err why) ks ds = Stopped g why
 
 -- a step on the waiting cells
-unfoldable pub LeftCells : Bool → Going → State → Result ℕ Stop → List ℕ → List Float → List Float → List ℕ → Type 0
+unfoldable pub LeftCells : Bool → Going → State → Result ℕ Refusal → List ℕ → List Float → List Float → List ℕ → Type 0
 LeftCells lean g s (Ok w) ks ds es cs = (t : State) × ((g ≡ on t) × ((t.stored ≡ s.stored) × Front lean t ks ds w es cs))
 LeftCells lean g s (Err why) ks ds es cs = Stopped g why
 
 -- a step on both
-unfoldable pub Left : Bool → Going → Result (ℕ × ℕ) Stop → List ℕ → List Float → List Float → List ℕ → Type 0
+unfoldable pub Left : Bool → Going → Result (ℕ × ℕ) Refusal → List ℕ → List Float → List Float → List ℕ → Type 0
 Left lean g (Ok (n, w)) ks ds es cs = (t : State) × ((g ≡ on t) × Held lean t n ks ds w es cs)
 Left lean g (Err why) ks ds es cs = Stopped g why
 
@@ -89,13 +86,13 @@ ToldFirst seed f s =
     → ToldOnce seed f c.key (state s.stored cs (suc s.takings))
 
 -- what a step does to lists that hold a state: some neighbours of k wait
-abbrev pub DoesWait : Bool → (ℕ → Bool) → Field → ℕ → List ℕ → (State → Going) → List ℕ → List Float → ℕ → List Float → List ℕ → Result ℕ Stop → List ℕ
+abbrev pub DoesWait : Bool → (ℕ → Bool) → Field → ℕ → List ℕ → (State → Going) → List ℕ → List Float → ℕ → List Float → List ℕ → Result ℕ Refusal → List ℕ
     → List Float → List Float → List ℕ → Type 0
 DoesWait lean seed f k ns go ks ds w es cs r ks' ds' es' cs' =
     (s : State) → Front lean s ks ds w es cs → Told seed f k ns s → MarksFit lean (length ns) s ks → LeftCells lean (go s) s r ks' ds' es' cs'
 
 -- k, which is not stored yet, is stored
-abbrev pub DoesSow : Bool → (ℕ → Bool) → Field → ℕ → (State → Going) → ℕ → List ℕ → List Float → ℕ → List Float → List ℕ → Result (ℕ × ℕ) Stop → List ℕ → List Float
+abbrev pub DoesSow : Bool → (ℕ → Bool) → Field → ℕ → (State → Going) → ℕ → List ℕ → List Float → ℕ → List Float → List ℕ → Result (ℕ × ℕ) Refusal → List ℕ → List Float
     → List Float → List ℕ → Type 0
 DoesSow lean seed f k go n ks ds w es cs r ks' ds' es' cs' =
     (s : State)
@@ -106,7 +103,7 @@ DoesSow lean seed f k go n ks ds w es cs r ks' ds' es' cs' =
     → Left lean (go s) r ks' ds' es' cs'
 
 -- the first waiting cell is taken
-abbrev pub DoesTake : Bool → (ℕ → Bool) → Field → (State → Going) → ℕ → List ℕ → List Float → ℕ → List Float → List ℕ → Result (ℕ × ℕ) Stop → List ℕ → List Float
+abbrev pub DoesTake : Bool → (ℕ → Bool) → Field → (State → Going) → ℕ → List ℕ → List Float → ℕ → List Float → List ℕ → Result (ℕ × ℕ) Refusal → List ℕ → List Float
     → List Float → List ℕ → Type 0
 DoesTake lean seed f go n ks ds w es cs r ks' ds' es' cs' =
     (s : State)
@@ -128,7 +125,7 @@ pub record Taken (lean : Bool) (k : ℕ) (s : State) (n : ℕ) (ks : List ℕ) (
   pub count : n ≡ length s.stored
   pub new : member k (keys_of s.stored) ≡ false
 
-abbrev pub DoesSettle : Bool → (ℕ → Bool) → Field → ℕ → (State → Going) → ℕ → List ℕ → List Float → ℕ → List Float → List ℕ → Result (ℕ × ℕ) Stop → List ℕ
+abbrev pub DoesSettle : Bool → (ℕ → Bool) → Field → ℕ → (State → Going) → ℕ → List ℕ → List Float → ℕ → List Float → List ℕ → Result (ℕ × ℕ) Refusal → List ℕ
     → List Float → List Float → List ℕ → Type 0
 DoesSettle lean seed f k go n ks ds w es cs r ks' ds' es' cs' =
     (s : State)

@@ -11,26 +11,16 @@ ghost use Rattle.ids.specs.Key.{on_lattice};
 ghost use Rattle.neighbors.specs.Neighbors.{neighbours};
 ghost use Rattle.marks.specs.Marks.{spot_of};
 ghost use Rattle.search.specs.Keys.{member};
-ghost use Rattle.table.specs.Table.{rows_of};
 ghost use Rattle.marching.specs.March.{marched_row, State, keys_of, store, wait, wait_all, sow, spread, settle, take};
-ghost use Rattle.marching.specs.Lattice.{lattice_of};
-ghost use Rattle.marching.specs.Spreading.{seed_in};
-ghost use Rattle.hearing.specs.Hearing.{Marked, Lent};
+ghost use Rattle.hearing.specs.Hearing.{Marked, Lent, seeds_of, field_of};
 ghost use Rattle.fronts.specs.Fronts.{Fair, Paired, rooms_of, Front, LeftRows, LeftCells, DoesWait, DoesSow, DoesSettle, DoesTake};
-ghost use Rattle.table.specs.Read.{table_of, rows_in};
+ghost use Rattle.table.specs.Read.{table_of};
 
 use heap::{pop, push};
-use hearing::{known, other_spread, settled};
-use marching::{Course, onward, spreads};
+use hearing::{Plan, known, other_spread, settled};
+use marching::{onward, spreads};
 use marks::{enter, find};
-use table::Rows;
-
-// Why a march stopped: no place for a row, or none for a waiting cell.
-#[derive(Clone, Copy)]
-pub enum Stop {
-    NoRow,
-    NoCell,
-}
+use refusals::Refusal;
 
 // A cell without a mark waits at an estimate; its mark goes in from a place on.
 fn wait_marked(
@@ -42,7 +32,7 @@ fn wait_marked(
     place: usize,
     estimate: f32,
     key: u64,
-) -> Result<usize, Stop>
+) -> Result<usize, Refusal>
     requires paired { Paired keys.old distances.old estimates.old cells.old }
     requires keys_value { (spot_of key keys.old ≡ Err place) × ((on_lattice key ≡ true) × (eq estimate estimate ≡ true)) }
     ensures { (s : State)
@@ -52,7 +42,7 @@ fn wait_marked(
         keys.new distances.new estimates.new cells.new }
 {
     if cells.len() <= waiting {
-        return Err(Stop::NoCell);
+        return Err(Refusal::NoWaitingPlace);
     }
     enter(keys, distances, place, key, f32::from_bits(0x7F80_0000));
     let held = waiting + 1;
@@ -62,9 +52,7 @@ fn wait_marked(
 
 // A neighbour of a cell, not stored, waits at an estimate in a lean march: another stored neighbour of it that has spread tells that it does already.
 fn wait_lean(
-    fused: &Rows,
-    threshold: f32,
-    course: Course,
+    plan: &Plan,
     keys: &[u64],
     distances: &[f32],
     estimates: &mut [f32],
@@ -74,20 +62,19 @@ fn wait_lean(
     estimate: f32,
     from: u64,
     key: u64,
-) -> Result<usize, Stop>
-    requires lent { Lent (table_of fused.now)
+) -> Result<usize, Refusal>
+    requires lent { Lent (table_of plan.now.fused)
         × Paired keys.now distances.now estimates.old cells.old }
     requires keys_value { (spot_of key keys.now ≡ Err place) × ((on_lattice key ≡ true) × (eq estimate estimate ≡ true)) }
-    ensures { DoesWait true (seed_in threshold
-        (rows_in fused.now)) (lattice_of course) from (key ∷ [])
+    ensures { DoesWait true (seeds_of plan.now) (field_of plan.now) from (key ∷ [])
         (wait (length cells.old) estimate key) keys.now distances.now waiting estimates.old cells.old result
         keys.now distances.now estimates.new cells.new }
 {
-    if other_spread(fused, threshold, course, keys, distances, from, key) {
+    if other_spread(plan, keys, distances, from, key) {
         return Ok(waiting);
     }
     if cells.len() <= waiting {
-        return Err(Stop::NoCell);
+        return Err(Refusal::NoWaitingPlace);
     }
     let held = waiting + 1;
     push(estimates, cells, waiting, estimate, key);
@@ -97,9 +84,7 @@ fn wait_lean(
 // A neighbour of a cell that neither is stored nor waits begins to, at an estimate.
 fn wait(
     lean: bool,
-    fused: &Rows,
-    threshold: f32,
-    course: Course,
+    plan: &Plan,
     keys: &mut [u64],
     distances: &mut [f32],
     estimates: &mut [f32],
@@ -108,12 +93,11 @@ fn wait(
     estimate: f32,
     from: u64,
     key: u64,
-) -> Result<usize, Stop>
-    requires lent { Lent (table_of fused.now)
+) -> Result<usize, Refusal>
+    requires lent { Lent (table_of plan.now.fused)
         × Paired keys.old distances.old estimates.old cells.old }
     requires key_value { (on_lattice key ≡ true) × (eq estimate estimate ≡ true) }
-    ensures { DoesWait lean (seed_in threshold
-        (rows_in fused.now)) (lattice_of course) from (key ∷ [])
+    ensures { DoesWait lean (seeds_of plan.now) (field_of plan.now) from (key ∷ [])
         (wait (length cells.old) estimate key) keys.old distances.old waiting estimates.old cells.old result
         keys.new distances.new estimates.new cells.new }
 {
@@ -122,8 +106,7 @@ fn wait(
     };
     if lean {
         wait_lean(
-            fused, threshold, course, keys, distances, estimates, cells, waiting, place, estimate,
-            from, key,
+            plan, keys, distances, estimates, cells, waiting, place, estimate, from, key,
         )
     } else {
         wait_marked(
@@ -135,9 +118,7 @@ fn wait(
 // Each neighbour of a cell that neither is stored nor waits begins to, at an estimate.
 fn wait_around(
     lean: bool,
-    fused: &Rows,
-    threshold: f32,
-    course: Course,
+    plan: &Plan,
     keys: &mut [u64],
     distances: &mut [f32],
     estimates: &mut [f32],
@@ -145,13 +126,12 @@ fn wait_around(
     waiting: usize,
     estimate: f32,
     key: u64,
-) -> Result<usize, Stop>
-    requires lent { Lent (table_of fused.now)
+) -> Result<usize, Refusal>
+    requires lent { Lent (table_of plan.now.fused)
         × Paired keys.old distances.old estimates.old cells.old }
     requires key_value { (on_lattice key ≡ true) × (eq estimate estimate ≡ true) }
-    ensures { DoesWait lean (seed_in threshold
-        (rows_in fused.now))
-        (lattice_of course) key (neighbours key)
+    ensures { DoesWait lean (seeds_of plan.now)
+        (field_of plan.now) key (neighbours key)
         (wait_all (length cells.old) estimate (neighbours key)) keys.old distances.old waiting estimates.old
         cells.old result
         keys.new distances.new estimates.new cells.new }
@@ -161,13 +141,9 @@ fn wait_around(
     let n = near.count;
     let mut held = waiting;
     for i in 0..n {
-        match wait(
-            lean, fused, threshold, course, keys, distances, estimates, cells, held, estimate, key,
-            list[i],
-        ) {
-            Err(why) => return Err(why),
-            Ok(more) => held = more,
-        }
+        held = wait(
+            lean, plan, keys, distances, estimates, cells, held, estimate, key, list[i],
+        )?;
     }
     Ok(held)
 }
@@ -179,7 +155,7 @@ fn store(
     count: usize,
     key: u64,
     distance: f32,
-) -> Result<usize, Stop>
+) -> Result<usize, Refusal>
     requires { (length distances.old ≡ length keys.old) × (on_lattice key ≡ true) }
     ensures { (s : State) (ws vs : List ℕ)
         → Marked s.stored ws keys.old distances.old
@@ -192,7 +168,7 @@ fn store(
         distances.new }
 {
     if keys.len() <= count {
-        return Err(Stop::NoRow);
+        return Err(Refusal::NoPlace);
     }
     match find(keys, key) {
         Ok(place) => {
@@ -209,9 +185,7 @@ fn store(
 // A seed is stored, then its neighbours wait at its |distance|.
 pub fn sow(
     lean: bool,
-    fused: &Rows,
-    threshold: f32,
-    course: Course,
+    plan: &Plan,
     keys: &mut [u64],
     distances: &mut [f32],
     count: usize,
@@ -220,45 +194,27 @@ pub fn sow(
     waiting: usize,
     key: u64,
     distance: f32,
-) -> Result<(usize, usize), Stop>
-    requires lent { Lent (table_of fused.now)
+) -> Result<(usize, usize), Refusal>
+    requires lent { Lent (table_of plan.now.fused)
         × Paired keys.old distances.old estimates.old cells.old }
     requires key_value { (on_lattice key ≡ true) × (is_finite distance ≡ true) }
-    ensures { DoesSow lean (seed_in threshold
-        (rows_in fused.now)) (lattice_of course) key
+    ensures { DoesSow lean (seeds_of plan.now) (field_of plan.now) key
         (sow neighbours (rooms_of keys.old cells.old) (marched_row key distance)) count keys.old distances.old
         waiting estimates.old cells.old result
         keys.new distances.new estimates.new cells.new }
 {
-    match store(keys, distances, count, key, distance) {
-        Err(why) => Err(why),
-        Ok(rows) => {
-            match wait_around(
-                lean,
-                fused,
-                threshold,
-                course,
-                keys,
-                distances,
-                estimates,
-                cells,
-                waiting,
-                floats::size(distance),
-                key,
-            ) {
-                Err(why) => Err(why),
-                Ok(held) => Ok((rows, held)),
-            }
-        }
-    }
+    let rows = store(keys, distances, count, key, distance)?;
+    let estimate = floats::size(distance);
+    let held = wait_around(
+        lean, plan, keys, distances, estimates, cells, waiting, estimate, key,
+    )?;
+    Ok((rows, held))
 }
 
 // The neighbours of a settled cell wait, if their estimate is at most the maximum distance.
 fn spread(
     lean: bool,
-    fused: &Rows,
-    threshold: f32,
-    course: Course,
+    plan: &Plan,
     keys: &mut [u64],
     distances: &mut [f32],
     estimates: &mut [f32],
@@ -266,22 +222,20 @@ fn spread(
     waiting: usize,
     key: u64,
     distance: f32,
-) -> Result<usize, Stop>
-    requires lent { Lent (table_of fused.now)
+) -> Result<usize, Refusal>
+    requires lent { Lent (table_of plan.now.fused)
         × Paired keys.old distances.old estimates.old cells.old }
     requires key_value { on_lattice key ≡ true }
-    ensures { DoesWait lean (seed_in threshold
-        (rows_in fused.now))
-        (lattice_of course) key (neighbours key)
-        (spread (lattice_of course) (length cells.old) (marched_row key distance)) keys.old distances.old waiting
+    ensures { DoesWait lean (seeds_of plan.now)
+        (field_of plan.now) key (neighbours key)
+        (spread (field_of plan.now) (length cells.old) (marched_row key distance)) keys.old distances.old waiting
         estimates.old cells.old result
         keys.new distances.new estimates.new cells.new }
 {
-    let estimate = onward(course, distance);
-    if spreads(course, estimate) {
+    let estimate = onward(plan.course, distance);
+    if spreads(plan.course, estimate) {
         wait_around(
-            lean, fused, threshold, course, keys, distances, estimates, cells, waiting, estimate,
-            key,
+            lean, plan, keys, distances, estimates, cells, waiting, estimate, key,
         )
     } else {
         Ok(waiting)
@@ -291,9 +245,7 @@ fn spread(
 // A taken cell that is not stored gets its distance and is stored, then its neighbours wait.
 fn settle(
     lean: bool,
-    fused: &Rows,
-    threshold: f32,
-    course: Course,
+    plan: &Plan,
     keys: &mut [u64],
     distances: &mut [f32],
     count: usize,
@@ -301,50 +253,39 @@ fn settle(
     cells: &mut [u64],
     waiting: usize,
     key: u64,
-) -> Result<(usize, usize), Stop>
-    requires lent { Lent (table_of fused.now)
+) -> Result<(usize, usize), Refusal>
+    requires lent { Lent (table_of plan.now.fused)
         × Paired keys.old distances.old estimates.old cells.old }
-    requires key_value { (on_lattice key ≡ true) × Fair course }
-    ensures { DoesSettle lean (seed_in threshold
-        (rows_in fused.now)) (lattice_of course) key
-        (settle (lattice_of course) (rooms_of keys.old cells.old) key) count keys.old distances.old waiting
+    requires key_value { (on_lattice key ≡ true) × Fair plan.now.course }
+    ensures { DoesSettle lean (seeds_of plan.now) (field_of plan.now) key
+        (settle (field_of plan.now) (rooms_of keys.old cells.old) key) count keys.old distances.old waiting
         estimates.old cells.old result
         keys.new distances.new estimates.new cells.new }
 {
-    let distance = settled(keys, distances, course, key);
-    match store(keys, distances, count, key, distance) {
-        Err(why) => Err(why),
-        Ok(rows) => {
-            match spread(
-                lean, fused, threshold, course, keys, distances, estimates, cells, waiting, key,
-                distance,
-            ) {
-                Err(why) => Err(why),
-                Ok(held) => Ok((rows, held)),
-            }
-        }
-    }
+    let distance = settled(keys, distances, plan.course, key);
+    let rows = store(keys, distances, count, key, distance)?;
+    let held = spread(
+        lean, plan, keys, distances, estimates, cells, waiting, key, distance,
+    )?;
+    Ok((rows, held))
 }
 
 // The first waiting cell frees its place; a stored one is skipped, another is settled.
 pub fn take(
     lean: bool,
-    fused: &Rows,
-    threshold: f32,
-    course: Course,
+    plan: &Plan,
     keys: &mut [u64],
     distances: &mut [f32],
     count: usize,
     estimates: &mut [f32],
     cells: &mut [u64],
     waiting: usize,
-) -> Result<(usize, usize), Stop>
-    requires lent { Lent (table_of fused.now)
+) -> Result<(usize, usize), Refusal>
+    requires lent { Lent (table_of plan.now.fused)
         × Paired keys.old distances.old estimates.old cells.old }
-    requires waiting_nonzero { (0 < waiting) × ((waiting ≤ length cells.old) × (Fair course × (on_lattice (get_or cells.old 0 0) ≡ true))) }
-    ensures { DoesTake lean (seed_in threshold
-        (rows_in fused.now)) (lattice_of course)
-        (take (lattice_of course) (rooms_of keys.old cells.old)) count keys.old distances.old waiting
+    requires waiting_nonzero { (0 < waiting) × ((waiting ≤ length cells.old) × (Fair plan.now.course × (on_lattice (get_or cells.old 0 0) ≡ true))) }
+    ensures { DoesTake lean (seeds_of plan.now) (field_of plan.now)
+        (take (field_of plan.now) (rooms_of keys.old cells.old)) count keys.old distances.old waiting
         estimates.old cells.old result
         keys.new distances.new estimates.new cells.new }
 {
@@ -355,6 +296,6 @@ pub fn take(
         return Ok((count, left));
     }
     settle(
-        lean, fused, threshold, course, keys, distances, count, estimates, cells, left, key,
+        lean, plan, keys, distances, count, estimates, cells, left, key,
     )
 }

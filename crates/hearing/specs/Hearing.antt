@@ -3,7 +3,11 @@ use Rattle.std.specs.Prelude.{ℕ, ◌≤◌, ◌≡◌, Bool, true, false, cond
 use Rattle.floats.specs.Floats.{f32, is_finite}
 use Rattle.marks.specs.Marks.{look, Kept}
 use Rattle.search.specs.Keys.{member, ascending}
-use Rattle.marching.specs.March.{MarchedRow, keys_of, distance_of}
+use Rattle.marching.specs.March.{MarchedRow, Field, keys_of, distance_of}
+use Rattle.marching.specs.Lattice.{lattice_of}
+use Rattle.marching.specs.Spreading.{seed_in}
+use Rattle.table.specs.Read.{rows_in}
+use Rattle.hearing.specs.declared.Plan.{Plan}
 use Rattle.table.specs.Table.{Table}
 
 -- the mark of a cell that waits: +infinity
@@ -38,3 +42,11 @@ pub record Lent (t : Table) : Type 0 where
   pub distances : length t.distances ≡ length t.keys
   pub weights : length t.weights ≡ length t.keys
   pub ascends : ascending (take t.count t.keys) ≡ true
+
+-- whether a plan's table has a seed at a key
+abbrev pub seeds_of : Plan → ℕ → Bool
+seeds_of p = seed_in p.threshold (rows_in p.fused)
+
+-- where a plan carries distances
+abbrev pub field_of : Plan → Field
+field_of p = lattice_of p.course

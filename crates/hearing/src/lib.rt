@@ -9,13 +9,21 @@ ghost use Rattle.table.specs.Table.{rows_of};
 ghost use Rattle.marching.specs.March.{MarchedRow, distance_of, heard, settled};
 ghost use Rattle.marching.specs.Lattice.{length_at, lattice_of};
 ghost use Rattle.marching.specs.Spreading.{seed_in, has_spread, other_spread};
-ghost use Rattle.hearing.specs.Hearing.{said, Marked, Lent};
+ghost use Rattle.hearing.specs.Hearing.{said, Marked, Lent, seeds_of, field_of};
 ghost use Rattle.table.specs.Read.{table_of, rows_in};
 
 use marching::{Course, better, candidate, clamped, is_seed, onward, spreads, step_length};
 use marks::find;
 use search::find_row;
 use table::Rows;
+
+// What a march goes by: the table that it is over, the threshold below which a row is a seed, and the course.
+#[derive(Clone, Copy)]
+pub struct Plan<'a> {
+    pub fused: Rows<'a>,
+    pub threshold: f32,
+    pub course: Course,
+}
 
 // A cell's distance where it is stored, else +infinity.
 pub fn known(keys: &[u64], distances: &[f32], key: u64) -> f32
@@ -71,8 +79,7 @@ pub fn settled(keys: &[u64], distances: &[f32], course: Course, key: u64) -> f32
 // Whether the fused table has a seed at a key.
 fn has_seed(fused: &Rows, threshold: f32, key: u64) -> bool
     requires { Lent (table_of fused.now) }
-    ensures { result ≡ seed_in threshold
-        (rows_in fused.now) key }
+    ensures { result ≡ seed_in threshold (rows_in fused.now) key }
 {
     let Rows {
         keys: fused_keys,
@@ -87,35 +94,26 @@ fn has_seed(fused: &Rows, threshold: f32, key: u64) -> bool
 }
 
 // Whether the row of a key, stored at a distance, has spread: it is a seed, or its neighbours' estimate is at most the maximum distance.
-fn has_spread(fused: &Rows, threshold: f32, course: Course, key: u64, distance: f32) -> bool
-    requires { Lent (table_of fused.now) }
-    ensures { result ≡ has_spread (seed_in threshold
-        (rows_in fused.now))
-        (lattice_of course) key (Some distance) }
+fn has_spread(plan: &Plan, key: u64, distance: f32) -> bool
+    requires { Lent (table_of plan.now.fused) }
+    ensures { result ≡ has_spread (seeds_of plan.now)
+        (field_of plan.now) key (Some distance) }
 {
+    let course = plan.course;
     if spreads(course, onward(course, distance)) {
         return true;
     }
-    has_seed(fused, threshold, key)
+    has_seed(&plan.fused, plan.threshold, key)
 }
 
 // Whether a cell, but for the one that it is asked from, is stored and has spread.
-fn spread_at(
-    fused: &Rows,
-    threshold: f32,
-    course: Course,
-    keys: &[u64],
-    distances: &[f32],
-    from: u64,
-    key: u64,
-) -> bool
-    requires { Lent (table_of fused.now)
+fn spread_at(plan: &Plan, keys: &[u64], distances: &[f32], from: u64, key: u64) -> bool
+    requires { Lent (table_of plan.now.fused)
         × ((length distances.now ≡ length keys.now) × (key ≡ 1 → ⊥)) }
     ensures { (rs : List MarchedRow) (ws : List ℕ)
         → Marked rs ws keys.now distances.now
-        → result ≡ not (eqb key from) && has_spread (seed_in threshold
-        (rows_in fused.now))
-        (lattice_of course) key (distance_of key rs) }
+        → result ≡ not (eqb key from) && has_spread (seeds_of plan.now)
+        (field_of plan.now) key (distance_of key rs) }
 {
     if key == from {
         return false;
@@ -124,32 +122,23 @@ fn spread_at(
     if !floats::is_finite(distance) {
         return false;
     }
-    has_spread(fused, threshold, course, key, distance)
+    has_spread(plan, key, distance)
 }
 
 // Whether a neighbour of a cell, but for the one that it is asked from, is stored and has spread.
-pub fn other_spread(
-    fused: &Rows,
-    threshold: f32,
-    course: Course,
-    keys: &[u64],
-    distances: &[f32],
-    from: u64,
-    key: u64,
-) -> bool
-    requires { Lent (table_of fused.now)
+pub fn other_spread(plan: &Plan, keys: &[u64], distances: &[f32], from: u64, key: u64) -> bool
+    requires { Lent (table_of plan.now.fused)
         × ((length distances.now ≡ length keys.now) × (on_lattice key ≡ true)) }
     ensures { (rs : List MarchedRow) (ws : List ℕ)
         → Marked rs ws keys.now distances.now
-        → result ≡ other_spread (seed_in threshold
-        (rows_in fused.now))
-        (lattice_of course) from rs (neighbours key) }
+        → result ≡ other_spread (seeds_of plan.now)
+        (field_of plan.now) from rs (neighbours key) }
 {
     let near = neighbors::around(key);
     let list = near.keys;
     let n = near.count;
     for i in 0..n {
-        if spread_at(fused, threshold, course, keys, distances, from, list[i]) {
+        if spread_at(plan, keys, distances, from, list[i]) {
             return true;
         }
     }

@@ -34,8 +34,9 @@ use Rattle.neighbors.specs.Neighbors.{neighbours}
 use Rattle.hearing.specs.Hearing.{or_waits, Marked}
 use Rattle.hearing.proofs.Fitting.{key_for, key_for_lem, key_real}
 use Rattle.hearing.proofs.Walking.{real_key}
-use Rattle.fronts.specs.declared.Stop.{Stop}
+use Rattle.refusals.specs.declared.Refusal.{Refusal}
 use Rattle.fronts.specs.Fronts.{marking, Held, rooms_of}
+use Rattle.racing.specs.declared.Pace.{Pace}
 use Rattle.racing.specs.Racing.{unlabelled, MayStep, Goes, Blank, Sown, Emptied, Laid, Finished}
 use Rattle.fronts.proofs.Marking.{stored_here}
 use Rattle.fronts.proofs.Walking.{stopped_then}
@@ -199,24 +200,24 @@ unlabel_one (k ∷ ks) l e = rw (eq-eqb k 1 e)
 
 -- ---- the whole
 
-module _ (c : Course) (t : Float) (rs : List Row) (ks₀ cs₀ : List ℕ) (r : Result (ℕ × ℕ × Bool) Stop) (ks : List ℕ) (ds es : List Float)
+module _ (c : Course) (t : Float) (rs : List Row) (ks₀ cs₀ : List ℕ) (r : Result Pace Refusal) (ks : List ℕ) (ds es : List Float)
     (cs : List ℕ) (did : Goes (sow_all neighbours (rooms_of ks₀ cs₀) (seeds t rs) nothing) r ks ds es cs) where
   -- a seed stops it
   pub march_stopped :
-      (why : Stop)
+      (why : Refusal)
       → r ≡ Err why
       → (ks' : List ℕ) (ds' es' : List Float) (cs' : List ℕ)
       → Finished (march_from c.size c.most (rooms_of ks₀ cs₀) t rs) (Err why) ks' ds' es' cs'
   unfolding Goes Finished march.march
   march_stopped why e ks' ds' es' cs' =
-      stopped_then _ _ why (subst (λ (x : Result (ℕ × ℕ × Bool) Stop). Goes (sow_all neighbours (rooms_of ks₀ cs₀) (seeds t rs) nothing) x ks ds es cs) e did)
+      stopped_then _ _ why (subst (λ (x : Result Pace Refusal). Goes (sow_all neighbours (rooms_of ks₀ cs₀) (seeds t rs) nothing) x ks ds es cs) e did)
 
-  module _ (a : ascending (table_keys rs) ≡ true) (p : length ks ≡ length ks₀) (q : length cs ≡ length cs₀) (n w : ℕ) (lean : Bool) (e : r ≡ Ok (n, w, lean)) where
+  module _ (a : ascending (table_keys rs) ≡ true) (p : length ks ≡ length ks₀) (q : length cs ≡ length cs₀) (at : Pace) (e : r ≡ Ok at) where
     -- all seeds are sown
-    pub sown_all : (s : State) × ((sow_all neighbours (rooms_of ks₀ cs₀) (seeds t rs) nothing ≡ on s) × Sown (seeds t rs) neighbours lean s n ks ds w es cs)
+    pub sown_all : (s : State) × ((sow_all neighbours (rooms_of ks₀ cs₀) (seeds t rs) nothing ≡ on s) × Sown (seeds t rs) neighbours at.lean s at.rows ks ds at.waiting es cs)
     unfolding Goes
     sown_all =
-        let x = subst (λ (x : Result (ℕ × ℕ × Bool) Stop). Goes (sow_all neighbours (rooms_of ks₀ cs₀) (seeds t rs) nothing) x ks ds es cs) e did in (
+        let x = subst (λ (x : Result Pace Refusal). Goes (sow_all neighbours (rooms_of ks₀ cs₀) (seeds t rs) nothing) x ks ds es cs) e did in (
           x.0,
           (
             x.1.0,
@@ -228,8 +229,8 @@ module _ (c : Course) (t : Float) (rs : List Row) (ks₀ cs₀ : List ℕ) (r : 
           ),
         )
 
-    module _ (o : Result (ℕ × ℕ) Stop) (ks' : List ℕ) (ds' es' : List Float) (cs' : List ℕ)
-        (takes : (s : State) → Sown (seeds t rs) neighbours lean s n ks ds w es cs
+    module _ (o : Result (ℕ × ℕ) Refusal) (ks' : List ℕ) (ds' es' : List Float) (cs' : List ℕ)
+        (takes : (s : State) → Sown (seeds t rs) neighbours at.lean s at.rows ks ds at.waiting es cs
         → Emptied (take_up_to (lattice_of c) (rooms_of ks cs) (suc (length ks)) s) o ks' ds' es' cs') where
       emptied : Emptied (march_from c.size c.most (rooms_of ks₀ cs₀) t rs) o ks' ds' es' cs'
       unfolding march.march and_then
@@ -240,26 +241,26 @@ module _ (c : Course) (t : Float) (rs : List Row) (ks₀ cs₀ : List ℕ) (r : 
           (same_rooms (rooms_of ks₀ cs₀) ks cs p q) (takes x.0 x.1.1))
 
       -- a taking stops it
-      pub march_halted : (why : Stop) → o ≡ Err why → Finished (march_from c.size c.most (rooms_of ks₀ cs₀) t rs) (Err why) ks' ds' es' cs'
+      pub march_halted : (why : Refusal) → o ≡ Err why → Finished (march_from c.size c.most (rooms_of ks₀ cs₀) t rs) (Err why) ks' ds' es' cs'
       unfolding Emptied Finished
-      march_halted why f = subst (λ (x : Result (ℕ × ℕ) Stop). Emptied (march_from c.size c.most (rooms_of ks₀ cs₀) t rs) x ks' ds' es' cs') f emptied
+      march_halted why f = subst (λ (x : Result (ℕ × ℕ) Refusal). Emptied (march_from c.size c.most (rooms_of ks₀ cs₀) t rs) x ks' ds' es' cs') f emptied
 
       -- no cell waits any more, and the rows are sorted
       pub march_done :
           All (λ (x : Row). on_lattice x.key ≡ true) rs
-          → (i j : ℕ)
-          → o ≡ Ok (i, j)
+          → (a : ℕ × ℕ)
+          → o ≡ Ok a
           → (ks'' ks''' : List ℕ) (ds'' : List Float)
           → length ks''' ≡ length ks'
           → ((rs : List MarchedRow)
           → Scattered rs ks' ds'
           → (ks'' ≡ padded 0 (length ks') (keys_of rs)) × (ds'' ≡ padded zero32 (length ks') (distances_of rs)))
           → ks''' ≡ unlabelled ks''
-          → Finished (march_from c.size c.most (rooms_of ks₀ cs₀) t rs) (Ok (i, j)) ks''' ds'' es' cs'
+          → Finished (march_from c.size c.most (rooms_of ks₀ cs₀) t rs) (Ok a) ks''' ds'' es' cs'
       unfolding Emptied Finished
-      march_done all i j f ks'' ks''' ds'' l sorted back =
-          let x = subst (λ (x : Result (ℕ × ℕ) Stop). Emptied (march_from c.size c.most (rooms_of ks₀ cs₀) t rs) x ks' ds' es' cs') f emptied in
+      march_done all a f ks'' ks''' ds'' l sorted back =
+          let x = subst (λ (x : Result (ℕ × ℕ) Refusal). Emptied (march_from c.size c.most (rooms_of ks₀ cs₀) t rs) x ks' ds' es' cs') f emptied in
           let own =
           after_on (λ s. All (λ (r : MarchedRow). on_lattice r.key ≡ true) s.stored) (march_from c.size c.most (rooms_of ks₀ cs₀) t rs) x.0
           (lattice_keeps c.size c.most (rooms_of ks₀ cs₀) t rs all) x.1.0 in
-          (x.0, (x.1.0, (x.1.1.0, laid x.0 i ks' ds' es' cs' x.1.1.1.0 own x.1.1.1.1 ks'' ks''' ds'' l sorted back)))
+          (x.0, (x.1.0, (x.1.1.0, laid x.0 a.0 ks' ds' es' cs' x.1.1.1.0 own x.1.1.1.1 ks'' ks''' ds'' l sorted back)))

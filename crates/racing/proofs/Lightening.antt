@@ -20,9 +20,15 @@ use Rattle.fronts.specs.Fronts.{rooms_of, Held, MarksFit, Left}
 use Rattle.fronts.proofs.Stepping.{uncons}
 use Rattle.thinning.specs.Thinning.{kind_of, Lightens}
 use Rattle.thinning.proofs.Forgetting.{roomy}
-use Rattle.racing.specs.Racing.{sow_if, MayStep, went_of, Goes}
+use Rattle.racing.specs.declared.Pace.{Pace}
+use Rattle.racing.specs.Racing.{sow_if, MayStep, Goes}
 use Rattle.racing.proofs.Marching.{same_rooms}
-use Rattle.fronts.specs.declared.Stop.{Stop}
+use Rattle.refusals.specs.declared.Refusal.{Refusal}
+
+-- what a step of a kind leads to
+abbrev pub went_of : Result (ℕ × ℕ) Refusal → Bool → Result Pace Refusal
+went_of (Ok (n, w)) lean = Ok (record { rows = n; waiting = w; lean = lean })
+went_of (Err why) lean = Err why
 
 -- ---- what a step adds
 
@@ -53,7 +59,7 @@ module _ (lean : Bool) (n w : ℕ) (ks : List ℕ) (ds es : List Float) (cs : Li
       let d = held.front.heap.counted in
       omega arith
 
-  goes : (g : Going) → After (Fuller 15 s) g → (o : Result (ℕ × ℕ) Stop) (ks' : List ℕ) (ds' es' : List Float) (cs' : List ℕ)
+  goes : (g : Going) → After (Fuller 15 s) g → (o : Result (ℕ × ℕ) Refusal) (ks' : List ℕ) (ds' es' : List Float) (cs' : List ℕ)
       → length ks' ≡ length ks₁
       → Left kind g o ks' ds' es' cs'
       → Goes g (went_of o kind) ks' ds' es' cs'
@@ -81,18 +87,18 @@ module _ (lean : Bool) (n w : ℕ) (ks : List ℕ) (ds es : List Float) (cs : Li
   pub sown_goes :
       (t : Float) (x : Row)
       → is_seed t x ≡ true
-      → (o : Result (ℕ × ℕ) Stop) (ks' : List ℕ) (ds' es' : List Float) (cs' : List ℕ)
+      → (o : Result (ℕ × ℕ) Refusal) (ks' : List ℕ) (ds' es' : List Float) (cs' : List ℕ)
       → length ks' ≡ length ks₁
       → (Held kind s n ks₁ ds₁ w es cs
       → MarksFit kind (suc (length (neighbours x.key))) s ks₁
       → Left kind (sow neighbours (rooms_of ks₁ cs) (marched_row x.key x.distance) s) o ks' ds' es' cs')
-      → (r : Result (ℕ × ℕ × Bool) Stop)
+      → (r : Result Pace Refusal)
       → r ≡ went_of o kind
       → Goes (sow_if t neighbours (rooms_of ks cs) x s) r ks' ds' es' cs'
   unfolding sow_if
   sown_goes t x seed o ks' ds' es' cs' long did r e =
       let q = marched_row x.key x.distance in
-      subst (λ (r : Result (ℕ × ℕ × Bool) Stop). Goes (sow_if t neighbours (rooms_of ks cs) x s) r ks' ds' es' cs') (sym e)
+      subst (λ (r : Result Pace Refusal). Goes (sow_if t neighbours (rooms_of ks cs) x s) r ks' ds' es' cs') (sym e)
       (subst (λ (g : Going). Goes g (went_of o kind) ks' ds' es' cs') (sym (rw seed))
       (subst (λ (m : Rooms). Goes (sow neighbours m q s) (went_of o kind) ks' ds' es' cs') (same_rooms (rooms_of ks cs) ks₁ cs wide refl)
       (goes (sow neighbours (rooms_of ks₁ cs) q s) (sow_most (rooms_of ks₁ cs) q s) o ks' ds' es' cs' long (did held (room x.key)))))
@@ -101,16 +107,16 @@ module _ (lean : Bool) (n w : ℕ) (ks : List ℕ) (ds es : List Float) (cs : Li
   pub taken_goes :
       (c : Course)
       → 0 < w
-      → (o : Result (ℕ × ℕ) Stop) (ks' : List ℕ) (ds' es' : List Float) (cs' : List ℕ)
+      → (o : Result (ℕ × ℕ) Refusal) (ks' : List ℕ) (ds' es' : List Float) (cs' : List ℕ)
       → length ks' ≡ length ks₁
       → (Held kind s n ks₁ ds₁ w es cs
       → ((k : ℕ) → MarksFit kind (suc (length (neighbours k))) s ks₁)
       → Left kind (march.take (lattice_of c) (rooms_of ks₁ cs) s) o ks' ds' es' cs')
-      → (r : Result (ℕ × ℕ × Bool) Stop)
+      → (r : Result Pace Refusal)
       → r ≡ went_of o kind
       → Goes (march.take (lattice_of c) (rooms_of ks cs) s) r ks' ds' es' cs'
   taken_goes c l o ks' ds' es' cs' long did r e =
-      subst (λ (r : Result (ℕ × ℕ × Bool) Stop). Goes (march.take (lattice_of c) (rooms_of ks cs) s) r ks' ds' es' cs') (sym e)
+      subst (λ (r : Result Pace Refusal). Goes (march.take (lattice_of c) (rooms_of ks cs) s) r ks' ds' es' cs') (sym e)
       (subst (λ (m : Rooms). Goes (march.take (lattice_of c) m s) (went_of o kind) ks' ds' es' cs') (same_rooms (rooms_of ks cs) ks₁ cs wide refl)
       (goes (march.take (lattice_of c) (rooms_of ks₁ cs) s) (take_most c (rooms_of ks₁ cs) s w held.front.heap.counted l) o ks' ds' es' cs' long
       (did held room)))

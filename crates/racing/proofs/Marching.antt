@@ -31,9 +31,10 @@ use Rattle.marching.proofs.Lattice.{seeds_ascend}
 use Rattle.marching.proofs.Spreading.{Sowing, Known, sow_sowing, nothing_sowing, all_sown, taking_known}
 use Rattle.marching.proofs.Telling.{sow_told, settle_told, seeds_looked_up}
 use Rattle.hearing.specs.Hearing.{Lent, Marked}
-use Rattle.fronts.specs.declared.Stop.{Stop}
-use Rattle.fronts.specs.declared.Stop.TheVariants.{NoRow}
+use Rattle.refusals.specs.declared.Refusal.{Refusal}
+use Rattle.refusals.specs.declared.Refusal.TheVariants.{NoPlace}
 use Rattle.fronts.specs.Fronts.{marking, Held, rooms_of, Stopped, ToldOnce, ToldFirst}
+use Rattle.racing.specs.declared.Pace.{Pace}
 use Rattle.racing.specs.Racing.{Tabled, sow_if, MayStep, Goes, Sown, Emptied}
 use Rattle.fronts.proofs.Walking.{stopped_then, stopped_by}
 use Rattle.fronts.proofs.Stepping.{uncons}
@@ -122,30 +123,29 @@ module _ (lean : Bool) (seed : ℕ → Bool) (f : Field) (back : (k l : ℕ) →
 
   module _ (p : length ks ≡ m.rows) (q : length cs ≡ m.cells) where
     -- it is sure to be refused for want of a row's place
-    pub take_crowded : ((j : ℕ) → length (f.near j) ≤ 14) → surely_full (length ks) (length cs) n w k ≡ true → Stopped whole NoRow
-    unfolding Stopped
+    pub take_crowded : ((j : ℕ) → length (f.near j) ≤ 14) → surely_full (length ks) (length cs) n w k ≡ true → Stopped whole NoPlace
     take_crowded few full =
         let c = at.ready.held.count in
         let d = at.ready.held.front.heap.counted in
         let e = at.counts in
         at.rest ∙ crowded f few m at.left k at.now at.sound (omega arith) (rw (← p, ← q, ← c, ← d) full)
 
-    module _ (l : 0 < w) (r : Result (ℕ × ℕ × Bool) Stop) (ks' : List ℕ) (ds' es' : List Float) (cs' : List ℕ)
+    module _ (l : 0 < w) (r : Result Pace Refusal) (ks' : List ℕ) (ds' es' : List Float) (cs' : List ℕ)
         (did : (s : State) → MayStep lean s n ks ds w es cs → ToldFirst seed f s → Goes (march.take f (rooms_of ks cs) s) r ks' ds' es' cs') where
-      done : (o : Result (ℕ × ℕ × Bool) Stop) → r ≡ o → Goes (march.take f m at.now) o ks' ds' es' cs'
+      done : (o : Result Pace Refusal) → r ≡ o → Goes (march.take f m at.now) o ks' ds' es' cs'
       done o e =
           subst (λ (x : Rooms). Goes (march.take f x at.now) o ks' ds' es' cs') (same_rooms m ks cs p q)
-          (subst (λ (x : Result (ℕ × ℕ × Bool) Stop). Goes (march.take f (rooms_of ks cs) at.now) x ks' ds' es' cs') e
+          (subst (λ (x : Result Pace Refusal). Goes (march.take f (rooms_of ks cs) at.now) x ks' ds' es' cs') e
           (did at.now at.ready (told_first seed f at.now at.known)))
 
-      pub take_stop : (why : Stop) → r ≡ Err why → Stopped whole why
+      pub take_stop : (why : Refusal) → r ≡ Err why → Stopped whole why
       unfolding Goes
       take_stop why e = stopped_by whole _ why one_left.1.1 (stopped_then (march.take f m at.now) _ why (done (Err why) e))
 
-      pub take_more : (n' w' : ℕ) (kind : Bool) → r ≡ Ok (n', w', kind) → TakeAt kind seed f m whole (k + 1) n' ks' ds' w' es' cs'
+      pub take_more : (a : Pace) → r ≡ Ok a → TakeAt a.lean seed f m whole (k + 1) a.rows ks' ds' a.waiting es' cs'
       unfolding Goes and_then
-      take_more n' w' kind e =
-          let x = done (Ok (n', w', kind)) e in
+      take_more a e =
+          let x = done (Ok a) e in
           let u = uncons at.now.waiting w at.ready.held.front.heap.counted l in
           let o = one_left in
           let t : After (Sound m (suc k)) (march.take f m at.now) =
@@ -199,7 +199,7 @@ pub sow_if_not :
     → is_seed t x ≡ false
     → (n : ℕ) (ks : List ℕ) (ds : List Float) (w : ℕ) (es : List Float) (cs : List ℕ)
     → MayStep lean s n ks ds w es cs
-    → Goes (sow_if t near m x s) (Ok (n, w, lean)) ks ds es cs
+    → Goes (sow_if t near m x s) (Ok (record { rows = n; waiting = w; lean = lean })) ks ds es cs
 unfolding sow_if Goes
 sow_if_not lean t near m x s e n ks ds w es cs h = (s, (rw e, h))
 
@@ -303,29 +303,29 @@ module _ (lean : Bool) (seed : ℕ → Bool) (f : Field) (back : (k l : ℕ) →
     goes : sow_all f.near m (seeds t rs) nothing ≡ and_then (sow_if t f.near m x at.now) (sow_all f.near m (seeds t (drop (suc i) rs)))
     goes = at.rest ∙ ap (λ (l : List Row). sow_all f.near m (seeds t l) at.now) here ∙ sow_one t f.near m x (drop (suc i) rs) at.now
 
-    module _ (p : length ks ≡ m.rows) (q : length cs ≡ m.cells) (r : Result (ℕ × ℕ × Bool) Stop) (ks' : List ℕ) (ds' es' : List Float)
+    module _ (p : length ks ≡ m.rows) (q : length cs ≡ m.cells) (r : Result Pace Refusal) (ks' : List ℕ) (ds' es' : List Float)
         (cs' : List ℕ)
         (did : (s : State)
         → MayStep lean s n ks ds w es cs
         → member x.key (keys_of s.stored) ≡ false
         → (is_seed t x ≡ true → ToldOnce seed f x.key s)
         → Goes (sow_if t f.near (rooms_of ks cs) x s) r ks' ds' es' cs') where
-      sown : (o : Result (ℕ × ℕ × Bool) Stop) → r ≡ o → Goes (sow_if t f.near m x at.now) o ks' ds' es' cs'
+      sown : (o : Result Pace Refusal) → r ≡ o → Goes (sow_if t f.near m x at.now) o ks' ds' es' cs'
       sown o e =
           subst (λ (z : Rooms). Goes (sow_if t f.near z x at.now) o ks' ds' es' cs') (same_rooms m ks cs p q)
-          (subst (λ (z : Result (ℕ × ℕ × Bool) Stop). Goes (sow_if t f.near (rooms_of ks cs) x at.now) z ks' ds' es' cs') e
+          (subst (λ (z : Result Pace Refusal). Goes (sow_if t f.near (rooms_of ks cs) x at.now) z ks' ds' es' cs') e
           (did at.now at.ready sow_new (seed_told f seed t x (drop (suc i) rs) at.now sowing_here)))
 
-      pub sow_stop : (why : Stop) → r ≡ Err why → Goes (sow_all f.near m (seeds t rs) nothing) (Err why) ks' ds' es' cs'
+      pub sow_stop : (why : Refusal) → r ≡ Err why → Goes (sow_all f.near m (seeds t rs) nothing) (Err why) ks' ds' es' cs'
       unfolding Goes
       sow_stop why e = stopped_by _ _ why goes (stopped_then (sow_if t f.near m x at.now) _ why (sown (Err why) e))
 
-      pub sow_more : (n' w' : ℕ) (kind : Bool) → r ≡ Ok (n', w', kind) → SowAt kind seed f t m rs (i + 1) n' ks' ds' w' es' cs'
+      pub sow_more : (a : Pace) → r ≡ Ok a → SowAt a.lean seed f t m rs (i + 1) a.rows ks' ds' a.waiting es' cs'
       unfolding Goes and_then
-      sow_more n' w' kind e =
-          let y = sown (Ok (n', w', kind)) e in
+      sow_more a e =
+          let y = sown (Ok a) e in
           let z = split in
-          subst (λ (j : ℕ). SowAt kind seed f t m rs j n' ks' ds' w' es' cs') (sym (add-one i))
+          subst (λ (j : ℕ). SowAt a.lean seed f t m rs j a.rows ks' ds' a.waiting es' cs') (sym (add-one i))
           (record {
             now = y.0;
             ready = y.1.1;
@@ -340,7 +340,7 @@ module _ (lean : Bool) (seed : ℕ → Bool) (f : Field) (back : (k l : ℕ) →
             rest = goes ∙ ap (λ (g : Going). and_then g (sow_all f.near m (seeds t (drop (suc i) rs)))) y.1.0;
           })
 
-  pub sow_finish : drop i rs ≡ [] → Goes (sow_all f.near m (seeds t rs) nothing) (Ok (n, w, lean)) ks ds es cs
+  pub sow_finish : drop i rs ≡ [] → Goes (sow_all f.near m (seeds t rs) nothing) (Ok (record { rows = n; waiting = w; lean = lean })) ks ds es cs
   unfolding Goes seeds sow_all
   sow_finish e = (at.now, (at.rest ∙ ap (λ (l : List Row). sow_all f.near m (seeds t l) at.now) e, at.ready))
 

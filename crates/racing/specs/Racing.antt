@@ -10,7 +10,8 @@ use Rattle.marching.specs.March.{MarchedRow, marched_row, State, Going, on, Room
 use Rattle.hearing.specs.Hearing.{Lent}
 use Rattle.fronts.specs.Fronts.{rooms_of, Held, Stopped}
 use Rattle.thinning.specs.Thinning.{Spare}
-use Rattle.fronts.specs.declared.Stop.{Stop}
+use Rattle.refusals.specs.declared.Refusal.{Refusal}
+use Rattle.racing.specs.declared.Pace.{Pace}
 
 -- a table whose rows are on the lattice, at finite distances
 pub record Tabled (t : Table) : Type 0 where
@@ -27,14 +28,9 @@ pub record MayStep (lean : Bool) (s : State) (n : ℕ) (ks : List ℕ) (ds : Lis
   pub held : Held lean s n ks ds w es cs
   pub spare : Spare lean n w ks
 
--- what a step of a kind leads to
-abbrev pub went_of : Result (ℕ × ℕ) Stop → Bool → Result (ℕ × ℕ × Bool) Stop
-went_of (Ok (n, w)) lean = Ok (n, w, lean)
-went_of (Err why) lean = Err why
-
 -- what a step leaves, from which the next may be taken; or why it stopped
-unfoldable pub Goes : Going → Result (ℕ × ℕ × Bool) Stop → List ℕ → List Float → List Float → List ℕ → Type 0
-Goes g (Ok (n, w, lean)) ks ds es cs = (t : State) × ((g ≡ on t) × MayStep lean t n ks ds w es cs)
+unfoldable pub Goes : Going → Result Pace Refusal → List ℕ → List Float → List Float → List ℕ → Type 0
+Goes g (Ok p) ks ds es cs = (t : State) × ((g ≡ on t) × MayStep p.lean t p.rows ks ds p.waiting es cs)
 Goes g (Err why) ks ds es cs = Stopped g why
 
 -- the four lists are zero
@@ -52,7 +48,7 @@ pub record Sown (rs : List MarchedRow) (near : ℕ → List ℕ) (lean : Bool) (
   pub ready : MayStep lean s n ks ds w es cs
 
 -- no cell waits any more, and the rows have a place
-unfoldable pub Emptied : Going → Result (ℕ × ℕ) Stop → List ℕ → List Float → List Float → List ℕ → Type 0
+unfoldable pub Emptied : Going → Result (ℕ × ℕ) Refusal → List ℕ → List Float → List Float → List ℕ → Type 0
 Emptied g (Ok (n, t)) ks ds es cs = (s : State) × ((g ≡ on s) × ((s.takings ≡ t) × (Held true s n ks ds 0 es cs × (n ≤ length ks))))
 Emptied g (Err why) ks ds es cs = Stopped g why
 
@@ -73,6 +69,6 @@ pub record Laid (s : State) (n : ℕ) (ks : List ℕ) (ds es : List Float) (cs :
   pub cells : cs ≡ padded 0 (length cs) []
 
 -- what a march leaves: its rows, and no cell waiting; or why it stopped
-unfoldable pub Finished : Going → Result (ℕ × ℕ) Stop → List ℕ → List Float → List Float → List ℕ → Type 0
+unfoldable pub Finished : Going → Result (ℕ × ℕ) Refusal → List ℕ → List Float → List Float → List ℕ → Type 0
 Finished g (Ok (n, t)) ks ds es cs = (s : State) × ((g ≡ on s) × ((s.takings ≡ t) × Laid s n ks ds es cs))
 Finished g (Err why) ks ds es cs = Stopped g why

@@ -8,83 +8,78 @@ ghost use Rattle.ids.specs.Key.{on_lattice};
 ghost use Rattle.lists.specs.Places.{filled};
 ghost use Rattle.neighbors.specs.Neighbors.{neighbours};
 ghost use Rattle.search.specs.Keys.{member};
-ghost use Rattle.table.specs.Table.{row, rows_of};
+ghost use Rattle.table.specs.Table.{row};
 ghost use Rattle.marching.specs.March.{State, keys_of, is_seed, seeds, sow_all, nothing, take, take_up_to};
-ghost use Rattle.marching.specs.Lattice.{lattice_of, march_from};
-ghost use Rattle.marching.specs.Spreading.{seed_in};
-ghost use Rattle.hearing.specs.Hearing.{Lent};
+ghost use Rattle.marching.specs.Lattice.{march_from};
+ghost use Rattle.hearing.specs.Hearing.{Lent, seeds_of, field_of};
 ghost use Rattle.fronts.specs.Fronts.{Fair, Paired, rooms_of, ToldOnce, ToldFirst};
-ghost use Rattle.racing.specs.Racing.{Tabled, sow_if, MayStep, went_of, Goes, Blank, Sown, Emptied, unlabelled, Finished};
+ghost use Rattle.racing.specs.Racing.{Tabled, sow_if, MayStep, Goes, Blank, Sown, Emptied, unlabelled, Finished};
 ghost use Rattle.table.specs.Read.{table_of, rows_in};
 
-use fronts::{Stop, sow, take};
+use fronts::{sow, take};
 use heap::sort_rows;
-use marching::{Course, is_seed, surely_full};
+use hearing::Plan;
+use marching::{is_seed, surely_full};
+use refusals::Refusal;
 use table::Rows;
 use thinning::lighten;
 
-// What a step of a kind leads to.
-fn leads_to(step: Result<(usize, usize), Stop>, lean: bool) -> Result<(usize, usize, bool), Stop>
-    ensures { result ≡ went_of step lean }
-{
-    match step {
-        Err(why) => Err(why),
-        Ok((rows, waiting)) => Ok((rows, waiting, lean)),
-    }
+// How far a march is: how many rows are stored and cells wait, and whether it goes on lean.
+#[derive(Clone, Copy)]
+struct Pace {
+    rows: usize,
+    waiting: usize,
+    lean: bool,
 }
 
 // A table's row is sown if it is a seed.
 fn sow_if(
-    lean: bool,
-    fused: &Rows,
-    threshold: f32,
-    course: Course,
+    plan: &Plan,
+    at: Pace,
     keys: &mut [u64],
     distances: &mut [f32],
-    count: usize,
     estimates: &mut [f32],
     cells: &mut [u64],
-    waiting: usize,
     key: u64,
     distance: f32,
     weight: f32,
-) -> Result<(usize, usize, bool), Stop>
-    requires lent { Lent (table_of fused.now)
+) -> Result<Pace, Refusal>
+    requires lent { Lent (table_of plan.now.fused)
         × Paired keys.old distances.old estimates.old cells.old }
-    requires key_value { (on_lattice key ≡ true) × ((is_finite distance ≡ true) × (waiting ≤ length cells.old)) }
+    requires key_value { (on_lattice key ≡ true) × ((is_finite distance ≡ true) × (at.waiting ≤ length cells.old)) }
     ensures { (s : State)
-        → MayStep lean s count keys.old distances.old waiting estimates.old cells.old
+        → MayStep at.lean s at.rows keys.old distances.old at.waiting estimates.old cells.old
         → member key (keys_of s.stored) ≡ false
-        → (is_seed threshold (row key distance weight) ≡ true → ToldOnce (seed_in threshold
-        (rows_in fused.now)) (lattice_of course) key s)
-        → Goes (sow_if threshold neighbours (rooms_of keys.old cells.old) (row key distance weight) s) result
+        → (is_seed plan.now.threshold (row key distance weight) ≡ true → ToldOnce (seeds_of plan.now) (field_of plan.now) key s)
+        → Goes (sow_if plan.now.threshold neighbours (rooms_of keys.old cells.old) (row key distance weight) s) result
         keys.new distances.new estimates.new cells.new }
 {
-    if !is_seed(threshold, key, distance, weight) {
-        return Ok((count, waiting, lean));
+    if !is_seed(plan.threshold, key, distance, weight) {
+        return Ok(at);
     }
-    let kind = lighten(lean, keys, distances, count, cells, waiting);
-    let step = sow(
-        kind, fused, threshold, course, keys, distances, count, estimates, cells, waiting, key,
-        distance,
-    );
-    leads_to(step, kind)
+    let lean = lighten(at.lean, keys, distances, at.rows, cells, at.waiting);
+    let (rows, waiting) = sow(
+        lean, plan, keys, distances, at.rows, estimates, cells, at.waiting, key, distance,
+    )?;
+    Ok(Pace {
+        rows,
+        waiting,
+        lean,
+    })
 }
 
 // Every seed of the table is sown.
 fn sow_all(
-    fused: &Rows,
-    threshold: f32,
-    course: Course,
+    plan: &Plan,
     keys: &mut [u64],
     distances: &mut [f32],
     estimates: &mut [f32],
     cells: &mut [u64],
-) -> Result<(usize, usize, bool), Stop>
-    requires { Tabled (table_of fused.now)
+) -> Result<Pace, Refusal>
+    requires { Tabled (table_of plan.now.fused)
         × Blank keys.old distances.old estimates.old cells.old }
-    ensures { Goes (sow_all neighbours (rooms_of keys.old cells.old) (seeds threshold
-        (rows_in fused.now)) nothing) result
+    ensures { Goes (sow_all neighbours (rooms_of keys.old cells.old) (seeds plan.now.threshold
+        (rows_in plan.now.fused)) nothing) result
         keys.new distances.new estimates.new cells.new }
 {
     let Rows {
@@ -92,110 +87,86 @@ fn sow_all(
         distances: fused_distances,
         weights: fused_weights,
         count: fused_count,
-    } = *fused;
-    let mut rows = 0;
-    let mut held = 0;
-    let mut lean = false;
+    } = plan.fused;
+    let mut now = Pace {
+        rows: 0,
+        waiting: 0,
+        lean: false,
+    };
     for i in 0..fused_count {
-        match sow_if(
-            lean,
-            fused,
-            threshold,
-            course,
+        now = sow_if(
+            plan,
+            now,
             keys,
             distances,
-            rows,
             estimates,
             cells,
-            held,
             fused_keys[i],
             fused_distances[i],
             fused_weights[i],
-        ) {
-            Err(why) => return Err(why),
-            Ok((n, w, kind)) => {
-                rows = n;
-                held = w;
-                lean = kind;
-            }
-        }
+        )?;
     }
-    Ok((rows, held, lean))
+    Ok(now)
 }
 
 // The first waiting cell is taken.
 fn take_next(
-    lean: bool,
-    fused: &Rows,
-    threshold: f32,
-    course: Course,
+    plan: &Plan,
+    at: Pace,
     keys: &mut [u64],
     distances: &mut [f32],
-    count: usize,
     estimates: &mut [f32],
     cells: &mut [u64],
-    waiting: usize,
-) -> Result<(usize, usize, bool), Stop>
-    requires lent { Lent (table_of fused.now)
+) -> Result<Pace, Refusal>
+    requires lent { Lent (table_of plan.now.fused)
         × Paired keys.old distances.old estimates.old cells.old }
-    requires waiting_nonzero { (0 < waiting) × ((waiting ≤ length cells.old) × (Fair course × (on_lattice (get_or cells.old 0 0) ≡ true))) }
+    requires waiting_nonzero { (0 < at.waiting) × ((at.waiting ≤ length cells.old)
+        × (Fair plan.now.course × (on_lattice (get_or cells.old 0 0) ≡ true))) }
     ensures { (s : State)
-        → MayStep lean s count keys.old distances.old waiting estimates.old cells.old
-        → ToldFirst (seed_in threshold
-        (rows_in fused.now)) (lattice_of course) s
-        → Goes (take (lattice_of course) (rooms_of keys.old cells.old) s) result
+        → MayStep at.lean s at.rows keys.old distances.old at.waiting estimates.old cells.old
+        → ToldFirst (seeds_of plan.now) (field_of plan.now) s
+        → Goes (take (field_of plan.now) (rooms_of keys.old cells.old) s) result
         keys.new distances.new estimates.new cells.new }
 {
-    let kind = lighten(lean, keys, distances, count, cells, waiting);
-    let step = take(
-        kind, fused, threshold, course, keys, distances, count, estimates, cells, waiting,
-    );
-    leads_to(step, kind)
+    let lean = lighten(at.lean, keys, distances, at.rows, cells, at.waiting);
+    let (rows, waiting) = take(
+        lean, plan, keys, distances, at.rows, estimates, cells, at.waiting,
+    )?;
+    Ok(Pace {
+        rows,
+        waiting,
+        lean,
+    })
 }
 
 // Waiting cells are taken until there is none.
 fn take_all(
-    lean: bool,
-    fused: &Rows,
-    threshold: f32,
-    course: Course,
+    plan: &Plan,
+    at: Pace,
     keys: &mut [u64],
     distances: &mut [f32],
-    count: usize,
     estimates: &mut [f32],
     cells: &mut [u64],
-    waiting: usize,
-) -> Result<(usize, usize), Stop>
-    requires tabled { Tabled (table_of fused.now) × Fair course }
-    requires sown { (s : State) × Sown (seeds threshold (rows_in fused.now))
-        neighbours lean s count keys.old distances.old waiting estimates.old cells.old }
+) -> Result<(usize, usize), Refusal>
+    requires tabled { Tabled (table_of plan.now.fused) × Fair plan.now.course }
+    requires sown { (s : State) × Sown (seeds plan.now.threshold (rows_in plan.now.fused))
+        neighbours at.lean s at.rows keys.old distances.old at.waiting estimates.old cells.old }
     ensures { (s : State)
-        → Sown (seeds threshold (rows_in fused.now))
-        neighbours lean s count keys.old distances.old waiting estimates.old cells.old
-        → Emptied (take_up_to (lattice_of course) (rooms_of keys.old cells.old) (suc (length keys.old)) s) result
+        → Sown (seeds plan.now.threshold (rows_in plan.now.fused))
+        neighbours at.lean s at.rows keys.old distances.old at.waiting estimates.old cells.old
+        → Emptied (take_up_to (field_of plan.now) (rooms_of keys.old cells.old) (suc (length keys.old)) s) result
         keys.new distances.new estimates.new cells.new }
 {
-    let mut kind = lean;
-    let mut rows = count;
-    let mut held = waiting;
+    let mut now = at;
     let mut takings = 0;
-    while 0 < held {
-        if surely_full(keys.len(), cells.len(), rows, held, takings) {
-            return Err(Stop::NoRow);
+    while 0 < now.waiting {
+        if surely_full(keys.len(), cells.len(), now.rows, now.waiting, takings) {
+            return Err(Refusal::NoPlace);
         }
-        match take_next(
-            kind, fused, threshold, course, keys, distances, rows, estimates, cells, held,
-        ) {
-            Err(why) => return Err(why),
-            Ok((n, w, next)) => {
-                rows = n;
-                held = w;
-                kind = next;
-            }
-        }
+        now = take_next(plan, now, keys, distances, estimates, cells)?;
         takings += 1;
     }
-    Ok((rows, takings))
+    Ok((now.rows, takings))
 }
 
 // A first key that stands as 1 is 0.
@@ -224,33 +195,21 @@ pub fn clear(keys: &mut [u64], distances: &mut [f32], estimates: &mut [f32], cel
 
 // The march over a table whose rows are in order, into lists that are all zero: the seeds, the takings, then the rows by key.
 pub fn march(
-    fused: &Rows,
-    threshold: f32,
-    course: Course,
+    plan: &Plan,
     keys: &mut [u64],
     distances: &mut [f32],
     estimates: &mut [f32],
     cells: &mut [u64],
-) -> Result<(usize, usize), Stop>
-    requires { (Tabled (table_of fused.now) × Fair course)
+) -> Result<(usize, usize), Refusal>
+    requires { (Tabled (table_of plan.now.fused) × Fair plan.now.course)
         × Blank keys.old distances.old estimates.old cells.old }
-    ensures { Finished (march_from course.size course.most (rooms_of keys.old cells.old) threshold
-        (rows_in fused.now)) result
+    ensures { Finished (march_from plan.now.course.size plan.now.course.most (rooms_of keys.old cells.old) plan.now.threshold
+        (rows_in plan.now.fused)) result
         keys.new distances.new estimates.new cells.new }
 {
-    match sow_all(fused, threshold, course, keys, distances, estimates, cells) {
-        Err(why) => Err(why),
-        Ok((rows, held, lean)) => {
-            match take_all(
-                lean, fused, threshold, course, keys, distances, rows, estimates, cells, held,
-            ) {
-                Err(why) => Err(why),
-                Ok((n, takings)) => {
-                    sort_rows(keys, distances);
-                    unlabel(keys);
-                    Ok((n, takings))
-                }
-            }
-        }
-    }
+    let sown = sow_all(plan, keys, distances, estimates, cells)?;
+    let answer = take_all(plan, sown, keys, distances, estimates, cells)?;
+    sort_rows(keys, distances);
+    unlabel(keys);
+    Ok(answer)
 }

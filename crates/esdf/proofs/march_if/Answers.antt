@@ -1,26 +1,18 @@
 -- `esdf::march_if` meets its contract: a verdict that refuses is the answer, another lets the march begin.
 -- Assumes nothing.
-use Rattle.table.specs.Table.{rows_of}
-use Rattle.marching.specs.Lattice.{march_from}
-use Rattle.fronts.specs.Fronts.{rooms_of}
+use Rattle.std.proofs.lemmas.Result.{err_from_is_err_and}
 use Rattle.esdf.proofs.Computing.{refused_first, passed_first}
-use Rattle.esdf.proofs.Answering.{answered}
 use Rattle.esdf.proofs.march_if.Goals as goal
 
 pub march-requires : goal.march-requires
-march-requires c = c.requires c.in-Ok.is
+march-requires c = c.requires c.in_ok-verdict.was
 
-pub returns-in-Err : goal.returns-in-Err
-returns-in-Err c = refused_first _ _ _ _ _ _ c.in-Err.is
+pub returns-in_err-verdict : goal.returns-in_err-verdict
+returns-in_err-verdict c =
+    let p = err_from_is_err_and c.from_residual.result c.from_residual.ensures.1 in
+    rw (p.1, p.2) (refused_first _ _ _ _ _ _ c.in_err-verdict.was)
 
-pub returns-in-Ok : goal.returns-in-Ok
-returns-in-Ok c =
-    let a = c.args in
+pub returns : goal.returns
+returns c =
     let d = c.march in
-    let g =
-    march_from a.course.size a.course.most (rooms_of a.keys.now a.cells.now) a.threshold
-    (rows_of a.fused.now.keys.now a.fused.now.distances.now a.fused.now.weights.now a.fused.now.count) in
-    passed_first a.verdict g d.new.keys d.new.distances
-    d.new.estimates d.new.cells c.marched_of.result c.in-Ok.is
-    (answered g d.result c.marched_of.result d.new.keys d.new.distances
-    d.new.estimates d.new.cells c.marched_of.ensures d.ensures)
+    passed_first c.args.verdict _ d.new.keys d.new.distances d.new.estimates d.new.cells d.result c.in_ok-verdict.was d.ensures

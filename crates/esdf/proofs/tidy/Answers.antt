@@ -1,24 +1,26 @@
 -- `esdf::tidy` meets its contract: the lists stay, or each is cleared.
 -- Assumes nothing.
+use Rattle.std.proofs.Common.{sym, ◌∙◌}
 use Rattle.esdf.proofs.Computing.{stays, wiped}
 use Rattle.esdf.proofs.tidy.Goals as goal
 
-pub returns-in-Ok : goal.returns-in-Ok
-returns-in-Ok c =
+pub returns-else-is_err : goal.returns-else-is_err
+returns-else-is_err c =
+    let e = sym c.is_err.ensures.value ∙ c.if-is_err.false in
     record {
-      keys_after = stays _ _ _ c.in-Ok.is;
-      distances_after = stays _ _ _ c.in-Ok.is;
-      estimates_after = stays _ _ _ c.in-Ok.is;
-      cells_after = stays _ _ _ c.in-Ok.is;
+      keys_after = stays _ _ _ e;
+      distances_after = stays _ _ _ e;
+      estimates_after = stays _ _ _ e;
+      cells_after = stays _ _ _ e;
     }
 
-pub returns-in-Err : goal.returns-in-Err
-returns-in-Err c =
-    let w = c.in-Err.is in
-    let e = c.clear.ensures in
+pub returns-then-is_err : goal.returns-then-is_err
+returns-then-is_err c =
+    let e = sym c.is_err.ensures.value ∙ c.if-is_err.true in
+    let w = c.clear.ensures in
     record {
-      keys_after = wiped _ _ _ _ w e.keys_after;
-      distances_after = wiped _ _ _ _ w e.distances_after;
-      estimates_after = wiped _ _ _ _ w e.estimates_after;
-      cells_after = wiped _ _ _ _ w e.cells_after;
+      keys_after = wiped _ _ _ _ e w.keys_after;
+      distances_after = wiped _ _ _ _ e w.distances_after;
+      estimates_after = wiped _ _ _ _ e w.estimates_after;
+      cells_after = wiped _ _ _ _ e w.cells_after;
     }

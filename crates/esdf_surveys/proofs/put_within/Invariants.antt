@@ -13,6 +13,3 @@ invariant-loop-i l = (l.i ≤ l.count)
     × (length l.out_keys ≡ length l.initial.out_keys)
     × (length l.out_distances ≡ length l.initial.out_distances)
     × Putting l.threshold (marched_rows_of l.keys l.distances l.count) l.i l.n l.initial.out_keys l.initial.out_distances l.out_keys l.out_distances
-
-abbrev pub decreases-loop-i : goal.decreases-loop-i
-decreases-loop-i l = l.count - l.i

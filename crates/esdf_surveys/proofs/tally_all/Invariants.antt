@@ -13,6 +13,3 @@ invariant-loop-i l = (l.i ≤ l.count)
     × (l.tally.free ≤ l.i)
     × (tallied_all no_tally (marched_rows_of l.keys l.distances l.count)
     ≡ tallied_all l.tally (drop l.i (marched_rows_of l.keys l.distances l.count)))
-
-abbrev pub decreases-loop-i : goal.decreases-loop-i
-decreases-loop-i l = l.count - l.i

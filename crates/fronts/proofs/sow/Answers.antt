@@ -1,8 +1,8 @@
 -- `fronts::sow` meets its contract: a row is stored, then its neighbours wait.
 -- Assumes nothing.
+use Rattle.hearing.specs.Hearing.{seeds_of}
+use Rattle.std.proofs.lemmas.Result.{err_from_is_err_and}
 use mathlib.Core.Path.{sym, ◌∙◌}
-use Rattle.table.specs.Table.{rows_of}
-use Rattle.marching.specs.Spreading.{seed_in}
 use Rattle.marching.proofs.Numbers.{seed_number}
 use Rattle.fronts.proofs.Stepping.{sow_no_row, sow_no_cell, sow_done}
 use Rattle.fronts.proofs.sow.Goals as goal
@@ -16,41 +16,45 @@ wait_around-requires c =
     let p = c.requires in
     record {
       lent = (p.lent.0, (k.distances ∙ p.lent.1.0 ∙ sym k.keys, p.lent.1.1));
-      key_value = (p.key_value.0, rw c.size.ensures (seed_number c.args.distance p.key_value.1));
+      key_value = (p.key_value.0, rw c.size-estimate.ensures (seed_number c.args.distance p.key_value.1));
     }
 
-pub returns-in-Err : goal.returns-in-Err
-returns-in-Err c =
+pub returns-in_err-rows : goal.returns-in_err-rows
+returns-in_err-rows c =
     let a = c.args in
     let r = c.store in
+    let p = err_from_is_err_and c.from_residual.result c.from_residual.ensures.1 in
     λ s h o told room.
-    sow_no_row
-    a.course a.lean (seed_in a.threshold (rows_of a.fused.now.keys.now a.fused.now.distances.now a.fused.now.weights.now a.fused.now.count))
+    rw (p.1, p.2)
+    (sow_no_row
+    a.plan.now.course a.lean (seeds_of a.plan.now)
     a.key a.count a.keys.now a.distances.now a.waiting a.estimates.now a.cells.now s h o told room a.distance c.requires.key_value.1
-    r.result r.new.keys r.new.distances r.auto.keys r.ensures _ c.in-Err.is
+    r.result r.new.keys r.new.distances r.auto.keys r.ensures _ c.in_err-rows.was)
 
-pub returns-in-Err-wait_around : goal.returns-in-Err-wait_around
-returns-in-Err-wait_around c =
+pub returns-in_err-held : goal.returns-in_err-held
+returns-in_err-held c =
     let a = c.args in
     let r = c.store in
     let d = c.wait_around in
+    let p = err_from_is_err_and c.from_residual-in_err-held.result c.from_residual-in_err-held.ensures.1 in
     λ s h o told room.
-    sow_no_cell
-    a.course a.lean (seed_in a.threshold (rows_of a.fused.now.keys.now a.fused.now.distances.now a.fused.now.weights.now a.fused.now.count))
+    rw (p.1, p.2)
+    (sow_no_cell
+    a.plan.now.course a.lean (seeds_of a.plan.now)
     a.key a.count a.keys.now a.distances.now a.waiting a.estimates.now a.cells.now s h o told room a.distance c.requires.key_value.1
-    r.result r.new.keys r.new.distances r.auto.keys r.ensures _ c.in-Ok.is c.size.result c.size.ensures d.result
+    r.result r.new.keys r.new.distances r.auto.keys r.ensures _ c.in_ok-rows.was c.size-estimate.result c.size-estimate.ensures d.result
     d.new.keys d.new.distances
-    d.new.estimates d.new.cells d.ensures _ c.in-Err-wait_around.is
+    d.new.estimates d.new.cells d.ensures _ c.in_err-held.was)
 
-pub returns-in-Ok-wait_around : goal.returns-in-Ok-wait_around
-returns-in-Ok-wait_around c =
+pub returns : goal.returns
+returns c =
     let a = c.args in
     let r = c.store in
     let d = c.wait_around in
     λ s h o told room.
     sow_done
-    a.course a.lean (seed_in a.threshold (rows_of a.fused.now.keys.now a.fused.now.distances.now a.fused.now.weights.now a.fused.now.count))
+    a.plan.now.course a.lean (seeds_of a.plan.now)
     a.key a.count a.keys.now a.distances.now a.waiting a.estimates.now a.cells.now s h o told room a.distance c.requires.key_value.1
-    r.result r.new.keys r.new.distances r.auto.keys r.ensures _ c.in-Ok.is c.size.result c.size.ensures d.result
+    r.result r.new.keys r.new.distances r.auto.keys r.ensures _ c.in_ok-rows.was c.size-estimate.result c.size-estimate.ensures d.result
     d.new.keys d.new.distances
-    d.new.estimates d.new.cells d.ensures _ c.in-Ok-wait_around.is
+    d.new.estimates d.new.cells d.ensures _ c.in_ok-held.was

@@ -1,10 +1,8 @@
 -- `fronts::take` meets its contract: a stored cell is skipped, another is settled.
 -- Assumes nothing.
+use Rattle.hearing.specs.Hearing.{seeds_of, field_of}
 use mathlib.Core.Path.{sym, ◌∙◌}
 use native.Mathlib.Omega.{arith}
-use Rattle.table.specs.Table.{rows_of}
-use Rattle.marching.specs.Lattice.{lattice_of}
-use Rattle.marching.specs.Spreading.{seed_in}
 use Rattle.hearing.proofs.Walking.{real_key}
 use Rattle.fronts.proofs.Stepping.{take_skips, take_settles}
 use Rattle.fronts.proofs.take.Goals as goal
@@ -26,8 +24,8 @@ returns-then-is_finite c =
     let a = c.args in
     let p = c.pop in
     λ s h told room.
-    take_skips a.lean (seed_in a.threshold (rows_of a.fused.now.keys.now a.fused.now.distances.now a.fused.now.weights.now a.fused.now.count))
-    (lattice_of a.course) s a.count a.keys.now a.distances.now a.waiting a.estimates.now a.cells.now h c.requires.waiting_nonzero.0
+    take_skips a.lean (seeds_of a.plan.now)
+    (field_of a.plan.now) s a.count a.keys.now a.distances.now a.waiting a.estimates.now a.cells.now h c.requires.waiting_nonzero.0
     p.new.estimates p.new.cells p.ensures p.auto.cells c.known.result c.known.ensures
     (sym c.is_finite.ensures ∙ c.if-is_finite.true)
 
@@ -46,8 +44,8 @@ returns c =
     let p = c.pop in
     let d = c.settle in
     λ s h told room.
-    take_settles a.lean (seed_in a.threshold (rows_of a.fused.now.keys.now a.fused.now.distances.now a.fused.now.weights.now a.fused.now.count))
-    (lattice_of a.course) s a.count a.keys.now a.distances.now a.waiting a.estimates.now a.cells.now h c.requires.waiting_nonzero.0
+    take_settles a.lean (seeds_of a.plan.now)
+    (field_of a.plan.now) s a.count a.keys.now a.distances.now a.waiting a.estimates.now a.cells.now h c.requires.waiting_nonzero.0
     p.new.estimates p.new.cells p.ensures p.auto.cells c.known.result c.known.ensures
     (sym c.is_finite.ensures ∙ c.if-is_finite.false) told room d.result
     d.new.keys d.new.distances

@@ -1,8 +1,8 @@
 -- `hearing::other_spread` meets its contract: what is left to ask says what the whole does.
+use Rattle.hearing.specs.Hearing.{field_of}
 use mathlib.Core.Path.{refl, sym, ◌∙◌}
 use native.Mathlib.Omega.{arith}
 use Rattle.neighbors.specs.Neighbors.{neighbours}
-use Rattle.marching.specs.Lattice.{lattice_of}
 use Rattle.hearing.proofs.Walking.{near_list, real_near, other_more, other_here, other_none}
 use borrow.Author.Rules.{rules}
 use Rattle.hearing.proofs.other_spread.Goals as goal
@@ -21,7 +21,7 @@ pub returns-then-spread_at : goal.returns-then-spread_at
 returns-then-spread_at c =
     let a = c.args in
     λ rs ws h.
-    other_here (neighbours a.key) _ c.loop-i.invariant.0 _ (lattice_of a.course) a.from rs _
+    other_here (neighbours a.key) _ c.loop-i.invariant.0 _ (field_of a.plan.now) a.from rs _
     (omega (arith, c.loop-i-test.true, c.loop-i.invariant.1)) _ (c.spread_at.ensures rs ws h) c.if-spread_at.true
     ∙ sym (c.loop-i.invariant.4 rs ws h)
 
@@ -34,7 +34,7 @@ loop-i-preserved c =
       search rules,
       λ rs ws h.
           c.loop-i.invariant.4 rs ws h
-          ∙ other_more (neighbours a.key) _ c.loop-i.invariant.0 _ (lattice_of a.course) a.from rs _
+          ∙ other_more (neighbours a.key) _ c.loop-i.invariant.0 _ (field_of a.plan.now) a.from rs _
           (omega (arith, c.loop-i-test.true, c.loop-i.invariant.1)) _ (c.spread_at.ensures rs ws h) c.if-spread_at.false,
     )
 
@@ -42,6 +42,6 @@ pub returns : goal.returns
 returns c =
     let a = c.args in
     λ rs ws h.
-    other_none (neighbours a.key) _ c.loop-i.invariant.0 _ (lattice_of a.course) a.from rs c.loop-i.i
+    other_none (neighbours a.key) _ c.loop-i.invariant.0 _ (field_of a.plan.now) a.from rs c.loop-i.i
     (omega (arith, c.loop-i-test.false, c.loop-i.invariant.1))
     ∙ sym (c.loop-i.invariant.4 rs ws h)

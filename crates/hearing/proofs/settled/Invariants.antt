@@ -21,6 +21,3 @@ invariant-loop-i l = (l.list ≡ padded 0 14 (neighbours l.key))
     → Marked rs ws l.keys l.distances
     → settling (lattice_of l.course) rs l.key 0 largest (neighbours l.key)
     ≡ settling (lattice_of l.course) rs l.key l.i l.best (drop l.i (neighbours l.key)))
-
-abbrev pub decreases-loop-i : goal.decreases-loop-i
-decreases-loop-i l = l.n - l.i

@@ -1,13 +1,14 @@
 -- `racing::sow_all` meets its contract: what is left to sow says what the whole does.
+use Rattle.hearing.specs.Hearing.{seeds_of, field_of}
+use Rattle.table.specs.Read.{rows_in}
+use Rattle.std.proofs.lemmas.Result.{err_from_is_err_and}
 use mathlib.Core.Path.{refl, sym, ◌∙◌}
 use mathlib.Core.Bool.{false}
 use native.Mathlib.Omega.{arith}
 use lib.ListN.{length, get_or}
 use lib.Ieee.{nan}
-use Rattle.table.specs.Table.{row, rows_of}
+use Rattle.table.specs.Table.{row}
 use Rattle.table.proofs.RowLaws.{row_at_lem}
-use Rattle.marching.specs.Lattice.{lattice_of}
-use Rattle.marching.specs.Spreading.{seed_in}
 use Rattle.marching.proofs.Facts.{back}
 use Rattle.fronts.specs.Fronts.{rooms_of}
 use Rattle.racing.proofs.Marching.{rows_ascend, rows_past, seeds_are, sow_start, sow_stop, sow_more, sow_finish}
@@ -24,9 +25,9 @@ loop-i-init c =
       refl,
       refl,
       refl,
-      sow_start false _ (lattice_of a.course) a.threshold (rooms_of a.keys.now a.cells.now)
-          (rows_of a.fused.now.keys.now a.fused.now.distances.now a.fused.now.weights.now a.fused.now.count) a.keys.now
-          a.distances.now a.estimates.now a.cells.now (rows_ascend _ _ _ _ p.0.lent) (seeds_are a.threshold _ _ _ _ p.0.lent)
+      sow_start false _ (field_of a.plan.now) a.plan.now.threshold (rooms_of a.keys.now a.cells.now)
+          (rows_in a.plan.now.fused) a.keys.now
+          a.distances.now a.estimates.now a.cells.now (rows_ascend _ _ _ _ p.0.lent) (seeds_are a.plan.now.threshold _ _ _ _ p.0.lent)
           (blank_ready false _ _ _ _ p.1),
     )
 
@@ -57,24 +58,26 @@ sow_if-requires c =
       key_value = (p.0.lattice _ l, (p.0.finite _ l, i.5.ready.held.front.heap.fits));
     }
 
-pub returns-in-Err : goal.returns-in-Err
-returns-in-Err c =
+pub returns-in_err-now : goal.returns-in_err-now
+returns-in_err-now c =
     let a = c.args in
-    let p = c.requires.0.lent in
+    let t = c.requires.0.lent in
     let l = c.loop-i in
     let d = c.sow_if in
     let here =
-    row_at_lem a.fused.now.keys.now a.fused.now.distances.now a.fused.now.weights.now a.fused.now.count l.i p.distances p.weights
-    c.loop-i-test.true p.fits in
-    sow_stop l.lean (seed_in a.threshold (rows_of a.fused.now.keys.now a.fused.now.distances.now a.fused.now.weights.now a.fused.now.count))
-    (lattice_of a.course) back a.threshold (rooms_of a.keys.now a.cells.now)
-    (rows_of a.fused.now.keys.now a.fused.now.distances.now a.fused.now.weights.now a.fused.now.count) l.i l.rows l.keys l.distances l.held
+    row_at_lem a.plan.now.fused.keys.now a.plan.now.fused.distances.now a.plan.now.fused.weights.now a.plan.now.fused.count l.i t.distances t.weights
+    c.loop-i-test.true t.fits in
+    let p = err_from_is_err_and c.from_residual.result c.from_residual.ensures.1 in
+    rw (p.1, p.2)
+    (sow_stop l.now.lean (seeds_of a.plan.now)
+    (field_of a.plan.now) back a.plan.now.threshold (rooms_of a.keys.now a.cells.now)
+    (rows_in a.plan.now.fused) l.i l.now.rows l.keys l.distances l.now.waiting
     l.estimates l.cells l.invariant.5
-    (row (get_or a.fused.now.keys.now l.i 0) (get_or a.fused.now.distances.now l.i nan) (get_or a.fused.now.weights.now l.i nan))
+    (row (get_or a.plan.now.fused.keys.now l.i 0) (get_or a.plan.now.fused.distances.now l.i nan) (get_or a.plan.now.fused.weights.now l.i nan))
     here l.invariant.1 l.invariant.4 d.result d.new.keys
     d.new.distances d.new.estimates
     d.new.cells
-    d.ensures _ c.in-Err.is
+    d.ensures _ c.in_err-now.was)
 
 pub loop-i-smaller : goal.loop-i-smaller
 loop-i-smaller c = omega (arith, c.loop-i-test.true)
@@ -82,12 +85,12 @@ loop-i-smaller c = omega (arith, c.loop-i-test.true)
 pub loop-i-preserved : goal.loop-i-preserved
 loop-i-preserved c =
     let a = c.args in
-    let p = c.requires.0.lent in
+    let t = c.requires.0.lent in
     let l = c.loop-i in
     let d = c.sow_if in
     let here =
-    row_at_lem a.fused.now.keys.now a.fused.now.distances.now a.fused.now.weights.now a.fused.now.count l.i p.distances p.weights
-    c.loop-i-test.true p.fits in
+    row_at_lem a.plan.now.fused.keys.now a.plan.now.fused.distances.now a.plan.now.fused.weights.now a.plan.now.fused.count l.i t.distances t.weights
+    c.loop-i-test.true t.fits in
     let k = d.auto in
     let i = l.invariant in (
       omega (arith, c.loop-i-test.true),
@@ -95,23 +98,23 @@ loop-i-preserved c =
       ◌∙◌ {b = length l.distances} k.distances i.2,
       ◌∙◌ {b = length l.estimates} k.estimates i.3,
       ◌∙◌ {b = length l.cells} k.cells i.4,
-      sow_more l.lean (seed_in a.threshold (rows_of a.fused.now.keys.now a.fused.now.distances.now a.fused.now.weights.now a.fused.now.count))
-          (lattice_of a.course) back a.threshold (rooms_of a.keys.now a.cells.now)
-          (rows_of a.fused.now.keys.now a.fused.now.distances.now a.fused.now.weights.now a.fused.now.count) l.i l.rows l.keys l.distances l.held
+      sow_more l.now.lean (seeds_of a.plan.now)
+          (field_of a.plan.now) back a.plan.now.threshold (rooms_of a.keys.now a.cells.now)
+          (rows_in a.plan.now.fused) l.i l.now.rows l.keys l.distances l.now.waiting
           l.estimates l.cells l.invariant.5
-          (row (get_or a.fused.now.keys.now l.i 0) (get_or a.fused.now.distances.now l.i nan) (get_or a.fused.now.weights.now l.i nan))
+          (row (get_or a.plan.now.fused.keys.now l.i 0) (get_or a.plan.now.fused.distances.now l.i nan) (get_or a.plan.now.fused.weights.now l.i nan))
           here i.1 i.4 d.result d.new.keys
           d.new.distances d.new.estimates
           d.new.cells
-          d.ensures _ _ _ c.in-Ok.is,
+          d.ensures _ c.in_ok-now.was,
     )
 
 pub returns : goal.returns
 returns c =
     let a = c.args in
     let l = c.loop-i in
-    sow_finish l.lean (seed_in a.threshold (rows_of a.fused.now.keys.now a.fused.now.distances.now a.fused.now.weights.now a.fused.now.count))
-    (lattice_of a.course) back a.threshold (rooms_of a.keys.now a.cells.now)
-    (rows_of a.fused.now.keys.now a.fused.now.distances.now a.fused.now.weights.now a.fused.now.count) l.i l.rows l.keys l.distances l.held
-    l.estimates l.cells l.invariant.5 (rows_past a.fused.now.keys.now a.fused.now.distances.now a.fused.now.weights.now a.fused.now.count l.i
+    sow_finish l.now.lean (seeds_of a.plan.now)
+    (field_of a.plan.now) back a.plan.now.threshold (rooms_of a.keys.now a.cells.now)
+    (rows_in a.plan.now.fused) l.i l.now.rows l.keys l.distances l.now.waiting
+    l.estimates l.cells l.invariant.5 (rows_past a.plan.now.fused.keys.now a.plan.now.fused.distances.now a.plan.now.fused.weights.now a.plan.now.fused.count l.i
     c.loop-i-test.false)

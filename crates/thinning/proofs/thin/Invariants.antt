@@ -11,6 +11,3 @@ invariant-loop-i l = (l.i ≤ l.waiting)
     × (length l.keys ≡ length l.initial.keys)
     × (length l.distances ≡ length l.initial.distances)
     × Thinning l.waiting l.cells l.initial.keys l.initial.distances l.i l.keys l.distances
-
-abbrev pub decreases-loop-i : goal.decreases-loop-i
-decreases-loop-i l = l.waiting - l.i
