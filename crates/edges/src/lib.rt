@@ -1,7 +1,7 @@
 // The edges of the surface (src/layers/tsdf.rs, get_zero_crossing_edges).
 #![tactic(auto)]
 
-ghost use Rattle.std.specs.Prelude.{◌≡◌, ◌+◌, ◌*◌, ◌<◌, ◌≤◌, true, length, get_or, set, take};
+ghost use Rattle.std.specs.Prelude.{◌≡◌, ◌+◌, ◌*◌, ◌<◌, ◌≤◌, true, length, get_or, take};
 ghost use Rattle.lists.specs.Listing.{count_of, held_for};
 ghost use Rattle.lists.specs.Places.{cleared_from};
 ghost use Rattle.search.specs.Keys.{ascending, find_by};
@@ -56,15 +56,12 @@ fn crosses_scan(rows: &Rows, row: usize, place: usize) -> bool
         weights,
         count,
     } = *rows;
-    if !rings::are_opposed(
+    rings::are_opposed(
         distances[row],
         weights[row],
         distances[place],
         weights[place],
-    ) {
-        return false;
-    }
-    rings::is_joint(keys, weights, count, row, keys[row], keys[place])
+    ) && rings::is_joint(keys, weights, count, row, keys[row], keys[place])
 }
 
 // Whether the rows at two places cross.
@@ -109,18 +106,6 @@ fn is_listed(surface: Surface, rows: &Rows, row: usize, key: u64) -> bool
     crosses_at(surface, rows, row, place)
 }
 
-// One edge at a place of both lists; nothing where they have no such place.
-fn put_edge(first: &mut [u64], second: &mut [u64], at: usize, a: u64, b: u64)
-    requires { length second.old ≡ length first.old }
-    ensures first_after { first.new ≡ set first.old at a }
-    ensures second_after { second.new ≡ set second.old at b }
-{
-    if at < first.len() {
-        first[at] = a;
-        second[at] = b;
-    }
-}
-
 // The edges that one row lists, from the place `at` on; those past the lists' end are only counted.
 fn list_row(
     surface: Surface,
@@ -141,13 +126,11 @@ fn list_row(
     let Rows { keys, .. } = *rows;
     let key = keys[row];
     let near = neighbors::around(key);
-    let cells = near.keys;
-    let n = near.count;
     let mut end = at;
-    for i in 0..n {
-        let k = cells[i];
-        if is_listed(surface, rows, row, k) {
-            put_edge(first, second, end, key, k);
+    for &cell in near.cells() {
+        if is_listed(surface, rows, row, cell) {
+            lists::put(first, end, key);
+            lists::put(second, end, cell);
             end += 1;
         }
     }
@@ -204,9 +187,7 @@ fn list_checked(
         (seconds (edges_on surface
         (rows_in rows.now))) }
 {
-    if let Err(why) = verdict {
-        return Err(why);
-    }
+    verdict?;
     let n = list_edges(surface, rows, first, second);
     lists::room_for(n, first.len())
 }

@@ -1,12 +1,11 @@
 -- `edges::crosses_scan` meets its contract: on an accepted table the search finds the weights of the rows.
 -- Assumes nothing.
-use Rattle.std.proofs.Common.{ap, not}
-use Rattle.lists.proofs.Bools.{yes, no}
+use mathlib.Core.Path.{sym, ◌∙◌}
 use Rattle.edges.proofs.SurfaceLaws.{one_side, both_sides}
 use Rattle.edges.proofs.crosses_scan.Goals as goal
 
-pub returns-then-not-are_opposed : goal.returns-then-not-are_opposed
-returns-then-not-are_opposed c = one_side _ _ _ _ c.requires.0 _ _ (no c.are_opposed.ensures (ap not c.if-not-are_opposed.true))
+pub returns-then-are_opposed : goal.returns-then-are_opposed
+returns-then-are_opposed c = both_sides _ _ _ _ c.requires.0 _ _ (sym c.are_opposed.ensures ∙ c.if-are_opposed.true) _ _ c.is_joint.ensures
 
-pub returns : goal.returns
-returns c = both_sides _ _ _ _ c.requires.0 _ _ (yes c.are_opposed.ensures (ap not c.if-not-are_opposed.false)) _ _ c.is_joint.ensures
+pub returns-else-are_opposed : goal.returns-else-are_opposed
+returns-else-are_opposed c = c.if-are_opposed.false ∙ one_side _ _ _ _ c.requires.0 _ _ (sym c.are_opposed.ensures ∙ c.if-are_opposed.false)

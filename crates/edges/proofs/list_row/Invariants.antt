@@ -1,6 +1,6 @@
 -- `edges::list_row` meets its contract: what is left of the neighbours says what all of them say.
 -- Assumes nothing.
-use Prim.Native.Nat.{ℕ, ◌+◌, ◌≤◌, ◌-◌}
+use Prim.Native.Nat.{ℕ, ◌+◌, ◌≤◌}
 use mathlib.Core.List.{List}
 use lib.ListN.{get_or, drop}
 use lib.Ieee.{Float}
@@ -19,11 +19,7 @@ left o ks ds ws n row i =
     let rows = rows_of ks ds ws n in
     edges_to neighbours (crosses_on o rows) rows (row_at ks ds ws row) (drop i (neighbours (get_or ks row 0)))
 
-abbrev pub invariant-loop-i : goal.invariant-loop-i
-invariant-loop-i l = (l.i ≤ l.n)
-    × (l.end ≤ l.at + l.i)
+abbrev pub invariant-loop-cell : goal.invariant-loop-cell
+invariant-loop-cell l = (l.end ≤ l.at + l.cell-index)
     × Writing (left l.surface l.fn.rows.keys.now l.fn.rows.distances.now l.fn.rows.weights.now l.fn.rows.count l.row 0) l.at l.initial.first l.initial.second
-    (left l.surface l.fn.rows.keys.now l.fn.rows.distances.now l.fn.rows.weights.now l.fn.rows.count l.row l.i) l.end l.first l.second
-
-abbrev pub decreases-loop-i : goal.decreases-loop-i
-decreases-loop-i l = l.n - l.i
+    (left l.surface l.fn.rows.keys.now l.fn.rows.distances.now l.fn.rows.weights.now l.fn.rows.count l.row l.cell-index) l.end l.first l.second
