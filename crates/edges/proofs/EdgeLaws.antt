@@ -1,6 +1,7 @@
 -- Demand 3 of the edge list: it holds every pair of stored cells that are adjacent and cross, each once, the smaller key first, in document 01's
 -- order, and no other; and it is the only list that does.
 -- Assumes nothing.
+use Rattle.std.specs.Prelude.{None, Option, Some}
 use Prim.Native.Nat.{ℕ, ◌<◌, ◌≤◌}
 use native.Mathlib.Nat.{le_of_lt, eq-or-lt_of_le, min-eq_left, min-eq_right, max-eq_left, max-eq_right}
 use native.Mathlib.Omega.{arith}
@@ -9,7 +10,6 @@ use mathlib.Core.Logic.{◌⊎◌, inl, inr}
 use mathlib.Core.Bool.{Bool, true, false≢true}
 use mathlib.Core.List.Memᴰ
 use mathlib.Core.List.{List}
-use mathlib.Core.Option.{Option, none, some}
 use lib.Dec.{ltb}
 use borrow.Author.Tests.{ltb-true, lt-ltb}
 use Rattle.floats.proofs.Values.{le_or_lt}
@@ -65,8 +65,8 @@ module _ (near : ℕ → List ℕ) (adjacent : ℕ → ℕ → Bool) (crosses : 
       up = ltb-true r.key k (and_first _ (crosses_with crosses r (stored k rows)) e)
 
       go : (o : Option Row) → stored k rows ≡ o → crosses_with crosses r o ≡ true → (s : Row) × (s ∈ rows) × (s.key ≡ k) × (crosses r s ≡ true) × (r.key < k)
-      go none q c = absurd (false≢true c)
-      go (some s) q c = let h = stored_in k rows q in (s, h.0, h.1, c, up)
+      go None q c = absurd (false≢true c)
+      go (Some s) q c = let h = stored_in k rows q in (s, h.0, h.1, c, up)
 
   module _ (nb : Neighbourhood near adjacent) where
     -- what is listed is two rows that cross, the smaller key first

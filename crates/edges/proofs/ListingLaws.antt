@@ -1,12 +1,11 @@
 -- A neighbour is looked up by halves among the keys, and stored among the rows: on an accepted table these say the same.
 -- Assumes nothing.
-use Rattle.std.specs.Prelude.{Some, None, Option as Found}
+use Rattle.std.specs.Prelude.{Some, None, Option}
 use Prim.Native.Nat.{ℕ, ◌≤◌, ◌<◌}
 use native.Mathlib.Omega.{arith}
 use mathlib.Core.Path.{◌≡◌, refl, sym, ap, ◌∙◌}
 use mathlib.Core.Bool.{Bool, true, false, cond}
 use mathlib.Core.List.{List, [], ◌∷◌}
-use mathlib.Core.Option.{Option, none, some}
 use lib.Dec.{eqb}
 use lib.Ieee.{Float}
 use lib.ListN.{get_or, take, drop, length-take}
@@ -24,15 +23,15 @@ use Rattle.edges.specs.Steps.{Accepted, row_at}
 
 -- the first of some rows
 abbrev front : List Row → Option Row
-front [] = none
-front (r ∷ rs) = some r
+front [] = None
+front (r ∷ rs) = Some r
 
 -- the row at the place that a search tells
-abbrev told : Found ℕ → List Row → Option Row
+abbrev told : Option ℕ → List Row → Option Row
 told (Some i) rows = front (drop i rows)
-told None rows = none
+told None rows = None
 
-told_next : (f : Found ℕ) (r : Row) (rs : List Row) → told (next f) (r ∷ rs) ≡ told f rs
+told_next : (f : Option ℕ) (r : Row) (rs : List Row) → told (next f) (r ∷ rs) ≡ told f rs
 unfolding next
 told_next (Some i) r rs = refl
 told_next None r rs = refl
@@ -42,7 +41,7 @@ stored_told : (k : ℕ) (rows : List Row) → stored k rows ≡ told (find k (ke
 unfolding stored find
 stored_told k [] = refl
 stored_told k (r ∷ rs) =
-    cases (λ (b : Bool). cond b (some r) (stored k rs) ≡ told (cond b (Some 0) (next (find k (keys_of rs)))) (r ∷ rs)) (eqb r.key k)
+    cases (λ (b : Bool). cond b (Some r) (stored k rs) ≡ told (cond b (Some 0) (next (find k (keys_of rs)))) (r ∷ rs)) (eqb r.key k)
     (λ e. refl) (λ e. stored_told k rs ∙ sym (told_next (find k (keys_of rs)) r rs))
 
 module _ (ks : List ℕ) (ds ws : List Float) (n : ℕ) (acc : Accepted (table ks ds ws n)) where
@@ -58,21 +57,21 @@ module _ (ks : List ℕ) (ds ws : List Float) (n : ℕ) (acc : Accepted (table k
   looked_up k =
       stored_told k (rows_of ks ds ws n)
       ∙ ap (λ (l : List ℕ). told (find k l) (rows_of ks ds ws n)) keys_of_rows
-      ∙ ap (λ (f : Found ℕ). told f (rows_of ks ds ws n)) (sym (find_by-find k (take n ks) acc.rising))
+      ∙ ap (λ (f : Option ℕ). told f (rows_of ks ds ws n)) (sym (find_by-find k (take n ks) acc.rising))
 
-  module _ (k : ℕ) (f : Found ℕ) (e : f ≡ find_by k (take n ks)) where
+  module _ (k : ℕ) (f : Option ℕ) (e : f ≡ find_by k (take n ks)) where
     -- a place that is found is that of a row
     pub place_below : (i : ℕ) → f ≡ Some i → i < n
     place_below i t =
         let h = (found k (take n ks) i (sym (find_by-find k (take n ks) acc.rising) ∙ sym e ∙ t)).0 in
         omega (arith, length-take n ks)
 
-    pub none_stored : f ≡ None → stored k (rows_of ks ds ws n) ≡ none
-    none_stored t = looked_up k ∙ ap (λ (g : Found ℕ). told g (rows_of ks ds ws n)) (sym e ∙ t)
+    pub none_stored : f ≡ None → stored k (rows_of ks ds ws n) ≡ None
+    none_stored t = looked_up k ∙ ap (λ (g : Option ℕ). told g (rows_of ks ds ws n)) (sym e ∙ t)
 
-    pub one_stored : (i : ℕ) → f ≡ Some i → stored k (rows_of ks ds ws n) ≡ some (row_at ks ds ws i)
+    pub one_stored : (i : ℕ) → f ≡ Some i → stored k (rows_of ks ds ws n) ≡ Some (row_at ks ds ws i)
     one_stored i t =
-        looked_up k ∙ ap (λ (g : Found ℕ). told g (rows_of ks ds ws n)) (sym e ∙ t)
+        looked_up k ∙ ap (λ (g : Option ℕ). told g (rows_of ks ds ws n)) (sym e ∙ t)
         ∙ ap front (row_at_lem ks ds ws n i acc.distances acc.weights (place_below i t) acc.fits)
 
   -- whether a row and a neighbour are listed
@@ -84,13 +83,13 @@ module _ (ks : List ℕ) (ds ws : List Float) (n : ℕ) (acc : Accepted (table k
     unfolding listed
     not_smaller h = rw (le-ltb (get_or ks row 0) k h)
 
-    pub not_stored : get_or ks row 0 < k → (f : Found ℕ) → f ≡ find_by k (take n ks) → f ≡ None → Is false
+    pub not_stored : get_or ks row 0 < k → (f : Option ℕ) → f ≡ find_by k (take n ks) → f ≡ None → Is false
     unfolding listed
     not_stored h f e t = rw (lt-ltb (get_or ks row 0) k h, none_stored k f e t)
 
     pub both_stored :
         get_or ks row 0 < k
-        → (f : Found ℕ)
+        → (f : Option ℕ)
         → f ≡ find_by k (take n ks)
         → (i : ℕ)
         → f ≡ Some i

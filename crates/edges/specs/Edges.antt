@@ -1,7 +1,6 @@
 -- Edges: rows ascending; for each, neighbours in their order. A pair is listed when both are stored, they cross, and the row's key is the smaller.
-use Rattle.std.specs.Prelude.{ℕ, Bool, false, ◌&&◌, ltb}
+use Rattle.std.specs.Prelude.{ℕ, Bool, false, ◌&&◌, ltb, None, Option, Some}
 use mathlib.Core.List.{List, map}
-use Rattle.std.proofs.Math.Option.{Option, none, some}
 use Rattle.lists.specs.Lists.{kept, joined}
 use Rattle.table.specs.Table.{Row}
 use Rattle.table.specs.Rows.{stored}
@@ -16,8 +15,8 @@ edge a b = record { first = a; second = b }
 
 -- a row crosses with what is stored of a neighbour
 abbrev pub crosses_with : (Row → Row → Bool) → Row → Option Row → Bool
-crosses_with crosses r none = false
-crosses_with crosses r (some s) = crosses r s
+crosses_with crosses r None = false
+crosses_with crosses r (Some s) = crosses r s
 
 -- `near` gives a key's neighbours in order, and `crosses` says of two rows whether the surface lies between them
 module _ (near : ℕ → List ℕ) (crosses : Row → Row → Bool) (rows : List Row) where

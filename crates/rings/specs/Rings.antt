@@ -1,6 +1,5 @@
 -- Whether a tetrahedron of stored cells with weight above 0 lies around a pair of cells, by the neighbours of one of them.
-use Rattle.std.specs.Prelude.{ℕ, Bool, false, cond, ◌&&◌, ◌||◌, List, [], ◌∷◌, ltb, Float, length, get_or, take, Some, None, Option as Found}
-use Rattle.std.proofs.Math.Option.{Option, none, some}
+use Rattle.std.specs.Prelude.{ℕ, Bool, false, cond, ◌&&◌, ◌||◌, List, [], ◌∷◌, ltb, Float, length, get_or, take, Some, None, Option}
 use Rattle.std.specs.Float.{nan}
 use Rattle.neighbors.specs.Neighbors.{neighbours, adjacent}
 use Rattle.search.specs.Nearby.{find_near}
@@ -15,15 +14,15 @@ any f (x ∷ xs) = f x || any f xs
 
 -- the weight of a stored cell is above 0, by its key
 abbrev pub weighted_of : Option Row → Bool
-weighted_of none = false
-weighted_of (some r) = weighted r
+weighted_of None = false
+weighted_of (Some r) = weighted r
 
 unfoldable pub weighted_at : List Row → ℕ → Bool
 unfolding weighted stored
 weighted_at rows k = weighted_of (stored k rows)
 
 -- the weight at a place that was found is above 0
-unfoldable pub weighted_found : List Float → Found ℕ → Bool
+unfoldable pub weighted_found : List Float → Option ℕ → Bool
 weighted_found ws (Some place) = cond (ltb place (length ws)) (is_positive (get_or ws place nan)) false
 weighted_found ws None = false
 

@@ -1,6 +1,5 @@
 -- Rows by their keys.
-use Rattle.std.specs.Prelude.{ℕ, cond, List, [], ◌∷◌, map, eqb}
-use Rattle.std.proofs.Math.Option.{Option, none, some}
+use Rattle.std.specs.Prelude.{ℕ, cond, List, [], ◌∷◌, map, eqb, None, Option, Some}
 use Rattle.table.specs.Table.{Row}
 
 -- the keys of rows
@@ -9,5 +8,5 @@ keys_of rows = map (λ (r : Row). r.key) rows
 
 -- the row of a key, where there is one
 unfoldable pub stored : ℕ → List Row → Option Row
-stored k [] = none
-stored k (r ∷ rs) = cond (eqb r.key k) (some r) (stored k rs)
+stored k [] = None
+stored k (r ∷ rs) = cond (eqb r.key k) (Some r) (stored k rs)

@@ -1,11 +1,11 @@
 -- What two loops over the neighbours of a cell find: whether there is a tetrahedron around an edge, so whether two rows cross, and so the vertex list.
 -- Assumes nothing.
+use Rattle.std.specs.Prelude.{None, Option, Some}
 use Prim.Native.Nat.{ℕ}
 use mathlib.Core.Path.{◌≡◌, refl, sym, ap, ◌∙◌}
 use mathlib.Core.Bool.{Bool, true, ◌&&◌, false≢true, and_assoc}
 use mathlib.Core.List.Memᴰ
 use mathlib.Core.List.{List}
-use mathlib.Core.Option.{Option, none, some}
 use lib.Ieee.{unlike}
 use Rattle.lists.specs.Lists.{◌∈◌, kept}
 use Rattle.lists.proofs.ListLaws.{kept_in, in_kept, map_in, in_map}
@@ -45,8 +45,8 @@ module _ (rows : List Row) (up : ascending (keys_of rows) ≡ true) where
   weighted_in k e = go (stored k rows) refl e
     where
       go : (o : Option Row) → stored k rows ≡ o → weighted_of o ≡ true → k ∈ weighted_keys rows
-      go none q w = absurd (false≢true w)
-      go (some s) q w =
+      go None q w = absurd (false≢true w)
+      go (Some s) q w =
           let h = stored_in k rows q in
           Memᴰ.cast (sym h.1) (in_map (λ (r : Row). r.key) (kept weighted rows) (in_kept weighted rows h.0 w))
 

@@ -1,6 +1,5 @@
 -- The vertices of the second mesh: one per crossed edge of a tetrahedron, by the edge's two keys.
-use Rattle.std.specs.Prelude.{ℕ, ◌<◌, ◌≡◌, Bool, true, false, ◌&&◌, List}
-use Rattle.std.proofs.Math.Option.{Option, none, some}
+use Rattle.std.specs.Prelude.{ℕ, ◌<◌, ◌≡◌, Bool, true, false, ◌&&◌, List, None, Option, Some}
 use Rattle.std.specs.Float.Ieee.{unlike}
 use Rattle.lists.specs.Lists.{◌∈◌, Ordered}
 use Rattle.neighbors.specs.Neighbors.{neighbours}
@@ -15,8 +14,8 @@ use Rattle.tetrahedra.specs.Tetrahedra.{tetrahedra}
 
 -- what is stored of a cell is inside
 abbrev pub inside_of : Option Row → Bool
-inside_of none = false
-inside_of (some r) = inside r
+inside_of None = false
+inside_of (Some r) = inside r
 
 -- a stored cell is inside, by its key
 unfoldable pub inside_at : List Row → ℕ → Bool

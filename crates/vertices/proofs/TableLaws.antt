@@ -7,7 +7,6 @@ use mathlib.Core.Path.{◌≡◌, refl, ap, fun_ext, ◌∙◌}
 use mathlib.Core.Logic.{⊎_elim}
 use mathlib.Core.Bool.{Bool, true, cond}
 use mathlib.Core.List.{List, [], ◌∷◌, map}
-use mathlib.Core.Option.{some}
 use borrow.Author.Tests.{lt-ltb}
 use lib.Dec.{eqb}
 use lib.Ieee.{Float, of_bits}
@@ -60,7 +59,7 @@ pub stored_finite : (most : Float) (rows : List Row) → rows_ok most rows ≡ t
 unfolding stored distance_of or_zero rows_ok of_bits
 stored_finite most [] h key = refl
 stored_finite most (r ∷ rs) h key =
-    cases (λ (b : Bool). is_finite (or_zero (distance_of (cond b (some r) (stored key rs)))) ≡ true) (eqb r.key key)
+    cases (λ (b : Bool). is_finite (or_zero (distance_of (cond b (Some r) (stored key rs)))) ≡ true) (eqb r.key key)
     (λ e. row_finite most r.key r.distance r.weight (and_first _ _ h))
     (λ e. stored_finite most rs (and_second (row_ok most r.key r.distance r.weight) _ h) key)
 
