@@ -14,6 +14,7 @@ use answers::keys::list_back;
 use mesh_answers::march::{
     distance_back, free_back, march_back, slope_back, stats_found, stats_number,
 };
+use stored::Distances;
 use table::{Rows, settings_of};
 
 #[unsafe(no_mangle)]
@@ -74,7 +75,14 @@ pub extern "C" fn akf_esdf_get_distance(
     ensures value { result ≡ distance_number (get_distance (marched_table keys.now distances.now count) key) }
     ensures distance_after { distance.new ≡ marched_distance (get_distance (marched_table keys.now distances.now count) key) }
 {
-    let found = esdf_questions::get_distance(keys, distances, count, key);
+    let found = esdf_questions::get_distance(
+        &Distances {
+            keys,
+            distances,
+            count,
+        },
+        key,
+    );
     let back = distance_back(found);
     *distance = back.value;
     back.number
@@ -92,7 +100,15 @@ pub extern "C" fn akf_is_free_space(
     ensures value { result ≡ free_number (is_free_space (marched_table keys.now distances.now count) key threshold) }
     ensures yes_after { yes.new ≡ free_found (is_free_space (marched_table keys.now distances.now count) key threshold) }
 {
-    let found = esdf_questions::is_free_space(keys, distances, count, key, threshold);
+    let found = esdf_questions::is_free_space(
+        &Distances {
+            keys,
+            distances,
+            count,
+        },
+        key,
+        threshold,
+    );
     let back = free_back(found);
     *yes = back.yes;
     back.number
@@ -113,7 +129,14 @@ pub extern "C" fn akf_get_gradient(
     ensures gy_after { gy.new ≡ (slope_found (get_gradient (marched_table keys.now distances.now count) key)).1 }
     ensures gz_after { gz.new ≡ (slope_found (get_gradient (marched_table keys.now distances.now count) key)).2 }
 {
-    let gradient = esdf_questions::get_gradient(keys, distances, count, key);
+    let gradient = esdf_questions::get_gradient(
+        &Distances {
+            keys,
+            distances,
+            count,
+        },
+        key,
+    );
     let back = slope_back(gradient);
     *gx = back.x;
     *gy = back.y;
@@ -145,9 +168,11 @@ pub extern "C" fn akf_get_voxels_within_distance(
         (length out_keys.old) (length out_distances.old)) }
 {
     let answer = esdf_surveys::get_voxels_within_distance(
-        keys,
-        distances,
-        count,
+        &Distances {
+            keys,
+            distances,
+            count,
+        },
         threshold,
         out_keys,
         out_distances,
@@ -177,7 +202,11 @@ pub extern "C" fn akf_esdf_stats(
     ensures smallest_after { smallest.new ≡ (marched_stats (get_stats (marched_table keys.now distances.now count))).min_distance }
     ensures largest_after { largest.new ≡ (marched_stats (get_stats (marched_table keys.now distances.now count))).max_distance }
 {
-    let statistics = esdf_surveys::stats(keys, distances, count);
+    let statistics = esdf_surveys::stats(&Distances {
+        keys,
+        distances,
+        count,
+    });
     let found = stats_found(statistics);
     *voxel_count = found.voxel_count;
     *obstacle_voxel_count = found.obstacle_voxel_count;

@@ -8,10 +8,12 @@ ghost use Rattle.marched.specs.Marched.{marched_table, marched_rows_of};
 ghost use Rattle.marched.specs.Steps.{Accepted};
 ghost use Rattle.esdf_questions.specs.Lookups.{get_distance, is_free_space};
 ghost use Rattle.esdf_questions.specs.Gradient.{step_of, no_slopes, slopes_with, slopes_from, direction_of, mean_of, get_gradient};
+ghost use Rattle.marched.specs.Read.{marched_in, marched_rows_in};
 
 use ids::morton_decode;
 use marched::{check_free, check_key, stored_at};
 use refusals::Refusal;
+use stored::Distances;
 
 // Sums along the axes, and over how many neighbours.
 #[derive(Clone, Copy)]
@@ -23,30 +25,19 @@ struct Slopes {
 }
 
 // The distance that is stored of a cell.
-pub fn get_distance(
-    keys: &[u64],
-    distances: &[f32],
-    count: usize,
-    key: u64,
-) -> Result<Option<f32>, Refusal>
-    ensures { result ≡ get_distance (marched_table keys.now distances.now count) key }
+pub fn get_distance(field: &Distances, key: u64) -> Result<Option<f32>, Refusal>
+    ensures { result ≡ get_distance (marched_in field.now) key }
 {
-    check_key(keys, distances, count, key)?;
-    Ok(stored_at(keys, distances, count, key))
+    check_key(field, key)?;
+    Ok(stored_at(field, key))
 }
 
 // Whether a cell's distance is above a threshold.
-pub fn is_free_space(
-    keys: &[u64],
-    distances: &[f32],
-    count: usize,
-    key: u64,
-    threshold: f32,
-) -> Result<bool, Refusal>
-    ensures { result ≡ is_free_space (marched_table keys.now distances.now count) key threshold }
+pub fn is_free_space(field: &Distances, key: u64, threshold: f32) -> Result<bool, Refusal>
+    ensures { result ≡ is_free_space (marched_in field.now) key threshold }
 {
-    check_free(keys, distances, count, key, threshold)?;
-    Ok(stored_at(keys, distances, count, key).is_some_and(|d| threshold < d))
+    check_free(field, key, threshold)?;
+    Ok(stored_at(field, key).is_some_and(|d| threshold < d))
 }
 
 // How far it is from one coordinate to another, with its sign.
@@ -77,28 +68,20 @@ fn slopes_with(key: u64, distance: f32, sum: Slopes, neighbour: u64, found: f32)
 }
 
 // A neighbour's part in the sums, if it is stored.
-fn slopes_next(
-    keys: &[u64],
-    distances: &[f32],
-    count: usize,
-    key: u64,
-    distance: f32,
-    sum: Slopes,
-    neighbour: u64,
-) -> Slopes
-    requires { Accepted keys.now distances.now count × (sum.count < 100) }
-    ensures { result ≡ slopes_with key distance sum neighbour (distance_of neighbour (marched_rows_of keys.now distances.now count)) }
+fn slopes_next(field: &Distances, key: u64, distance: f32, sum: Slopes, neighbour: u64) -> Slopes
+    requires { Accepted (marched_in field.now) × (sum.count < 100) }
+    ensures { result ≡ slopes_with key distance sum neighbour (distance_of neighbour (marched_rows_in field.now)) }
 {
-    let Some(found) = stored_at(keys, distances, count, neighbour) else {
+    let Some(found) = stored_at(field, neighbour) else {
         return sum;
     };
     slopes_with(key, distance, sum, neighbour, found)
 }
 
 // The sums over the stored neighbours of a cell.
-fn sum_slopes(keys: &[u64], distances: &[f32], count: usize, key: u64, distance: f32) -> Slopes
-    requires { Accepted keys.now distances.now count }
-    ensures { result ≡ slopes_from (marched_rows_of keys.now distances.now count) key distance no_slopes (neighbours key) }
+fn sum_slopes(field: &Distances, key: u64, distance: f32) -> Slopes
+    requires { Accepted (marched_in field.now) }
+    ensures { result ≡ slopes_from (marched_rows_in field.now) key distance no_slopes (neighbours key) }
 {
     let near = neighbors::around(key);
     let list = near.keys;
@@ -110,7 +93,7 @@ fn sum_slopes(keys: &[u64], distances: &[f32], count: usize, key: u64, distance:
         count: 0,
     };
     for i in 0..n {
-        sum = slopes_next(keys, distances, count, key, distance, sum, list[i]);
+        sum = slopes_next(field, key, distance, sum, list[i]);
     }
     sum
 }
@@ -141,17 +124,12 @@ fn mean(sum: Slopes) -> Option<(f32, f32, f32)>
 }
 
 // The direction in which the distance grows at a cell.
-pub fn get_gradient(
-    keys: &[u64],
-    distances: &[f32],
-    count: usize,
-    key: u64,
-) -> Result<Option<(f32, f32, f32)>, Refusal>
-    ensures { result ≡ get_gradient (marched_table keys.now distances.now count) key }
+pub fn get_gradient(field: &Distances, key: u64) -> Result<Option<(f32, f32, f32)>, Refusal>
+    ensures { result ≡ get_gradient (marched_in field.now) key }
 {
-    check_key(keys, distances, count, key)?;
-    let Some(distance) = stored_at(keys, distances, count, key) else {
+    check_key(field, key)?;
+    let Some(distance) = stored_at(field, key) else {
         return Ok(None);
     };
-    Ok(mean(sum_slopes(keys, distances, count, key, distance)))
+    Ok(mean(sum_slopes(field, key, distance)))
 }

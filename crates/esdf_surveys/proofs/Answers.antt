@@ -52,7 +52,7 @@ module _ (ks : List ℕ) (ds : List Float) (n : ℕ) (v : Result (Unit {0}) Refu
   pub stats_known :
       (s : EsdfStats) (t : Tally)
       → v ≡ (Ok tt)
-      → Accepted ks ds n
+      → Accepted (marched_table ks ds n)
       → t ≡ tallied_all no_tally (marched_rows_of ks ds n)
       → s ≡ stats_of n t
       → Ok s ≡ get_stats (marched_table ks ds n)

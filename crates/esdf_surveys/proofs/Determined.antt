@@ -11,5 +11,5 @@ pub get_voxels_within_distance_determined :
     (κs : _) (a : _) (r r' : _) (s s' : _)
     → get_voxels_within_distance.Post κs a r s
     → get_voxels_within_distance.Post κs a r' s'
-    → (r ≡ r') × (s.1.1.1.1.0.now ≡ s'.1.1.1.1.0.now) × (s.1.1.1.1.1.0.now ≡ s'.1.1.1.1.1.0.now)
+    → (r ≡ r') × (s.1.1.0.now ≡ s'.1.1.0.now) × (s.1.1.1.0.now ≡ s'.1.1.1.0.now)
 get_voxels_within_distance_determined κs a r r' s s' p q = (p.0 ∙ sym q.0, p.1.0 ∙ sym q.1.0, p.1.1 ∙ sym q.1.1)

@@ -9,10 +9,12 @@ ghost use Rattle.marched.specs.Steps.{Accepted};
 ghost use Rattle.esdf_surveys.specs.Steps.{MayFill, PutOne, Put, Filled};
 ghost use Rattle.esdf_surveys.specs.Within.{is_within, cells_within, listed_said, within_listed, within_keys, within_distances};
 ghost use Rattle.esdf_surveys.specs.Statistics.{no_tally, tallied, tallied_all, unless_start, stats_of, get_stats};
+ghost use Rattle.marched.specs.Read.{marched_in, marched_rows_in};
 
 use floats::size;
 use marched::{check, check_list, pair_ok};
 use refusals::Refusal;
+use stored::Distances;
 
 // How many rows there are, below zero and not, and the ends of their distances.
 #[derive(Clone, Copy)]
@@ -74,18 +76,21 @@ fn put_if(
 
 // The rows within a distance, from the first place on, as far as they fit; and how many they are.
 fn put_within(
-    keys: &[u64],
-    distances: &[f32],
-    count: usize,
+    field: &Distances,
     threshold: f32,
     out_keys: &mut [u64],
     out_distances: &mut [f32],
 ) -> usize
-    requires { Accepted keys.now distances.now count × (length keys.now ≤ 1048576) }
-    ensures { Put (cells_within threshold (marched_rows_of keys.now distances.now count)) result
+    requires { Accepted (marched_in field.now) × (length field.now.keys.now ≤ 1048576) }
+    ensures { Put (cells_within threshold (marched_rows_in field.now)) result
         out_keys.old out_distances.old out_keys.new
         out_distances.new }
 {
+    let Distances {
+        keys,
+        distances,
+        count,
+    } = *field;
     let mut n = 0;
     for i in 0..count {
         n = put_if(threshold, keys[i], distances[i], out_keys, out_distances, n);
@@ -96,25 +101,23 @@ fn put_within(
 // The rows within a distance, if the tests have passed; what is answered.
 fn fill(
     verdict: Result<(), Refusal>,
-    keys: &[u64],
-    distances: &[f32],
-    count: usize,
+    field: &Distances,
     threshold: f32,
     out_keys: &mut [u64],
     out_distances: &mut [f32],
 ) -> Result<usize, Refusal>
-    requires { MayFill verdict keys.now distances.now count out_keys.old out_distances.old }
+    requires { MayFill verdict field.now.keys.now field.now.distances.now field.now.count out_keys.old out_distances.old }
     ensures { Filled (listed_said verdict
-        (room_for (length (cells_within threshold (marched_rows_of keys.now distances.now count)))
+        (room_for (length (cells_within threshold (marched_rows_in field.now)))
         (length out_keys.old)))
-        (cells_within threshold (marched_rows_of keys.now distances.now count)) result
+        (cells_within threshold (marched_rows_in field.now)) result
         out_keys.old out_distances.old out_keys.new
         out_distances.new }
 {
     match verdict {
         Err(why) => Err(why),
         Ok(()) => {
-            let n = put_within(keys, distances, count, threshold, out_keys, out_distances);
+            let n = put_within(field, threshold, out_keys, out_distances);
             lists::room_for(n, out_keys.len())
         }
     }
@@ -122,33 +125,23 @@ fn fill(
 
 // The rows within a distance of the surface.
 pub fn get_voxels_within_distance(
-    keys: &[u64],
-    distances: &[f32],
-    count: usize,
+    field: &Distances,
     threshold: f32,
     out_keys: &mut [u64],
     out_distances: &mut [f32],
 ) -> Result<usize, Refusal>
-    ensures value { result ≡ within_listed (marched_table keys.now distances.now count) threshold
+    ensures value { result ≡ within_listed (marched_in field.now) threshold
         (length out_keys.old) (length out_distances.old) }
     ensures out_keys_after { out_keys.new ≡ within_keys
-        (marched_table keys.now distances.now count) threshold (length out_keys.old)
+        (marched_in field.now) threshold (length out_keys.old)
         (length out_distances.old) }
     ensures out_distances_after { out_distances.new ≡ within_distances
-        (marched_table keys.now distances.now count) threshold (length out_keys.old)
+        (marched_in field.now) threshold (length out_keys.old)
         (length out_distances.old) }
 {
     let fit = pair_ok(out_keys.len(), out_distances.len());
-    let verdict = check_list(keys, distances, count, fit, threshold);
-    let listed = fill(
-        verdict,
-        keys,
-        distances,
-        count,
-        threshold,
-        out_keys,
-        out_distances,
-    );
+    let verdict = check_list(field, fit, threshold);
+    let listed = fill(verdict, field, threshold, out_keys, out_distances);
     let n = lists::count_of(listed);
     lists::clear_from(out_keys, n, 0);
     lists::clear_from(out_distances, n, 0.0);
@@ -180,10 +173,15 @@ fn tally_with(tally: Tally, distance: f32) -> Tally
 }
 
 // All rows.
-fn tally_all(keys: &[u64], distances: &[f32], count: usize) -> Tally
-    requires { Accepted keys.now distances.now count × (length keys.now ≤ 1048576) }
-    ensures { result ≡ tallied_all no_tally (marched_rows_of keys.now distances.now count) }
+fn tally_all(field: &Distances) -> Tally
+    requires { Accepted (marched_in field.now) × (length field.now.keys.now ≤ 1048576) }
+    ensures { result ≡ tallied_all no_tally (marched_rows_in field.now) }
 {
+    let Distances {
+        distances,
+        count,
+        ..
+    } = *field;
     let mut tally = Tally {
         obstacles: 0,
         free: 0,
@@ -217,11 +215,12 @@ fn stats_of(count: usize, tally: Tally) -> EsdfStats
 }
 
 // How many rows there are, below zero and not, and the ends of their distances.
-pub fn stats(keys: &[u64], distances: &[f32], count: usize) -> Result<EsdfStats, Refusal>
-    ensures { result ≡ get_stats (marched_table keys.now distances.now count) }
+pub fn stats(field: &Distances) -> Result<EsdfStats, Refusal>
+    ensures { result ≡ get_stats (marched_in field.now) }
 {
-    match check(keys, distances, count) {
+    let Distances { count, .. } = *field;
+    match check(field) {
         Err(why) => Err(why),
-        Ok(()) => Ok(stats_of(count, tally_all(keys, distances, count))),
+        Ok(()) => Ok(stats_of(count, tally_all(field))),
     }
 }

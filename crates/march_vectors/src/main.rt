@@ -3,6 +3,7 @@
 #![tactic(auto)]
 
 use refusals::Refusal;
+use stored::Distances;
 use vectors::{Field, Line, Score, float, same};
 
 // The rows that a march gave, the next of them to compare, and whether the last line's answer came out again.
@@ -82,7 +83,14 @@ fn given_after(field: Field, before: Given, line: Line) -> Given {
 }
 
 fn gradient_again(field: Field, words: [u64; 16]) -> bool {
-    match esdf_questions::get_gradient(&field.keys, &field.distances, field.rows, words[0]) {
+    match esdf_questions::get_gradient(
+        &Distances {
+            keys: &field.keys,
+            distances: &field.distances,
+            count: field.rows,
+        },
+        words[0],
+    ) {
         Ok(Some((x, y, z))) => {
             words[1] == 0
                 && same(x, float(words[2]))
@@ -95,7 +103,11 @@ fn gradient_again(field: Field, words: [u64; 16]) -> bool {
 }
 
 fn statistics_again(field: Field, words: [u64; 16]) -> bool {
-    let asked = esdf_surveys::stats(&field.keys, &field.distances, field.rows);
+    let asked = esdf_surveys::stats(&Distances {
+        keys: &field.keys,
+        distances: &field.distances,
+        count: field.rows,
+    });
     asked.is_ok_and(|s| {
         s.voxel_count as u64 == words[0]
             && s.obstacle_voxel_count as u64 == words[1]

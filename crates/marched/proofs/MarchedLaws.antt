@@ -151,12 +151,12 @@ module _ (t : MarchedTable) where
 
 -- what passed
 module _ (ks : List ℕ) (ds : List Float) (n : ℕ) where
-  accepted_by : marched_lengths_ok (length ks) (length ds) n ≡ true → marched_ok (marched_table ks ds n) ≡ true → Accepted ks ds n
+  accepted_by : marched_lengths_ok (length ks) (length ds) n ≡ true → marched_ok (marched_table ks ds n) ≡ true → Accepted (marched_table ks ds n)
   accepted_by a b =
       let l = lengths_known (length ks) (length ds) n a in
       record { fits = l.0; distances = l.1; ascends = and_second (marched_rows_ok (marched_rows_of ks ds n)) (ascending (take n ks)) b }
 
-  pub accepted : (v rest : Result (Unit {0}) Refusal) → v ≡ marched_then (marched_table ks ds n) rest → v ≡ (Ok tt) → Accepted ks ds n
+  pub accepted : (v rest : Result (Unit {0}) Refusal) → v ≡ marched_then (marched_table ks ds n) rest → v ≡ (Ok tt) → Accepted (marched_table ks ds n)
   unfolding marched_then
   accepted v rest e f =
       let a = need_passed (marched_lengths_ok (length ks) (length ds) n) Lengths _ (sym e ∙ f) in
@@ -172,7 +172,7 @@ module _ (ks : List ℕ) (ds : List Float) (n : ℕ) where
       → fit ≡ pair_ok (length oks) (length ods)
       → v ≡ list_check (marched_table ks ds n) fit threshold
       → v ≡ (Ok tt)
-      → Accepted ks ds n × (length ks ≤ 1048576) × (length ods ≡ length oks)
+      → Accepted (marched_table ks ds n) × (length ks ≤ 1048576) × (length ods ≡ length oks)
   unfolding list_check
   may_list oks ods fit threshold v p e f =
       let a = need_passed (marched_lengths_ok (length ks) (length ds) n) Lengths _ (sym e ∙ f) in
@@ -184,7 +184,7 @@ module _ (ks : List ℕ) (ds : List Float) (n : ℕ) where
 
 -- ---- looking a cell up
 
-module _ (ks : List ℕ) (ds : List Float) (n : ℕ) (h : Accepted ks ds n) (k : ℕ) (f : Option ℕ) (e : f ≡ find_by k (take n ks)) where
+module _ (ks : List ℕ) (ds : List Float) (n : ℕ) (h : Accepted (marched_table ks ds n)) (k : ℕ) (f : Option ℕ) (e : f ≡ find_by k (take n ks)) where
   is : f ≡ find k (take n ks)
   is = e ∙ find_by-find k (take n ks) h.ascends
 

@@ -1,2 +1,3 @@
 pub mod Marched
 pub mod Steps
+pub mod Read

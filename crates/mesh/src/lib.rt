@@ -14,6 +14,7 @@ ghost use Rattle.table.specs.Read.{table_of};
 use edges::Surface;
 use lists::LONGEST_LIST;
 use refusals::Refusal;
+use stored::Distances;
 use table::{Rows, Settings};
 
 // The lengths of the twelve lists.
@@ -315,7 +316,21 @@ fn extract(
     let built = drawn.built;
     let n = lists::count_of(edges);
     vertices::list_vertices(
-        keys, distances, count, size, first, second, n, px, py, pz, nx, ny, nz,
+        &Distances {
+            keys,
+            distances,
+            count,
+        },
+        size,
+        first,
+        second,
+        n,
+        px,
+        py,
+        pz,
+        nx,
+        ny,
+        nz,
     );
     let meshed = answer(verdict, edges, rooms.px, built);
     settle_edges(meshed, first, second);

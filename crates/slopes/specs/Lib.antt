@@ -1,3 +1,4 @@
 pub mod Stored
 pub mod Vertices
 pub mod Normals
+pub mod Read

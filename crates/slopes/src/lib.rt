@@ -6,9 +6,11 @@ ghost use Rattle.bcc_utils.specs.Metres.{metres_of};
 ghost use Rattle.slopes.specs.Stored.{distance_by};
 ghost use Rattle.slopes.specs.Vertices.{part_of, place_of, vertex_of, vertex_at};
 ghost use Rattle.slopes.specs.Normals.{length_of, direction_of, step_of, slopes_with, mean_of, normal_at};
+ghost use Rattle.slopes.specs.Read.{stored_by};
 
 use floats::Metres;
 use ids::Cells;
+use stored::Distances;
 
 // A vertex's place. Of its own type, beside a normal's: a place is in metres and a direction has no unit, and no function takes both.
 #[derive(Clone, Copy)]
@@ -49,9 +51,14 @@ const NO_SLOPES: Slopes = Slopes {
 };
 
 // The distance of a cell, by halving the first `count` keys.
-pub fn distance_of(keys: &[u64], distances: &[f32], count: usize, key: u64) -> Option<f32>
-    ensures { result ≡ distance_by keys.now distances.now count key }
+pub fn distance_of(field: &Distances, key: u64) -> Option<f32>
+    ensures { result ≡ stored_by field.now key }
 {
+    let Distances {
+        keys,
+        distances,
+        count,
+    } = *field;
     let place = search::find_row(keys, count, key)?;
     distances.get(place).copied()
 }
@@ -157,39 +164,26 @@ fn mean_of(sum: Slopes) -> Normal
 }
 
 // The normal at a cell.
-pub fn compute_normal(
-    keys: &[u64],
-    distances: &[f32],
-    count: usize,
-    voxel_size: Metres,
-    key: u64,
-) -> Normal
-    ensures { result ≡ normal_at (distance_by keys.now distances.now count) voxel_size.0 key }
+pub fn compute_normal(field: &Distances, voxel_size: Metres, key: u64) -> Normal
+    ensures { result ≡ normal_at (stored_by field.now) voxel_size.0 key }
 {
-    let Some(d) = distance_of(keys, distances, count, key) else {
+    let Some(d) = distance_of(field, key) else {
         return NO_NORMAL;
     };
     let near = neighbors::around(key);
     let mut sum = NO_SLOPES;
     for &neighbour in near.cells() {
-        let stored = distance_of(keys, distances, count, neighbour);
+        let stored = distance_of(field, neighbour);
         sum = slopes_with(voxel_size, key, d, sum, neighbour, stored);
     }
     mean_of(sum)
 }
 
 // The vertex of an edge, from what is stored of its cells.
-pub fn vertex_at(
-    keys: &[u64],
-    distances: &[f32],
-    count: usize,
-    voxel_size: Metres,
-    k1: u64,
-    k2: u64,
-) -> Vertex
-    ensures { result ≡ vertex_at (distance_by keys.now distances.now count) voxel_size.0 k1 k2 }
+pub fn vertex_at(field: &Distances, voxel_size: Metres, k1: u64, k2: u64) -> Vertex
+    ensures { result ≡ vertex_at (stored_by field.now) voxel_size.0 k1 k2 }
 {
-    let d1 = distance_of(keys, distances, count, k1).unwrap_or(0.0);
-    let d2 = distance_of(keys, distances, count, k2).unwrap_or(0.0);
+    let d1 = distance_of(field, k1).unwrap_or(0.0);
+    let d2 = distance_of(field, k2).unwrap_or(0.0);
     vertex_of(voxel_size, k1, d1, k2, d2)
 }

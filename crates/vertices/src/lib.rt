@@ -6,9 +6,11 @@ ghost use Rattle.std.proofs.lemmas.List.Edits.{sets};
 ghost use Rattle.slopes.specs.Stored.{distance_by};
 ghost use Rattle.slopes.specs.Vertices.{vertices_of, xs_of, ys_of, zs_of};
 ghost use Rattle.slopes.specs.Normals.{normal_at, normals_of, parts_x, parts_y, parts_z};
+ghost use Rattle.slopes.specs.Read.{stored_by};
 
 use floats::Metres;
 use slopes::{Normal, compute_normal, vertex_at};
+use stored::Distances;
 
 // The smaller of two numbers.
 fn least(a: usize, b: usize) -> usize
@@ -28,9 +30,7 @@ fn put(list: &mut [f32], at: usize, value: f32)
 
 // The place of each edge's vertex, as far as the lists have room.
 fn list_places(
-    keys: &[u64],
-    distances: &[f32],
-    count: usize,
+    field: &Distances,
     voxel_size: Metres,
     first: &[u64],
     second: &[u64],
@@ -40,18 +40,18 @@ fn list_places(
     pz: &mut [f32],
 )
     ensures px_after { px.new ≡ sets px.old 0
-        (xs_of (vertices_of (distance_by keys.now distances.now count) voxel_size.0
+        (xs_of (vertices_of (stored_by field.now) voxel_size.0
         (take edges first.now) (take edges second.now))) }
     ensures py_after { py.new ≡ sets py.old 0
-        (ys_of (vertices_of (distance_by keys.now distances.now count) voxel_size.0
+        (ys_of (vertices_of (stored_by field.now) voxel_size.0
         (take edges first.now) (take edges second.now))) }
     ensures pz_after { pz.new ≡ sets pz.old 0
-        (zs_of (vertices_of (distance_by keys.now distances.now count) voxel_size.0
+        (zs_of (vertices_of (stored_by field.now) voxel_size.0
         (take edges first.now) (take edges second.now))) }
 {
     let n = least(edges, least(first.len(), second.len()));
     for i in 0..n {
-        let v = vertex_at(keys, distances, count, voxel_size, first[i], second[i]);
+        let v = vertex_at(field, voxel_size, first[i], second[i]);
         put(px, i, v.x.0);
         put(py, i, v.y.0);
         put(pz, i, v.z.0);
@@ -59,30 +59,20 @@ fn list_places(
 }
 
 // The normal at a cell, where that at another is known: edges of one first cell stand together.
-fn next_normal(
-    keys: &[u64],
-    distances: &[f32],
-    count: usize,
-    voxel_size: Metres,
-    last: u64,
-    known: Normal,
-    key: u64,
-) -> Normal
-    requires { known ≡ normal_at (distance_by keys.now distances.now count) voxel_size.0 last }
-    ensures { result ≡ normal_at (distance_by keys.now distances.now count) voxel_size.0 key }
+fn next_normal(field: &Distances, voxel_size: Metres, last: u64, known: Normal, key: u64) -> Normal
+    requires { known ≡ normal_at (stored_by field.now) voxel_size.0 last }
+    ensures { result ≡ normal_at (stored_by field.now) voxel_size.0 key }
 {
     if key == last {
         known
     } else {
-        compute_normal(keys, distances, count, voxel_size, key)
+        compute_normal(field, voxel_size, key)
     }
 }
 
 // The normal of each edge's vertex, as far as the lists have room.
 fn list_normals(
-    keys: &[u64],
-    distances: &[f32],
-    count: usize,
+    field: &Distances,
     voxel_size: Metres,
     first: &[u64],
     edges: usize,
@@ -91,21 +81,21 @@ fn list_normals(
     nz: &mut [f32],
 )
     ensures nx_after { nx.new ≡ sets nx.old 0
-        (parts_x (normals_of (distance_by keys.now distances.now count) voxel_size.0
+        (parts_x (normals_of (stored_by field.now) voxel_size.0
         (take edges first.now))) }
     ensures ny_after { ny.new ≡ sets ny.old 0
-        (parts_y (normals_of (distance_by keys.now distances.now count) voxel_size.0
+        (parts_y (normals_of (stored_by field.now) voxel_size.0
         (take edges first.now))) }
     ensures nz_after { nz.new ≡ sets nz.old 0
-        (parts_z (normals_of (distance_by keys.now distances.now count) voxel_size.0
+        (parts_z (normals_of (stored_by field.now) voxel_size.0
         (take edges first.now))) }
 {
     let n = least(edges, first.len());
     let mut last = 0;
-    let mut normal = compute_normal(keys, distances, count, voxel_size, last);
+    let mut normal = compute_normal(field, voxel_size, last);
     for i in 0..n {
         let key = first[i];
-        normal = next_normal(keys, distances, count, voxel_size, last, normal, key);
+        normal = next_normal(field, voxel_size, last, normal, key);
         last = key;
         put(nx, i, normal.x);
         put(ny, i, normal.y);
@@ -115,9 +105,7 @@ fn list_normals(
 
 // The vertices of an edge list with their normals, as far as the lists have room.
 pub fn list_vertices(
-    keys: &[u64],
-    distances: &[f32],
-    count: usize,
+    field: &Distances,
     voxel_size: Metres,
     first: &[u64],
     second: &[u64],
@@ -130,26 +118,24 @@ pub fn list_vertices(
     nz: &mut [f32],
 )
     ensures px_after { px.new ≡ sets px.old 0
-        (xs_of (vertices_of (distance_by keys.now distances.now count) voxel_size.0
+        (xs_of (vertices_of (stored_by field.now) voxel_size.0
         (take edges first.now) (take edges second.now))) }
     ensures py_after { py.new ≡ sets py.old 0
-        (ys_of (vertices_of (distance_by keys.now distances.now count) voxel_size.0
+        (ys_of (vertices_of (stored_by field.now) voxel_size.0
         (take edges first.now) (take edges second.now))) }
     ensures pz_after { pz.new ≡ sets pz.old 0
-        (zs_of (vertices_of (distance_by keys.now distances.now count) voxel_size.0
+        (zs_of (vertices_of (stored_by field.now) voxel_size.0
         (take edges first.now) (take edges second.now))) }
     ensures nx_after { nx.new ≡ sets nx.old 0
-        (parts_x (normals_of (distance_by keys.now distances.now count) voxel_size.0
+        (parts_x (normals_of (stored_by field.now) voxel_size.0
         (take edges first.now))) }
     ensures ny_after { ny.new ≡ sets ny.old 0
-        (parts_y (normals_of (distance_by keys.now distances.now count) voxel_size.0
+        (parts_y (normals_of (stored_by field.now) voxel_size.0
         (take edges first.now))) }
     ensures nz_after { nz.new ≡ sets nz.old 0
-        (parts_z (normals_of (distance_by keys.now distances.now count) voxel_size.0
+        (parts_z (normals_of (stored_by field.now) voxel_size.0
         (take edges first.now))) }
 {
-    list_places(
-        keys, distances, count, voxel_size, first, second, edges, px, py, pz,
-    );
-    list_normals(keys, distances, count, voxel_size, first, edges, nx, ny, nz);
+    list_places(field, voxel_size, first, second, edges, px, py, pz);
+    list_normals(field, voxel_size, first, edges, nx, ny, nz);
 }

@@ -9,12 +9,12 @@ use Rattle.esdf_questions.proofs.get_gradient.Goals as goal
 pub stored_at-requires : goal.stored_at-requires
 stored_at-requires c =
     let a = c.args in
-    accepted a.keys.now a.distances.now a.count _ _ c.check_key.ensures c.in_ok-check_key.was
+    accepted a.field.now.keys.now a.field.now.distances.now a.field.now.count _ _ c.check_key.ensures c.in_ok-check_key.was
 
 pub sum_slopes-requires : goal.sum_slopes-requires
 sum_slopes-requires c =
     let a = c.args in
-    accepted a.keys.now a.distances.now a.count _ _ c.check_key.ensures c.in_ok-check_key.was
+    accepted a.field.now.keys.now a.field.now.distances.now a.field.now.count _ _ c.check_key.ensures c.in_ok-check_key.was
 
 pub returns-in_err-check_key : goal.returns-in_err-check_key
 unfolding once_passed

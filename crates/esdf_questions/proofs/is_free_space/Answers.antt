@@ -10,7 +10,7 @@ use Rattle.esdf_questions.proofs.is_free_space.Goals as goal
 pub stored_at-requires : goal.stored_at-requires
 stored_at-requires c =
     let a = c.args in
-    accepted a.keys.now a.distances.now a.count _ _ c.check_free.ensures c.in_ok-check_free.was
+    accepted a.field.now.keys.now a.field.now.distances.now a.field.now.count _ _ c.check_free.ensures c.in_ok-check_free.was
 
 pub returns-in_err-check_free : goal.returns-in_err-check_free
 unfolding once_passed

@@ -28,7 +28,7 @@ loop-i-preserved c =
       search rules,
       rw e (slopes_few a.key a.distance l.sum _ _ l.i l.invariant.4),
       l.invariant.5
-          ∙ slopes_more (marched_rows_of a.keys.now a.distances.now a.count) a.key a.distance
+          ∙ slopes_more (marched_rows_of a.field.now.keys.now a.field.now.distances.now a.field.now.count) a.key a.distance
           (neighbours a.key) _ l.invariant.0 l.i l.sum _
           (let t = c.loop-i-test.true in let n = l.invariant.1 in omega arith) e,
     )
@@ -38,6 +38,6 @@ returns c =
     let l = c.loop-i in
     let a = c.args in
     sym (l.invariant.5
-    ∙ slopes_none (marched_rows_of a.keys.now a.distances.now a.count) a.key a.distance
+    ∙ slopes_none (marched_rows_of a.field.now.keys.now a.field.now.distances.now a.field.now.count) a.key a.distance
     (neighbours a.key) _ l.invariant.0 l.i l.sum
     (let t = c.loop-i-test.false in let n = l.invariant.1 in omega arith))

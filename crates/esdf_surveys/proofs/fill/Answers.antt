@@ -13,14 +13,14 @@ put_within-n-requires c =
 pub returns-in-Err : goal.returns-in-Err
 returns-in-Err c =
     let a = c.args in
-    fill_refused _ (cells_within a.threshold (marched_rows_of a.keys.now a.distances.now a.count))
+    fill_refused _ (cells_within a.threshold (marched_rows_of a.field.now.keys.now a.field.now.distances.now a.field.now.count))
     a.out_keys.now a.out_distances.now c.in-Err.is
 
 pub returns-in-Ok : goal.returns-in-Ok
 returns-in-Ok c =
     let a = c.args in
     let v = c.in-Ok.is in
-    fill_passed _ (cells_within a.threshold (marched_rows_of a.keys.now a.distances.now a.count))
+    fill_passed _ (cells_within a.threshold (marched_rows_of a.field.now.keys.now a.field.now.distances.now a.field.now.count))
     a.out_keys.now a.out_distances.now _ _ _ _ _ v (c.requires v).2
     c.put_within-n.auto.out_keys
     c.put_within-n.ensures c.room_for.ensures

@@ -7,7 +7,7 @@ use Rattle.esdf_surveys.proofs.get_voxels_within_distance.Goals as goal
 pub fill-listed-requires : goal.fill-listed-requires
 fill-listed-requires c =
     let a = c.args in
-    may_list a.keys.now a.distances.now a.count a.out_keys.now a.out_distances.now _ a.threshold _
+    may_list a.field.now.keys.now a.field.now.distances.now a.field.now.count a.out_keys.now a.out_distances.now _ a.threshold _
     c.pair_ok-fit.ensures c.check_list-verdict.ensures
 
 pub returns : goal.returns
@@ -19,9 +19,9 @@ returns c =
     let k = c.fill-listed.auto in
     let n = c.count_of-n.ensures in
     record {
-      value = within_answer a.keys.now a.distances.now a.count a.threshold a.out_keys.now a.out_distances.now _ _ _ _ _ p q f;
-      out_keys_after = within_keys_lem a.keys.now a.distances.now a.count a.threshold a.out_keys.now a.out_distances.now _ _ _ _ _ p q f _
+      value = within_answer a.field.now.keys.now a.field.now.distances.now a.field.now.count a.threshold a.out_keys.now a.out_distances.now _ _ _ _ _ p q f;
+      out_keys_after = within_keys_lem a.field.now.keys.now a.field.now.distances.now a.field.now.count a.threshold a.out_keys.now a.out_distances.now _ _ _ _ _ p q f _
           k.out_keys n c.clear_from.ensures;
-      out_distances_after = within_distances_lem a.keys.now a.distances.now a.count a.threshold a.out_keys.now a.out_distances.now
+      out_distances_after = within_distances_lem a.field.now.keys.now a.field.now.distances.now a.field.now.count a.threshold a.out_keys.now a.out_distances.now
           _ _ _ _ _ p q f _ k.out_distances n c.clear_from-2.ensures;
     }

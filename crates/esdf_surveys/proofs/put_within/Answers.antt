@@ -13,7 +13,7 @@ loop-i-init c =
       search rules,
       refl,
       refl,
-      put_begun a.threshold (marched_rows_of a.keys.now a.distances.now a.count) a.out_keys.now
+      put_begun a.threshold (marched_rows_of a.field.now.keys.now a.field.now.distances.now a.field.now.count) a.out_keys.now
           a.out_distances.now,
     )
 
@@ -24,7 +24,7 @@ loop-i-preserved c =
     let l = c.loop-i in
     let t = c.loop-i-test.true in
     let k = c.put_if-n.auto in
-    let rs = marched_rows_of a.keys.now a.distances.now a.count in (
+    let rs = marched_rows_of a.field.now.keys.now a.field.now.distances.now a.field.now.count in (
       search rules,
       put_few a.threshold rs l.i l.n a.out_keys.now a.out_distances.now l.out_keys
           l.out_distances l.invariant.4 l.invariant.1 _ _ _ _ c.put_if-n.ensures,
@@ -32,7 +32,7 @@ loop-i-preserved c =
       k.out_distances ∙ l.invariant.3,
       put_next a.threshold rs l.i l.n a.out_keys.now a.out_distances.now l.out_keys
           l.out_distances l.invariant.4 _
-          (pair_at a.keys.now a.distances.now a.count l.i p.distances t p.fits) _ _ _
+          (pair_at a.field.now.keys.now a.field.now.distances.now a.field.now.count l.i p.distances t p.fits) _ _ _
           c.put_if-n.ensures,
     )
 
@@ -40,6 +40,6 @@ pub returns : goal.returns
 returns c =
     let a = c.args in
     let l = c.loop-i in
-    let rs = marched_rows_of a.keys.now a.distances.now a.count in
+    let rs = marched_rows_of a.field.now.keys.now a.field.now.distances.now a.field.now.count in
     put_done a.threshold rs l.i l.n a.out_keys.now a.out_distances.now l.out_keys l.out_distances
-    l.invariant.4 (pair_end a.keys.now a.distances.now a.count l.i c.loop-i-test.false)
+    l.invariant.4 (pair_end a.field.now.keys.now a.field.now.distances.now a.field.now.count l.i c.loop-i-test.false)

@@ -8,8 +8,8 @@ use Rattle.esdf_surveys.proofs.Walking.{Putting}
 use Rattle.esdf_surveys.proofs.put_within.Given as goal
 
 abbrev pub invariant-loop-i : goal.invariant-loop-i
-invariant-loop-i l = (l.i ≤ l.count)
+invariant-loop-i l = (l.i ≤ l.fn.field.count)
     × (l.n ≤ l.i)
     × (length l.out_keys ≡ length l.initial.out_keys)
     × (length l.out_distances ≡ length l.initial.out_distances)
-    × Putting l.threshold (marched_rows_of l.keys l.distances l.count) l.i l.n l.initial.out_keys l.initial.out_distances l.out_keys l.out_distances
+    × Putting l.threshold (marched_rows_of l.fn.field.keys.now l.fn.field.distances.now l.fn.field.count) l.i l.n l.initial.out_keys l.initial.out_distances l.out_keys l.out_distances

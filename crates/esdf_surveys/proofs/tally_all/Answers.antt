@@ -23,8 +23,8 @@ loop-i-preserved c =
       rw e f.0,
       rw e f.1,
       l.invariant.3
-          ∙ tally_more l.tally _ _ (marched_rows_of a.keys.now a.distances.now a.count) l.i
-          (pair_at a.keys.now a.distances.now a.count l.i p.distances t p.fits) e,
+          ∙ tally_more l.tally _ _ (marched_rows_of a.field.now.keys.now a.field.now.distances.now a.field.now.count) l.i
+          (pair_at a.field.now.keys.now a.field.now.distances.now a.field.now.count l.i p.distances t p.fits) e,
     )
 
 pub returns : goal.returns
@@ -32,5 +32,5 @@ returns c =
     let a = c.args in
     let l = c.loop-i in
     sym (l.invariant.3
-    ∙ tally_none l.tally (marched_rows_of a.keys.now a.distances.now a.count) l.i
-    (pair_end a.keys.now a.distances.now a.count l.i c.loop-i-test.false))
+    ∙ tally_none l.tally (marched_rows_of a.field.now.keys.now a.field.now.distances.now a.field.now.count) l.i
+    (pair_end a.field.now.keys.now a.field.now.distances.now a.field.now.count l.i c.loop-i-test.false))

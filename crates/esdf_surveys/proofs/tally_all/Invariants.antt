@@ -8,8 +8,8 @@ use Rattle.esdf_surveys.specs.Statistics.{no_tally, tallied_all}
 use Rattle.esdf_surveys.proofs.tally_all.Given as goal
 
 abbrev pub invariant-loop-i : goal.invariant-loop-i
-invariant-loop-i l = (l.i ≤ l.count)
+invariant-loop-i l = (l.i ≤ l.fn.field.count)
     × (l.tally.obstacles ≤ l.i)
     × (l.tally.free ≤ l.i)
-    × (tallied_all no_tally (marched_rows_of l.keys l.distances l.count)
-    ≡ tallied_all l.tally (drop l.i (marched_rows_of l.keys l.distances l.count)))
+    × (tallied_all no_tally (marched_rows_of l.fn.field.keys.now l.fn.field.distances.now l.fn.field.count)
+    ≡ tallied_all l.tally (drop l.i (marched_rows_of l.fn.field.keys.now l.fn.field.distances.now l.fn.field.count)))

@@ -11,5 +11,5 @@ use Rattle.slopes.proofs.compute_normal.Given as goal
 abbrev pub invariant-loop-neighbour : goal.invariant-loop-neighbour
 invariant-loop-neighbour l =
     (l.sum.count ≤ l.neighbour-index)
-    × (slopes_from (distance_by l.keys l.distances l.count) l.voxel_size.0 l.key l.d no_slopes (neighbours l.key)
-    ≡ slopes_from (distance_by l.keys l.distances l.count) l.voxel_size.0 l.key l.d l.sum (drop l.neighbour-index (neighbours l.key)))
+    × (slopes_from (distance_by l.fn.field.keys.now l.fn.field.distances.now l.fn.field.count) l.voxel_size.0 l.key l.d no_slopes (neighbours l.key)
+    ≡ slopes_from (distance_by l.fn.field.keys.now l.fn.field.distances.now l.fn.field.count) l.voxel_size.0 l.key l.d l.sum (drop l.neighbour-index (neighbours l.key)))

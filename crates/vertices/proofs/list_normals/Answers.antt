@@ -27,7 +27,7 @@ loop-i-preserved c =
     let a = c.args in
     let h : i < min a.edges (length a.first.now) = omega (arith, v.0, c.loop-i-test.true) in
     let t = c.next_normal-normal.ensures in
-    let next = normal_next (distance_by a.keys.now a.distances.now a.count) a.voxel_size.0 a.edges a.first.now i h in
+    let next = normal_next (distance_by a.field.now.keys.now a.field.now.distances.now a.field.now.count) a.voxel_size.0 a.edges a.first.now i h in
     let nx = c.put.ensures in
     let ny = c.put-in-loop-i.ensures in
     let nz = c.put-in-loop-i-2.ensures in (
@@ -47,7 +47,7 @@ returns-clause-nx_after c =
     let a = c.args in
     let h : min a.edges (length a.first.now) ≤ c.loop-i.i = omega (arith, v.0) in
     column_done (λ (u : Normal). u.x) _ c.loop-i.i _ _ v.5
-    (normals_end (distance_by a.keys.now a.distances.now a.count) a.voxel_size.0 a.edges a.first.now c.loop-i.i h)
+    (normals_end (distance_by a.field.now.keys.now a.field.now.distances.now a.field.now.count) a.voxel_size.0 a.edges a.first.now c.loop-i.i h)
 
 pub returns-clause-ny_after : goal.returns-clause-ny_after
 returns-clause-ny_after c =
@@ -55,7 +55,7 @@ returns-clause-ny_after c =
     let a = c.args in
     let h : min a.edges (length a.first.now) ≤ c.loop-i.i = omega (arith, v.0) in
     column_done (λ (u : Normal). u.y) _ c.loop-i.i _ _ v.6
-    (normals_end (distance_by a.keys.now a.distances.now a.count) a.voxel_size.0 a.edges a.first.now c.loop-i.i h)
+    (normals_end (distance_by a.field.now.keys.now a.field.now.distances.now a.field.now.count) a.voxel_size.0 a.edges a.first.now c.loop-i.i h)
 
 pub returns-clause-nz_after : goal.returns-clause-nz_after
 returns-clause-nz_after c =
@@ -63,4 +63,4 @@ returns-clause-nz_after c =
     let a = c.args in
     let h : min a.edges (length a.first.now) ≤ c.loop-i.i = omega (arith, v.0) in
     column_done (λ (u : Normal). u.z) _ c.loop-i.i _ _ v.7
-    (normals_end (distance_by a.keys.now a.distances.now a.count) a.voxel_size.0 a.edges a.first.now c.loop-i.i h)
+    (normals_end (distance_by a.field.now.keys.now a.field.now.distances.now a.field.now.count) a.voxel_size.0 a.edges a.first.now c.loop-i.i h)

@@ -10,7 +10,7 @@ use Rattle.vertices.proofs.Columns.{normals_from}
 use Rattle.vertices.proofs.list_normals.Given as goal
 
 abbrev pub invariant-loop-i : goal.invariant-loop-i
-invariant-loop-i l = let look = distance_by l.keys l.distances l.count in
+invariant-loop-i l = let look = distance_by l.fn.field.keys.now l.fn.field.distances.now l.fn.field.count in
     let from = normals_from look l.voxel_size.0 l.edges l.first in
     (l.n ≡ min l.edges (length l.first))
     × (l.normal ≡ normal_at look l.voxel_size.0 l.last)

@@ -30,7 +30,7 @@ loop-i-preserved c =
     let a = c.args in
     let h : i < min a.edges (min (length a.first.now) (length a.second.now)) = omega (arith, v.0, c.loop-i-test.true) in
     let t = c.vertex_at-v.ensures in
-    let next = vertex_next (distance_by a.keys.now a.distances.now a.count) a.voxel_size.0 a.edges a.first.now a.second.now i h in
+    let next = vertex_next (distance_by a.field.now.keys.now a.field.now.distances.now a.field.now.count) a.voxel_size.0 a.edges a.first.now a.second.now i h in
     let px = c.put.ensures in
     let py = c.put-in-loop-i.ensures in
     let pz = c.put-in-loop-i-2.ensures in (
@@ -49,7 +49,7 @@ returns-clause-px_after c =
     let a = c.args in
     let h : min a.edges (min (length a.first.now) (length a.second.now)) ≤ c.loop-i.i = omega (arith, v.0) in
     column_done (λ (u : Vertex). u.x.0) _ c.loop-i.i _ _ v.4
-    (vertices_end (distance_by a.keys.now a.distances.now a.count) a.voxel_size.0 a.edges a.first.now a.second.now c.loop-i.i h)
+    (vertices_end (distance_by a.field.now.keys.now a.field.now.distances.now a.field.now.count) a.voxel_size.0 a.edges a.first.now a.second.now c.loop-i.i h)
 
 pub returns-clause-py_after : goal.returns-clause-py_after
 returns-clause-py_after c =
@@ -57,7 +57,7 @@ returns-clause-py_after c =
     let a = c.args in
     let h : min a.edges (min (length a.first.now) (length a.second.now)) ≤ c.loop-i.i = omega (arith, v.0) in
     column_done (λ (u : Vertex). u.y.0) _ c.loop-i.i _ _ v.5
-    (vertices_end (distance_by a.keys.now a.distances.now a.count) a.voxel_size.0 a.edges a.first.now a.second.now c.loop-i.i h)
+    (vertices_end (distance_by a.field.now.keys.now a.field.now.distances.now a.field.now.count) a.voxel_size.0 a.edges a.first.now a.second.now c.loop-i.i h)
 
 pub returns-clause-pz_after : goal.returns-clause-pz_after
 returns-clause-pz_after c =
@@ -65,4 +65,4 @@ returns-clause-pz_after c =
     let a = c.args in
     let h : min a.edges (min (length a.first.now) (length a.second.now)) ≤ c.loop-i.i = omega (arith, v.0) in
     column_done (λ (u : Vertex). u.z.0) _ c.loop-i.i _ _ v.6
-    (vertices_end (distance_by a.keys.now a.distances.now a.count) a.voxel_size.0 a.edges a.first.now a.second.now c.loop-i.i h)
+    (vertices_end (distance_by a.field.now.keys.now a.field.now.distances.now a.field.now.count) a.voxel_size.0 a.edges a.first.now a.second.now c.loop-i.i h)

@@ -10,7 +10,7 @@ use Rattle.vertices.proofs.Columns.{vertices_from}
 use Rattle.vertices.proofs.list_places.Given as goal
 
 abbrev pub invariant-loop-i : goal.invariant-loop-i
-invariant-loop-i l = let from = vertices_from (distance_by l.keys l.distances l.count) l.voxel_size.0 l.edges l.first l.second in
+invariant-loop-i l = let from = vertices_from (distance_by l.fn.field.keys.now l.fn.field.distances.now l.fn.field.count) l.voxel_size.0 l.edges l.first l.second in
     (l.n ≡ min l.edges (min (length l.first) (length l.second)))
     × (length l.px ≡ length l.initial.px)
     × (length l.py ≡ length l.initial.py)
