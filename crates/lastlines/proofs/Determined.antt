@@ -12,9 +12,9 @@ parts e = (ap (λ (t : Table). t.keys) e, ap (λ (t : Table). t.distances) e, ap
 
 pub take_line_determined : (κs : _) (a : _) (r r' : _) (s s' : _) → take_line.Post κs a r s → take_line.Post κs a r' s' →
     (r ≡ r')
-    × ((s.1.1.1.1.0.now ≡ s'.1.1.1.1.0.now)
+    × ((s.1.1.1.0.now ≡ s'.1.1.1.0.now)
+    × (s.1.1.1.1.0.now ≡ s'.1.1.1.1.0.now)
     × (s.1.1.1.1.1.0.now ≡ s'.1.1.1.1.1.0.now)
-    × (s.1.1.1.1.1.1.0.now ≡ s'.1.1.1.1.1.1.0.now)
-    × (s.1.1.1.1.1.1.1.0.now ≡ s'.1.1.1.1.1.1.1.0.now))
-    × (s.1.1.1.1.1.1.1.1.0.now ≡ s'.1.1.1.1.1.1.1.1.0.now)
+    × (s.1.1.1.1.1.1.0.now ≡ s'.1.1.1.1.1.1.0.now))
+    × (s.1.1.1.1.1.1.1.0.now ≡ s'.1.1.1.1.1.1.1.0.now)
 take_line_determined κs a r r' s s' p q = (p.answer ∙ sym q.answer, parts (p.left ∙ sym q.left), p.text ∙ sym q.text)

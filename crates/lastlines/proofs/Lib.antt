@@ -1,4 +1,4 @@
 pub mod LineLaws
 pub mod RoundTrip
-pub mod Determined
 pub mod Samples
+pub mod Determined

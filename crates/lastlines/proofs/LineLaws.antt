@@ -17,7 +17,7 @@ use Rattle.lists.proofs.Bools.{cases, and_first}
 use Rattle.lists.proofs.Writing.{sets_append}
 use Rattle.refusals.specs.declared.Refusal.{Refusal}
 use Rattle.refusals.specs.Refusals.{number_of}
-use Rattle.refusals.specs.declared.Refusal.TheVariants.{Setting, OffLattice, BadReading, NoPlace}
+use Rattle.refusals.specs.declared.Refusal.TheVariants.{NoPlace}
 use Rattle.table.specs.Table.{Table}
 use Rattle.table.specs.declared.Settings.{Settings}
 use Rattle.lines.specs.declared.Line.{Line}
@@ -27,12 +27,10 @@ use Rattle.mesh.specs.Mesh.{edges_of, triangles_of, vertices_of, have_room, held
 use Rattle.slopes.specs.Vertices.{xs_of, ys_of, zs_of}
 use Rattle.texts.specs.Texts.{hex_digits, hex_field, decimal_from, counts_line, vertex_line, bad_line, refused_line}
 use Rattle.fusing.specs.declared.Fused.{Fused}
-use Rattle.measuring.specs.declared.Reading.TheVariants as reading
-use Rattle.fusing.specs.Fusing.{outcome, fuse}
-use Rattle.ids.specs.Key.{made_of}
+use Rattle.fusing.specs.Fusing.{outcome}
 use Rattle.lastlines.specs.declared.Stepped.{Stepped}
-use Rattle.lastlines.specs.Lastcheck.{placed_of, given_of, settings_from, setup_of, cell_of, taken_of, fused_as, reading_of, vertex_lines, printed_for, mesh_text, goes_on_lem, held, After, after, after_setup, after_reading, after_mesh, after_line, step_of, stepped_as, IsStep}
-use Rattle.lastlines.specs.Steps.{edges_in, Prints}
+use Rattle.lastlines.specs.Lastcheck.{setup_of, reading_of, vertex_lines, printed_for, mesh_text, goes_on_lem, held, After, after, after_setup, after_reading, after_mesh, after_line, step_of, stepped_as, IsStep}
+use Rattle.lastlines.specs.Steps.{edges_in, stepped, Prints, PrintsStep}
 
 -- a vertex's line has 29 bytes
 pub vertex_length : (x y z : Float) → length (vertex_line x y z) ≡ 29
@@ -98,10 +96,6 @@ counts_length r e t =
 pub counts_fit : {at : ℕ} (r e t : ℕ) → at ≡ length (counts_line r e t) → at ≤ 84
 counts_fit r e t h = rw h (counts_length r e t)
 
--- an answer of the call
-abbrev pub stepped : Bool → Settings → ℕ → Bool → Stepped
-stepped started s n goes = record { started = started; settings = s; length = n; goes_on = goes }
-
 -- an answer has at most 512 edges
 bound_if : (v : Result (Unit {0}) Refusal) (t : Table) → edges_in (meshed_if v t held) ≤ 512
 unfolding meshed_on
@@ -121,84 +115,40 @@ edges_in_lem s t e = rw e (edges_bound s t)
 pub edges_few : {a : Result (ℕ × ℕ) Refusal} {n m : ℕ} → a ≡ Ok (n, m) → edges_in a ≤ 512 → n ≤ 512
 edges_few e h = rw e at h
 
--- what is written is what a step prints
-pub prints :
-    (started : Bool) (s : Settings) (text : List ℕ) (goes : Bool) {n : ℕ} {l o : List ℕ}
-    → n ≡ length text
-    → o ≡ sets l 0 text
-    → (t : Table)
-    → Prints (after started s t text goes) (stepped started s n goes) l o
-prints started s text goes e f t = record { answer = ap (λ (n : ℕ). stepped started s n goes) e; text = f }
-
--- P and D, case by case
-module _ (started : Bool) (s : Settings) where
-  pub setup_ready :
-      (l : List ℕ) {w : Result Settings Refusal} {ready : Settings}
-      → w ≡ Ok ready
-      → (t : Table)
-      → Prints (after_setup w started s t) (stepped true ready 0 true) l l
-  unfolding after_setup
-  setup_ready l e t = rw e (record { answer = refl; text = refl })
-
-  pub setup_refused :
-      {w : Result Settings Refusal} {why : Refusal} {r : Stepped} {l o : List ℕ} → w ≡ Err why → ((t : Table) → Prints (after started s t (refused_line why) false) r l o) →
-      (t : Table) → Prints (after_setup w started s t) r l o
-  unfolding after_setup
-  setup_refused e p t = rw e (p t)
-
-  pub fused_refused :
-      {w :
-      Result Fused Refusal} {why : Refusal} {r : Stepped} {l o : List ℕ} → w ≡ Err why → ((t : Table)
-      → Prints (after started s t (refused_line why) false) r l o) →
-      (t : Table) → Prints (after_reading w started s t) r l o
-  unfolding after_reading
-  fused_refused e p t = rw e (p t)
-
-  pub fused_far : (l : List ℕ) {w : Result Fused Refusal} → w ≡ (Ok Fused.Far) → (t : Table) → Prints (after_reading w started s t) (stepped started s 0 true) l l
-  unfolding after_reading
-  fused_far l e t = rw e (record { answer = refl; text = refl })
-
-  pub fused_new : (l : List ℕ) {w : Result Fused Refusal} → w ≡ (Ok Fused.New) → (t : Table) → Prints (after_reading w started s t) (stepped started s 0 true) l l
-  unfolding after_reading
-  fused_new l e t = rw e (record { answer = refl; text = refl })
-
-  pub fused_changed : (l : List ℕ) {w : Result Fused Refusal} → w ≡ (Ok Fused.Changed) → (t : Table) → Prints (after_reading w started s t) (stepped started s 0 true) l l
-  unfolding after_reading
-  fused_changed l e t = rw e (record { answer = refl; text = refl })
-
 -- counts and then vertices are what a mesh prints
-module _ (started : Bool) (s : Settings) (t : Table) (rows n m : ℕ) (xs ys zs : List Float) (l : List ℕ) where
-  pub print_done :
-      {a : Result (ℕ × ℕ) Refusal} {k o : List ℕ} {at : ℕ} → a ≡ Ok (n, m) → at ≡ length (counts_line rows n m) → k ≡ sets l 0 (counts_line rows n m) →
-      o ≡ sets k at (vertex_lines n 0 xs ys zs) →
-      Prints (after started s t (printed_for a rows xs ys zs) (goes_on_lem a)) (stepped started s (at + 29 * n) true) l o
-  unfolding printed_for
-  print_done {a} {k} {o} {at} d e f g =
-      let long : at + 29 * n ≡ length (counts_line rows n m ++ vertex_lines n 0 xs ys zs) =
-      rw (length-append (counts_line rows n m) (vertex_lines n 0 xs ys zs), lines_length xs ys zs n 0, e) in
-      let place : 0 + length (counts_line rows n m) ≡ at = omega arith in
-      rw d (record {
-        answer = ap (λ (j : ℕ). stepped started s j true) long;
-        text = g ∙ rw (f, sets_append l 0 (counts_line rows n m) (vertex_lines n 0 xs ys zs), place);
-      })
+pub print_done :
+    (s : Settings) (rows n m : ℕ) (xs ys zs : List Float) (l : List ℕ) {a : Result (ℕ × ℕ) Refusal} {k o : List ℕ} {at : ℕ}
+    → a ≡ Ok (n, m)
+    → at ≡ length (counts_line rows n m)
+    → k ≡ sets l 0 (counts_line rows n m)
+    → o ≡ sets k at (vertex_lines n 0 xs ys zs)
+    → Prints (Some s) (printed_for a rows xs ys zs) (goes_on_lem a) (stepped (Some s) (at + 29 * n) true) l o
+unfolding printed_for
+print_done s rows n m xs ys zs l {a} {k} {o} {at} d e f g =
+    let long : at + 29 * n ≡ length (counts_line rows n m ++ vertex_lines n 0 xs ys zs) =
+    rw (length-append (counts_line rows n m) (vertex_lines n 0 xs ys zs), lines_length xs ys zs n 0, e) in
+    let place : 0 + length (counts_line rows n m) ≡ at = omega arith in
+    rw d (record {
+      answer = ap (λ (j : ℕ). stepped (Some s) j true) long;
+      text = g ∙ rw (f, sets_append l 0 (counts_line rows n m) (vertex_lines n 0 xs ys zs), place);
+    })
 
 pub print_refused :
-    (started : Bool) (s : Settings) (t : Table) (rows : ℕ) (xs ys zs : List Float) (why : Refusal) {a : Result (ℕ × ℕ) Refusal}
-    {r : Stepped} {l o : List ℕ}
+    (s : Settings) (rows : ℕ) (xs ys zs : List Float) (why : Refusal) {a : Result (ℕ × ℕ) Refusal} {r : Stepped} {l o : List ℕ}
     → a ≡ Err why
-    →
-    Prints (after started s t (refused_line why) false) r l o → Prints (after started s t (printed_for a rows xs ys zs) (goes_on_lem a)) r l o
+    → Prints (Some s) (refused_line why) false r l o
+    → Prints (Some s) (printed_for a rows xs ys zs) (goes_on_lem a) r l o
 unfolding printed_for
-print_refused started s t rows xs ys zs why e p = rw e p
+print_refused s rows xs ys zs why e p = rw e p
 
 -- what the mesh's answer and its lists print is what M prints
 pub surface :
-    (started : Bool) (s : Settings) (t : Table) (l : List ℕ) {a : Result (ℕ × ℕ) Refusal} {xs ys zs : List Float} {r : Stepped} {o : List ℕ} → a ≡ mesh_answer s t held →
+    (s : Settings) (t : Table) (l : List ℕ) {a : Result (ℕ × ℕ) Refusal} {xs ys zs : List Float} {r : Stepped} {o : List ℕ} → a ≡ mesh_answer s t held →
     xs ≡ held_in zero32 (mesh_answer s t held) 512 (xs_of (vertices_of s t)) → ys ≡ held_in zero32 (mesh_answer s t held) 512 (ys_of (vertices_of s t)) →
     zs ≡ held_in zero32 (mesh_answer s t held) 512 (zs_of (vertices_of s t)) →
-    Prints (after started s t (printed_for a t.count xs ys zs) (goes_on_lem a)) r l o → Prints (after_mesh started s t) r l o
+    Prints (Some s) (printed_for a t.count xs ys zs) (goes_on_lem a) r l o → PrintsStep (after_mesh s t) r l o
 unfolding mesh_text after_mesh
-surface started s t l e f g h p = record { answer = p.answer ∙ rw (f, g, h, e); text = p.text ∙ rw (f, g, h, e) }
+surface s t l e f g h p = record { answer = p.answer ∙ rw (f, g, h, e); text = p.text ∙ rw (f, g, h, e) }
 
 -- no line prints more than 15,000 bytes
 pub refused_length : (why : Refusal) → length (refused_line why) ≤ 29
@@ -215,144 +165,91 @@ mesh_short (Ok (n, m)) rows xs ys zs h =
     rw (length-append (counts_line rows n m) (vertex_lines n 0 xs ys zs), lines_length xs ys zs n 0) (omega (arith, counts_length rows n m))
 mesh_short (Err why) rows xs ys zs h = omega (arith, refused_length why)
 
-module _ (started : Bool) (s : Settings) (t : Table) where
-  setup_short : (w : Result Settings Refusal) → length (after_setup w started s t).text ≤ 15000
+module _ (t : Table) where
+  setup_short : (w : Result Settings Refusal) → length (after_setup w t).text ≤ 15000
   unfolding after_setup
-  setup_short (Ok s') = omega arith
+  setup_short (Ok s) = omega arith
   setup_short (Err why) = omega (arith, refused_length why)
 
-  reading_short : (r : Result Fused Refusal) → length (after_reading r started s t).text ≤ 15000
+  reading_short : (r : Result Fused Refusal) (s : Settings) → length (after_reading r s t).text ≤ 15000
   unfolding after_reading
-  reading_short (Ok Fused.New) = omega arith
-  reading_short (Ok Fused.Changed) = omega arith
-  reading_short (Ok Fused.Far) = omega arith
-  reading_short (Err why) = omega (arith, refused_length why)
+  reading_short (Ok fused) s = omega arith
+  reading_short (Err why) s = omega (arith, refused_length why)
 
-module _ (started : Bool) (s : Settings) (t : Table) where
-  surface_short : length (after_mesh started s t).text ≤ 15000
+  surface_short : (s : Settings) → length (after_mesh s t).text ≤ 15000
   unfolding after_mesh mesh_text
-  surface_short = mesh_short (mesh_answer s t held) t.count _ _ _ (edges_bound s t)
+  surface_short s = mesh_short (mesh_answer s t held) t.count _ _ _ (edges_bound s t)
 
-  line_short : (n : ℕ) (g : Line) → length (after_line g n started s t).text ≤ 15000
+module _ (n : ℕ) (t : Table) where
+  line_short : (g : Option Line) (s : Option Settings) → length (after_line g n s t).text ≤ 15000
   unfolding after_line
-  line_short n (line.Settings a b c) = setup_short started s t (setup_of a b c)
-  line_short n (line.Reading x y z d c) = reading_short started s (reading_of s t x y z d c).left (reading_of s t x y z d c).answer
-  line_short n line.Mesh = surface_short
-  line_short n line.Bad = omega (arith, bad_length n)
+  line_short (Some (line.Settings a b c)) None = setup_short t (setup_of a b c)
+  line_short (Some (line.Settings a b c)) (Some s) = omega (arith, bad_length n)
+  line_short (Some (line.Reading x y z d c)) (Some s) =
+      reading_short (reading_of s t x y z d c).left (reading_of s t x y z d c).answer s
+  line_short (Some (line.Reading x y z d c)) None = omega (arith, bad_length n)
+  line_short (Some line.Mesh) (Some s) = surface_short t s
+  line_short (Some line.Mesh) None = omega (arith, bad_length n)
+  line_short None s = omega (arith, bad_length n)
 
-  -- P and D leave the table that they are handed
-  setup_left : (w : Result Settings Refusal) → t ≡ (after_setup w started s t).left
-  unfolding after_setup
-  setup_left (Ok s') = refl
-  setup_left (Err why) = refl
+-- P and D leave the table that they are handed
+setup_left : (w : Result Settings Refusal) (t : Table) → t ≡ (after_setup w t).left
+unfolding after_setup
+setup_left (Ok s) t = refl
+setup_left (Err why) t = refl
 
-  reading_left : (r : Result Fused Refusal) → t ≡ (after_reading r started s t).left
-  unfolding after_reading
-  reading_left (Ok Fused.New) = refl
-  reading_left (Ok Fused.Changed) = refl
-  reading_left (Ok Fused.Far) = refl
-  reading_left (Err why) = refl
+reading_left : (r : Result Fused Refusal) (s : Settings) (t : Table) → t ≡ (after_reading r s t).left
+unfolding after_reading
+reading_left (Ok fused) s t = refl
+reading_left (Err why) s t = refl
 
 -- one line is what its kind does
-module _ (bytes : List ℕ) (n : ℕ) (started : Bool) (s : Settings) (t : Table) (l : List ℕ) {f g : Line}
-    (e : f ≡ line_of bytes) (h : g ≡ placed_of started f) where
-  one_line : step_of bytes n started s t ≡ after_line g n started s t
-  unfolding step_of
-  one_line = ap (λ (q : Line). after_line q n started s t) (sym (h ∙ ap (placed_of started) e))
-
-  is_step :
+module _ (bytes : List ℕ) (n : ℕ) (s : Option Settings) (t : Table) (l : List ℕ) {g : Option Line} (e : g ≡ line_of bytes) where
+  pub is_step :
       {a : After} {r : Stepped} {t' : Table} {o : List ℕ}
-      → after_line g n started s t ≡ a
-      → Prints a r l o
+      → after_line g n s t ≡ a
+      → PrintsStep a r l o
       → t' ≡ a.left
-      → IsStep (step_of bytes n started s t) r t' l o
+      → IsStep (step_of bytes n s t) r t' l o
   unfolding step_of
   is_step {a} q p k =
-      let same : a ≡ step_of bytes n started s t = sym (one_line ∙ q) in
+      let same : a ≡ step_of bytes n s t = sym q ∙ ap (λ (g : Option Line). after_line g n s t) e in
       record {
         answer = p.answer ∙ ap stepped_as same;
         left = k ∙ ap (λ (x : After). x.left) same;
         text = p.text ∙ ap (λ (x : After). sets l 0 x.text) same;
-        short = line_short started s t n (placed_of started (line_of bytes));
+        short = line_short n t (line_of bytes) s;
       }
 
   pub step_settings :
       {a b c : ℕ} {w : Result Settings Refusal} {r : Stepped} {o : List ℕ}
-      → g ≡ line.Settings a b c
+      → g ≡ Some (line.Settings a b c)
+      → s ≡ None
       → w ≡ setup_of a b c
-      → Prints (after_setup w started s t) r l o
-      → IsStep (step_of bytes n started s t) r t l o
+      → PrintsStep (after_setup w t) r l o
+      → IsStep (step_of bytes n s t) r t l o
   unfolding after_line
-  step_settings {w = w} k d p = is_step (rw (k, d)) p (setup_left started s t w)
+  step_settings {w = w} k f d p = is_step (rw (k, f, d)) p (setup_left w t)
 
   pub step_reading :
-      {x y z d c : ℕ} {w : Result Fused Refusal} {t' : Table} {r : Stepped} {o : List ℕ}
-      → g ≡ line.Reading x y z d c
-      → outcome w t' ≡ reading_of s t x y z d c
-      → Prints (after_reading w started s t') r l o
-      →
-      IsStep (step_of bytes n started s t) r t' l o
+      {x y z d c : ℕ} {u : Settings} {w : Result Fused Refusal} {t' : Table} {r : Stepped} {o : List ℕ}
+      → g ≡ Some (line.Reading x y z d c)
+      → s ≡ Some u
+      → outcome w t' ≡ reading_of u t x y z d c
+      → PrintsStep (after_reading w u t') r l o
+      → IsStep (step_of bytes n s t) r t' l o
   unfolding after_line
-  step_reading {w = w} {t' = t'} k d p = is_step (rw (k, ← d)) p (reading_left started s t' w)
+  step_reading {u = u} {w = w} {t' = t'} k f d p = is_step (rw (k, f, ← d)) p (reading_left w u t')
 
-  pub step_mesh : {r : Stepped} {o : List ℕ} → g ≡ line.Mesh → Prints (after_mesh started s t) r l o → IsStep (step_of bytes n started s t) r t l o
+  pub step_mesh :
+      {u : Settings} {r : Stepped} {o : List ℕ} → g ≡ Some line.Mesh → s ≡ Some u → PrintsStep (after_mesh u t) r l o → IsStep (step_of bytes n s t) r t l o
   unfolding after_line after_mesh
-  step_mesh k p = is_step (rw k) p refl
+  step_mesh k f p = is_step (rw (k, f)) p refl
 
-  pub step_bad : {r : Stepped} {o : List ℕ} → g ≡ line.Bad → Prints (after started s t (bad_line n) false) r l o → IsStep (step_of bytes n started s t) r t l o
-  unfolding after_line
-  step_bad k p = is_step (rw k) p refl
-
--- what was read, fused or refused
-module _ (s : Settings) (t : Table) (x y z d c : ℕ) {r : Result (ℕ × Float × Float) Refusal} (e : r ≡ taken_of x y z d c) where
-  pub reading_refused : (why : Refusal) → r ≡ Err why → reading_of s t x y z d c ≡ outcome (Err why) t
-  unfolding reading_of fused_as
-  reading_refused why f = rw (← e, f)
-
-  pub reading_direct : (k : ℕ) (a b : Float) → r ≡ Ok (k, a, b) → reading_of s t x y z d c ≡ fuse s t k (reading.Direct (record { 0 = a }) b)
-  unfolding reading_of fused_as
-  reading_direct k a b f = rw (← e, f)
-
--- P's words, one after the other
-module _ (t w s : ℕ) {f : Option Float} (e : f ≡ given_of t) where
-  pub setup_first : f ≡ None → setup_of t w s ≡ Err Setting
-  unfolding setup_of
-  setup_first n = rw (← e, n)
-
-  module _ {a : Float} (n : f ≡ Some a) {g : Option Float} (d : g ≡ given_of w) where
-    pub setup_second : g ≡ None → setup_of t w s ≡ Err Setting
-    unfolding setup_of
-    setup_second m = rw (← e, n, ← d, m)
-
-    module _ {b : Float} (m : g ≡ Some b) {h : Option Float} (q : h ≡ given_of s) where
-      pub setup_third : h ≡ None → setup_of t w s ≡ Err Setting
-      unfolding setup_of
-      setup_third o = rw (← e, n, ← d, m, ← q, o)
-
-      pub setup_read : {c : Float} → h ≡ Some c → setup_of t w s ≡ settings_from a b c
-      unfolding setup_of
-      setup_read o = rw (← e, n, ← d, m, ← q, o)
-
--- D's cell and words, one after the other
-module _ (x y z d c : ℕ) {r : Result ℕ Refusal} (e : r ≡ made_of 0 x y z) where
-  cell : r ≡ cell_of x y z
-  unfolding cell_of
-  cell = e
-
-  pub cell_refused : {why : Refusal} → r ≡ Err why → taken_of x y z d c ≡ Err OffLattice
-  unfolding taken_of
-  cell_refused n = rw (← cell, n)
-
-  module _ {k : ℕ} (n : r ≡ Ok k) {g : Option Float} (f : g ≡ given_of d) where
-    pub cell_distance : g ≡ None → taken_of x y z d c ≡ Err BadReading
-    unfolding taken_of
-    cell_distance m = rw (← cell, n, ← f, m)
-
-    module _ {a : Float} (m : g ≡ Some a) {h : Option Float} (q : h ≡ given_of c) where
-      pub cell_confidence : h ≡ None → taken_of x y z d c ≡ Err BadReading
-      unfolding taken_of
-      cell_confidence o = rw (← cell, n, ← f, m, ← q, o)
-
-      pub cell_read : {b : Float} → h ≡ Some b → taken_of x y z d c ≡ Ok (k, a, b)
-      unfolding taken_of
-      cell_read o = rw (← cell, n, ← f, m, ← q, o)
+  -- any other line
+  pub step_bad :
+      {r : Stepped} {o : List ℕ}
+      → after_line g n s t ≡ after s t (bad_line n) false
+      → Prints s (bad_line n) false r l o
+      → IsStep (step_of bytes n s t) r t l o
+  step_bad k p = is_step k p refl

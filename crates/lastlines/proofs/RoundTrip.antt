@@ -1,5 +1,7 @@
 -- What is printed reads back: a word's hex digits, and so the bits of a vertex; a number's decimal digits.
 -- Assumes nothing.
+use Rattle.std.specs.Prelude.{Some, Option, unwrap_or}
+use Rattle.std.proofs.lemmas.Bool.Decides.{nat_tests}
 use Prim.Native.Nat.{ℕ, zero, suc, ◌+◌, ◌*◌, ◌/◌, ◌%◌, ◌^◌, ◌<◌, ◌≤◌}
 use native.Mathlib.Nat.{add-zero, mod-one, mod-lt, mod-eq_of_lt, div-add-mod', add-mul-mod_self_left, mul-le-mul_right, pow-suc, one-le-pow}
 use native.Mathlib.Omega.{arith}
@@ -8,21 +10,20 @@ use mathlib.Core.Bool.{Bool, cond}
 use mathlib.Core.List.{List, [], ◌∷◌, ◌++◌}
 use lib.ListN.{length, get_or, take, drop}
 use lib.Seq.{get_or-drop, drop-drop}
-use lib.Dec.{T, ltb, eqb, eqb→eq, lit<}
+use lib.Dec.{T, ltb, lit<}
 use lib.Ieee.{Float, fits, to_bits, binary32}
 use lib.Ieee.Bits.{to_bits-lt}
-use borrow.Author.Tests.{lt-ltb, ltb-true, eq-eqb}
+use borrow.Author.Tests.{ltb-true, eq-eqb}
 use Rattle.lists.proofs.Bools.{cases}
-use Rattle.lists.proofs.Table.{below}
 use Rattle.lines.specs.declared.Line.{Line}
 use Rattle.lines.specs.declared.Line.TheVariants.{Settings}
-use Rattle.lines.specs.Lines.{digit_value, hex_value, hex_from, word_at, with_word, ends_at, settings_line, line_of}
+use Rattle.lines.specs.Lines.{digit_of, hex_from, word_at, with_word, ends_at, settings_line, line_of}
 use Rattle.texts.specs.Texts.{glyph, hex_digits, hex_field, decimal_from, decimal, vertex_line}
 
--- a digit reads back, tested at all sixteen
-digit_back : (d : ℕ) → d < 16 → hex_value (glyph d) ≡ d
-unfolding hex_value
-digit_back d h = eqb→eq (hex_value (glyph d)) d (below (λ k. eqb (hex_value (glyph k)) k) 16 tt d h)
+-- a digit reads back
+digit_back : (d : ℕ) → d < 16 → digit_of 16 (glyph d) ≡ Some d
+unfolding digit_of
+digit_back d h = grind (arith, nat_tests)
 
 digit_most : (d : ℕ) → d < 16 → d ≤ 15
 digit_most d h = omega arith
@@ -49,20 +50,20 @@ split w v k = split_by (16 ^ k) (one-le-pow k 16 (lit< tt)) w v (pow-suc 16 k)
 hex_back :
     (k : ℕ) (s : List ℕ) (at v w : ℕ) (rest : List ℕ)
     → drop at s ≡ hex_digits k w ++ rest
-    → (f : ℕ → Line)
+    → (f : ℕ → Option Line)
     → with_word (hex_from k s at v) f ≡ f (v * 16 ^ k + w % 16 ^ k)
 unfolding hex_from hex_digits
 hex_back zero s at v w rest e f = let same : v ≡ v * 16 ^ 0 + w % 16 ^ 0 = omega (arith, mod-one w) in ap f same
 hex_back (suc k) s at v w rest e f =
     let g : get_or s at 0 ≡ glyph (w / 16 ^ k % 16) = ap (λ n. get_or s n 0) (sym (add-zero at)) ∙ sym (get_or-drop at s 0 0) ∙ ap (λ l. get_or l 0 0) e in
     let small : w / 16 ^ k % 16 < 16 = mod-lt (w / 16 ^ k) (lit< tt) in
-    let d : hex_value (get_or s at 0) ≡ w / 16 ^ k % 16 = ap hex_value g ∙ digit_back (w / 16 ^ k % 16) small in
+    let d : digit_of 16 (get_or s at 0) ≡ Some (w / 16 ^ k % 16) = ap (digit_of 16) g ∙ digit_back (w / 16 ^ k % 16) small in
     let n : suc at ≡ at + 1 = omega arith in
     let t : drop (suc at) s ≡ hex_digits k w ++ rest = ap (λ m. drop m s) n ∙ sym (drop-drop 1 at s) ∙ ap (drop 1) e in
-    rw (d, lt-ltb (w / 16 ^ k % 16) 16 small) (hex_back k s (suc at) (v * 16 + w / 16 ^ k % 16) w rest t f ∙ ap f (split w v k))
+    rw d (hex_back k s (suc at) (v * 16 + w / 16 ^ k % 16) w rest t f ∙ ap f (split w v k))
 
 -- a word of 32 bits reads back where its field stands
-word_back : (s : List ℕ) (at w : ℕ) (rest : List ℕ) → w < 2 ^ 32 → drop at s ≡ hex_field w ++ rest → (f : ℕ → Line) → with_word (word_at s at) f ≡ f w
+word_back : (s : List ℕ) (at w : ℕ) (rest : List ℕ) → w < 2 ^ 32 → drop at s ≡ hex_field w ++ rest → (f : ℕ → Option Line) → with_word (word_at s at) f ≡ f w
 unfolding word_at hex_field
 word_back s at w rest h e f =
     let space : get_or s at 0 ≡ 32 = ap (λ n. get_or s n 0) (sym (add-zero at)) ∙ sym (get_or-drop at s 0 0) ∙ ap (λ l. get_or l 0 0) e in
@@ -73,13 +74,13 @@ word_back s at w rest h e f =
 -- three fields after `P` are settings
 settings_back :
     (s : List ℕ) (a b c : ℕ) (p q r : List ℕ) → a < 2 ^ 32 → b < 2 ^ 32 → c < 2 ^ 32 → get_or s 0 0 ≡ 80 → length s ≡ 28 →
-    drop 1 s ≡ hex_field a ++ p → drop 10 s ≡ hex_field b ++ q → drop 19 s ≡ hex_field c ++ r → line_of s ≡ Settings a b c
+    drop 1 s ≡ hex_field a ++ p → drop 10 s ≡ hex_field b ++ q → drop 19 s ≡ hex_field c ++ r → line_of s ≡ Some (Settings a b c)
 unfolding line_of settings_line
 settings_back s a b c p q r ha hb hc first long ea eb ec =
-    let ends : ends_at 28 s (Settings a b c) ≡ Settings a b c = rw (eq-eqb (length s) 28 long) in
-    let third : with_word (word_at s 19) (λ z. ends_at 28 s (Settings a b z)) ≡ Settings a b c =
+    let ends : ends_at 28 s (Settings a b c) ≡ Some (Settings a b c) = rw (eq-eqb (length s) 28 long) in
+    let third : with_word (word_at s 19) (λ z. ends_at 28 s (Settings a b z)) ≡ Some (Settings a b c) =
     word_back s 19 c r hc ec (λ z. ends_at 28 s (Settings a b z)) ∙ ends in
-    let second : with_word (word_at s 10) (λ w. with_word (word_at s 19) (λ z. ends_at 28 s (Settings a w z))) ≡ Settings a b c =
+    let second : with_word (word_at s 10) (λ w. with_word (word_at s 19) (λ z. ends_at 28 s (Settings a w z))) ≡ Some (Settings a b c) =
     word_back s 10 b q hb eb (λ w. with_word (word_at s 19) (λ z. ends_at 28 s (Settings a w z))) ∙ third in
     rw first (word_back s 1 a p ha ea (λ t. with_word (word_at s 10) (λ w. with_word (word_at s 19) (λ z. ends_at 28 s (Settings t w z)))) ∙ second)
 
@@ -90,11 +91,15 @@ bits_fit x h = to_bits-lt binary32 x h
 -- what is printed for a vertex reads back as the same bits: with `P` for `v` and without its newline the line is read as those three words
 pub vertex_back :
     (x y z : Float) → T (fits binary32 x) → T (fits binary32 y) → T (fits binary32 z) →
-    line_of (80 ∷ take 27 (drop 1 (vertex_line x y z))) ≡ Settings (to_bits binary32 x) (to_bits binary32 y) (to_bits binary32 z)
+    line_of (80 ∷ take 27 (drop 1 (vertex_line x y z))) ≡ Some (Settings (to_bits binary32 x) (to_bits binary32 y) (to_bits binary32 z))
 unfolding vertex_line hex_field hex_digits
 vertex_back x y z hx hy hz =
     settings_back (80 ∷ take 27 (drop 1 (vertex_line x y z))) (to_bits binary32 x) (to_bits binary32 y) (to_bits binary32 z)
     _ _ _ (bits_fit x hx) (bits_fit y hy) (bits_fit z hz) refl refl refl refl refl
+
+-- the value of a decimal digit, 10 for any other byte
+abbrev pub digit_value : ℕ → ℕ
+digit_value b = unwrap_or (digit_of 10 b) 10
 
 -- the value of decimal digits after others of value v
 unfoldable pub value_of : ℕ → List ℕ → ℕ
@@ -102,8 +107,8 @@ value_of v [] = v
 value_of v (b ∷ bs) = value_of (v * 10 + digit_value b) bs
 
 decimal_digit : (d : ℕ) → d < 10 → digit_value (48 + d) ≡ d
-unfolding digit_value
-decimal_digit d h = eqb→eq (digit_value (48 + d)) d (below (λ k. eqb (digit_value (48 + k)) k) 10 tt d h)
+unfolding digit_of
+decimal_digit d h = grind (arith, nat_tests)
 
 digits_back : (k n : ℕ) (text : List ℕ) → n < 10 ^ k → value_of 0 (decimal_from k n text) ≡ value_of n text
 unfolding decimal_from value_of

@@ -6,7 +6,7 @@ use mathlib.Core.List.{List, [], ◌∷◌, ◌++◌, map}
 use lib.Count.{count_trailing_zeros}
 use lib.Ieee.{span, climb, size, odd, units, round, neg, sum, add, sub, mul, div, lt, eq, le, ne, of_int, of_fields, of_bits, to_bits, nan_bits}
 use Rattle.lists.specs.Beside.{beside_by}
-use Rattle.lines.specs.Lines.{digit_value, hex_value, hex_from, word_at, digits_from, number_at, settings_line, reading_line, line_of}
+use Rattle.lines.specs.Lines.{digit_of, hex_from, word_at, digits_from, number_at, settings_line, reading_line, line_of}
 use Rattle.texts.specs.Texts.{hex_digits, hex_field, decimal_from, counts_line, vertex_line, bad_line, refused_line}
 use Rattle.ids.specs.Key.{same_parity}
 use Rattle.ids.specs.Morton.{respaced, morton}
@@ -28,7 +28,7 @@ use Rattle.groups.specs.Groups.{numbers_from}
 use Rattle.groups.specs.Near.{gathered}
 use Rattle.lists.specs.Threes.{with_third, with_two, threes, twos_of, threes_of}
 use Rattle.mesh.specs.Mesh.{mesh_check, meshed_on, mesh_answer_on, held_in}
-use Rattle.lastlines.specs.Lastcheck.{placed_of, given_of, tested_as, settings_from, setup_of, cell_of, taken_of, fused_as, reading_of, vertex_lines, printed_for, mesh_text, after_setup, after_reading, after_mesh, after_line, step_of, transcript_from, unended, lines_from, transcript}
+use Rattle.lastlines.specs.Lastcheck.{given_of, tested_as, settings_from, setup_of, cell_of, taken_of, fused_as, reading_of, vertex_lines, printed_for, mesh_text, after_setup, after_reading, after_mesh, after_line, step_of, transcript_from, unended, lines_from, transcript}
 
 -- `P 3f800000 42c80000 3f800000` and a newline
 abbrev pub ready : List ℕ
@@ -72,12 +72,12 @@ pub samples :
     ∷ 56 ∷ 48 ∷ 48 ∷ 48 ∷ 48 ∷ 32 ∷ 52 ∷ 49 ∷ 50 ∷ 56 ∷ 48 ∷ 48 ∷ 48 ∷ 48 ∷ 10 ∷ [])
     ∷ []
 unfolding count_trailing_zeros span climb size odd units round neg sum add sub mul div lt eq le ne of_int of_fields of_bits to_bits
-    nan_bits digit_value hex_value hex_from word_at digits_from number_at settings_line reading_line line_of hex_digits hex_field
+    nan_bits digit_of hex_from word_at digits_from number_at settings_line reading_line line_of hex_digits hex_field
     decimal_from counts_line vertex_line bad_line refused_line same_parity respaced morton padded joined kept insert place
     rises_from ascending next find beside_by rows_ok need check_with put relaid new_weight fused_voxel voxel_at has_place step_at
     stored fused_near fused_if fuse_if effect_of fuse admit_if admitted edges_to edges stored-edges crossing offsets in_box reached_from shown neighbours_by
     distance_at distance_of-vertices or_zero part_of-vertices vertex_of vertex_at paired cell_span cell_edges numbers_from gathered
-    with_third with_two threes twos_of threes_of mesh_check meshed_on mesh_answer_on held_in placed_of given_of tested_as settings_from
+    with_third with_two threes twos_of threes_of mesh_check meshed_on mesh_answer_on held_in given_of tested_as settings_from
     setup_of cell_of taken_of fused_as reading_of vertex_lines printed_for mesh_text after_setup after_reading after_mesh after_line
     step_of transcript_from unended lines_from transcript
 samples = refl

@@ -21,13 +21,6 @@ use Rattle.slopes.specs.Vertices.{xs_of, ys_of, zs_of}
 use Rattle.lastlines.specs.declared.Stepped.{Stepped}
 use Rattle.refusals.specs.declared.Refusal.{Refusal}
 
--- P comes first and once; a misplaced line is bad
-unfoldable pub placed_of : Bool → Line → Line
-placed_of started (line.Settings t w s) = cond started line.Bad (line.Settings t w s)
-placed_of started (line.Reading x y z d c) = cond started (line.Reading x y z d c) line.Bad
-placed_of started line.Mesh = cond started line.Mesh line.Bad
-placed_of started line.Bad = line.Bad
-
 -- the float of 32 bits; a NaN's bits are none
 unfoldable pub given_of : ℕ → Option Float
 given_of bits = cond (nan_bits binary32 bits) None (Some (of_bits binary32 bits))
@@ -117,47 +110,47 @@ abbrev pub goes_on_lem : Result (ℕ × ℕ) Refusal → Bool
 goes_on_lem (Ok (n, m)) = true
 goes_on_lem (Err why) = false
 
--- after a line: whether P came, the settings, the table, what is printed, and whether the run goes on
+-- after a line: the settings, where P came, the table, what is printed, and whether the run goes on
 pub record After : Type 0 where
-  pub started : Bool
-  pub settings : Settings
+  pub settings : Option Settings
   pub left : Table
   pub text : List ℕ
   pub goes : Bool
 
-abbrev pub after : Bool → Settings → Table → List ℕ → Bool → After
-after started s t text goes = record { started = started; settings = s; left = t; text = text; goes = goes }
+abbrev pub after : Option Settings → Table → List ℕ → Bool → After
+after s t text goes = record { settings = s; left = t; text = text; goes = goes }
 
 -- P is silent unless it is refused
-unfoldable pub after_setup : Result Settings Refusal → Bool → Settings → Table → After
-after_setup (Ok s') started s t = after true s' t [] true
-after_setup (Err why) started s t = after started s t (refused_line why) false
+unfoldable pub after_setup : Result Settings Refusal → Table → After
+after_setup (Ok s) t = after (Some s) t [] true
+after_setup (Err why) t = after None t (refused_line why) false
 
 -- D is silent unless it is refused
-unfoldable pub after_reading : Result Fused Refusal → Bool → Settings → Table → After
-after_reading (Ok Fused.New) started s t = after started s t [] true
-after_reading (Ok Fused.Changed) started s t = after started s t [] true
-after_reading (Ok Fused.Far) started s t = after started s t [] true
-after_reading (Err why) started s t = after started s t (refused_line why) false
+unfoldable pub after_reading : Result Fused Refusal → Settings → Table → After
+after_reading (Ok fused) s t = after (Some s) t [] true
+after_reading (Err why) s t = after (Some s) t (refused_line why) false
 
 -- M leaves the table as it is
-unfoldable pub after_mesh : Bool → Settings → Table → After
-after_mesh started s t = after started s t (mesh_text s t) (goes_on_lem (mesh_answer s t held))
+unfoldable pub after_mesh : Settings → Table → After
+after_mesh s t = after (Some s) t (mesh_text s t) (goes_on_lem (mesh_answer s t held))
 
--- a line in its place; a bad one prints its number, and ends the run
-unfoldable pub after_line : Line → ℕ → Bool → Settings → Table → After
-after_line (line.Settings a b c) n started s t = after_setup (setup_of a b c) started s t
-after_line (line.Reading x y z d c) n started s t = let o = reading_of s t x y z d c in after_reading o.answer started s o.left
-after_line line.Mesh n started s t = after_mesh started s t
-after_line line.Bad n started s t = after started s t (bad_line n) false
+-- P comes first and once, the others after it; a line that is bad, or not in its place, prints its number and ends the run
+unfoldable pub after_line : Option Line → ℕ → Option Settings → Table → After
+after_line (Some (line.Settings a b c)) n None t = after_setup (setup_of a b c) t
+after_line (Some (line.Settings a b c)) n (Some s) t = after (Some s) t (bad_line n) false
+after_line (Some (line.Reading x y z d c)) n (Some s) t = let o = reading_of s t x y z d c in after_reading o.answer s o.left
+after_line (Some (line.Reading x y z d c)) n None t = after None t (bad_line n) false
+after_line (Some line.Mesh) n (Some s) t = after_mesh s t
+after_line (Some line.Mesh) n None t = after None t (bad_line n) false
+after_line None n s t = after s t (bad_line n) false
 
 -- one line, by its bytes and its number
-unfoldable pub step_of : List ℕ → ℕ → Bool → Settings → Table → After
-step_of bytes n started s t = after_line (placed_of started (line_of bytes)) n started s t
+unfoldable pub step_of : List ℕ → ℕ → Option Settings → Table → After
+step_of bytes n s t = after_line (line_of bytes) n s t
 
 -- what the call answers of it
 abbrev pub stepped_as : After → Stepped
-stepped_as a = record { started = a.started; settings = a.settings; length = length a.text; goes_on = a.goes }
+stepped_as a = record { settings = a.settings; length = length a.text; goes_on = a.goes }
 
 -- the answer, the table, and what stands in the lent bytes from the front on; no line prints more than 15,000 bytes
 pub record IsStep (a : After) (r : Stepped) (t : Table) (out out' : List ℕ) : Type 0 where
@@ -167,11 +160,11 @@ pub record IsStep (a : After) (r : Stepped) (t : Table) (out out' : List ℕ) : 
   pub short : length a.text ≤ 15000
 
 -- what the run prints for its lines, the first of them numbered n; it ends at a line that is bad or refused
-unfoldable pub transcript_from : ℕ → Bool → Settings → Table → List (List ℕ) → List ℕ
-transcript_from n started s t [] = []
-transcript_from n started s t (l ∷ ls) =
-    let a = step_of l n started s t in
-    a.text ++ cond a.goes (transcript_from (suc n) a.started a.settings a.left ls) []
+unfoldable pub transcript_from : ℕ → Option Settings → Table → List (List ℕ) → List ℕ
+transcript_from n s t [] = []
+transcript_from n s t (l ∷ ls) =
+    let a = step_of l n s t in
+    a.text ++ cond a.goes (transcript_from (suc n) a.settings a.left ls) []
 
 -- bytes after the last newline are a line
 unfoldable pub unended : List ℕ → List (List ℕ)
@@ -183,14 +176,10 @@ unfoldable pub lines_from : List ℕ → List ℕ → List (List ℕ)
 lines_from kept [] = unended kept
 lines_from kept (b ∷ bs) = cond (eqb b 10) (kept ∷ lines_from [] bs) (lines_from (kept ++ (b ∷ [])) bs)
 
--- the run begins without settings
-abbrev pub unset : Settings
-unset = settings_with zero32 zero32 zero32
-
--- and with 256 places, none of them a row
+-- the run begins without settings, and with 256 places, none of them a row
 abbrev pub unfilled : Table
 unfilled = table (replicate 256 0) (replicate 256 zero32) (replicate 256 zero32) 0
 
 -- what the program prints for its input
 unfoldable pub transcript : List ℕ → List ℕ
-transcript input = transcript_from 1 false unset unfilled (lines_from [] input)
+transcript input = transcript_from 1 None unfilled (lines_from [] input)

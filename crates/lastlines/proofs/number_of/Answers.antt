@@ -1,17 +1,15 @@
--- `lastlines::number_of` meets its contract: the test is that of a NaN's bits.
+-- `lastlines::number_of` meets its contract: the bits of a NaN are those whose float is one.
 -- Assumes nothing.
-use lib.Ieee.{nan_bits}
+use Rattle.std.proofs.Common.{◌≡◌, arith}
+use Rattle.std.specs.Float.{binary32}
+use lib.Ieee.{nan_bits, is_nan, of_bits}
+use lib.Ieee.Bits.{nan_bits_is}
 use Rattle.lastlines.specs.Lastcheck.{given_of}
 use Rattle.lastlines.proofs.number_of.Goals as goal
 
-pub float_from_bits-x : goal.float_from_bits-x
-unfolding nan_bits
-float_from_bits-x c = rw c.if-bits.false tt
-
-pub returns-then-bits : goal.returns-then-bits
-unfolding given_of nan_bits
-returns-then-bits c = rw c.if-bits.true
-
-pub returns-else-bits : goal.returns-else-bits
-unfolding given_of nan_bits
-returns-else-bits c = rw c.if-bits.false
+pub returns : goal.returns
+unfolding given_of
+returns c =
+    let b = c.args.bits in
+    let test : nan_bits binary32 b ≡ is_nan (of_bits binary32 b) = nan_bits_is binary32 b in
+    grind arith

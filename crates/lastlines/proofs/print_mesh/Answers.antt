@@ -28,11 +28,8 @@ overflow_add-result c =
 
 pub returns-in-Ok : goal.returns-in-Ok
 returns-in-Ok c =
-    λ t.
-    print_done _ _ t _ _ _ _ _ _ _ c.in-Ok.is
-    c.counts_line-at.ensures.value
-    c.counts_line-at.ensures.out_after
+    print_done _ _ _ _ _ _ _ _ c.in-Ok.is c.counts_line-at.ensures.value c.counts_line-at.ensures.out_after
     c.vertex_lines.ensures
 
 pub returns-in-Err : goal.returns-in-Err
-returns-in-Err c = λ t. print_refused _ _ t _ _ _ _ _ c.in-Err.is (c.refuse.ensures t)
+returns-in-Err c = print_refused _ _ _ _ _ _ c.in-Err.is c.refuse.ensures

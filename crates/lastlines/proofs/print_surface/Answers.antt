@@ -13,7 +13,7 @@ print_mesh-requires c = (
 
 pub returns : goal.returns
 returns c =
-    surface _ _ _ _ c.extract_mesh_from_tsdf-meshed.ensures.answer
+    surface _ _ _ c.extract_mesh_from_tsdf-meshed.ensures.answer
     c.extract_mesh_from_tsdf-meshed.ensures.px
     c.extract_mesh_from_tsdf-meshed.ensures.py
-    c.extract_mesh_from_tsdf-meshed.ensures.pz (c.print_mesh.ensures _)
+    c.extract_mesh_from_tsdf-meshed.ensures.pz c.print_mesh.ensures
