@@ -1,5 +1,6 @@
-// Marks: a lent list of keys as a table with open addressing, its values in a list beside it. Key 0 stands there as 1, which is no key of the lattice;
-// a place that holds 0 is empty. OnWay a key stand only larger ones on its path, so a search ends at the first that is not larger.
+// Marks: a lent list of keys as a table with open addressing, its values in a list beside it. Key 0 stands there as 1, which is
+// no key of the lattice; a place that holds 0 is empty. On the way to a key stand only larger ones on its path, so a search ends
+// at the first that is not larger. No `HashMap`: the lists are the caller's, and nothing takes memory from a heap.
 #![tactic(auto)]
 
 ghost use Rattle.std.specs.Prelude.{◌≡◌, ◌≤◌, ◌<◌, ◌-◌, length};
@@ -12,7 +13,7 @@ const NARROW: u64 = 0x1_0000_0000;
 fn label(key: u64) -> u64
     ensures { result ≡ label key }
 {
-    if key == 0 { 1 } else { key }
+    key.max(1)
 }
 
 // Where a label's path begins among some places.
@@ -31,17 +32,15 @@ pub fn home(key: u64, places: usize) -> usize
 
 // The first place from one on and before another whose label is at most the key.
 fn seek(keys: &[u64], from: usize, to: usize, key: u64) -> usize
-    requires { to ≤ length keys.now }
+    requires { (from ≤ to) × (to ≤ length keys.now) }
     ensures { result ≡ seek key keys.now from (to - from) }
 {
-    let mut i = from;
-    while i < to {
+    for i in from..to {
         if keys[i] <= key {
             return i;
         }
-        i += 1;
     }
-    i
+    to
 }
 
 // Where the search for a label ends.
@@ -79,7 +78,7 @@ fn following(i: usize, places: usize) -> usize
 }
 
 // A key that is absent is put in from the place on where its search ended; each smaller one on the way gives up its place, with its value, and goes on.
-// Where every place is taken, the lists are spoilt.
+// Where every place is taken, the lists are spoilt. No `for`: the way goes round the list until an empty place.
 pub fn enter(keys: &mut [u64], values: &mut [f32], place: usize, key: u64, value: f32)
     requires { length values.old ≡ length keys.old }
     ensures { Enters key place value keys.old values.old keys.new values.new }
@@ -121,7 +120,7 @@ fn comes_first(start: usize, a: usize, b: usize) -> bool
 }
 
 // The label at a place goes, with its value; each later one whose path comes by the empty place moves there and leaves its own.
-// Where every place is taken, the lists are spoilt.
+// Where every place is taken, the lists are spoilt. No `for`, as in `enter`.
 pub fn leave(keys: &mut [u64], values: &mut [f32], place: usize)
     requires { (length values.old ≡ length keys.old) × (place < length keys.old) }
     ensures { Leaves place keys.old values.old keys.new values.new }

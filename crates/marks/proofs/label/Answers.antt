@@ -1,13 +1,16 @@
--- `marks::label` meets its contract: it is the definition's test.
+-- `marks::label` meets its contract: only 0 is below 1.
 -- Assumes nothing.
-use borrow.Author.Tests.{eq-eqb, ne_eqb}
+use Prim.Native.Nat.{ℕ, zero, suc, max}
+use native.Mathlib.Omega.{arith}
+use mathlib.Core.Path.{◌≡◌, refl, ◌∙◌}
+use borrow.Author.Tests.{ne_eqb}
 use Rattle.marks.specs.Marks.{label}
 use Rattle.marks.proofs.label.Goals as goal
 
-pub returns-then-key-eq0 : goal.returns-then-key-eq0
+at_least_one : (k : ℕ) → max k 1 ≡ label k
 unfolding label
-returns-then-key-eq0 c = rw (eq-eqb _ 0 c.if-key-eq0.true)
+at_least_one zero = refl
+at_least_one (suc k) = rw (ne_eqb (suc k) 0 (omega arith)) (omega arith)
 
-pub returns-else-key-eq0 : goal.returns-else-key-eq0
-unfolding label
-returns-else-key-eq0 c = rw (ne_eqb _ 0 c.if-key-eq0.false)
+pub returns : goal.returns
+returns c = c.max.ensures ∙ at_least_one c.args.key

@@ -7,6 +7,3 @@ use Rattle.marks.proofs.seek.Given as goal
 
 abbrev pub invariant-loop-i : goal.invariant-loop-i
 invariant-loop-i l = seek l.key l.keys l.from (l.to - l.from) ≡ seek l.key l.keys l.i (l.to - l.i)
-
-abbrev pub decreases-loop-i : goal.decreases-loop-i
-decreases-loop-i l = l.to - l.i
