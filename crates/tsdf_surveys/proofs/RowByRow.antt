@@ -9,7 +9,8 @@ use mathlib.Core.List.{List, [], ◌∷◌}
 use lib.ListN.{get_or, set, drop, length-take, drop_of_length-le}
 use lib.Seq.{sets}
 use lib.Ieee.{Float, nan, binary32, add, lt}
-use Rattle.floats.specs.Floats.{zero32, size_of, smaller_of, larger_of}
+use Rattle.ends.specs.Ends.{widened}
+use Rattle.floats.specs.Floats.{zero32, size_of}
 use Rattle.lists.specs.Lists.{kept}
 use Rattle.table.specs.Table.{Row, rows_of, table}
 use Rattle.table.proofs.RowLaws.{row_at_lem}
@@ -60,7 +61,7 @@ unfolding tallied
 tallied_near size t d w = go (lt zero32 w) (lt (size_of d) size)
   where
     more : Bool → Tally
-    more b = record { near = cond b (t.near + 1) t.near; low = smaller_of t.low d; high = larger_of t.high d; weight = add binary32 t.weight w }
+    more b = record { near = cond b (t.near + 1) t.near; ends = widened t.ends d; weight = add binary32 t.weight w }
 
     go : (a b : Bool) → (cond a (more b) t).near ≤ t.near + 1
     go true true = omega arith

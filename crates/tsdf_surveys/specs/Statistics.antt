@@ -1,8 +1,9 @@
 -- Statistics of the table.
 use Rattle.std.specs.Prelude.{ℕ, ◌+◌, cond, List, [], ◌∷◌, eqb, pos, Float, Ok, Err, Result}
 use Rattle.std.specs.Float.{binary32}
-use Rattle.std.specs.Float.Ieee.{add, div, neg, lt, eq, of_int}
-use Rattle.floats.specs.Floats.{zero32, largest, size_of, smaller_of, larger_of}
+use Rattle.std.specs.Float.Ieee.{add, div, lt, of_int}
+use Rattle.ends.specs.Ends.{no_ends, widened, lowest, highest}
+use Rattle.floats.specs.Floats.{zero32, size_of}
 use Rattle.refusals.specs.Refusals.{number_of}
 use Rattle.table.specs.declared.Settings.{Settings}
 use Rattle.table.specs.Table.{Row, Table, rows, table_check}
@@ -10,9 +11,9 @@ use Rattle.tsdf_surveys.specs.declared.Tally.{Tally}
 use Rattle.tsdf_surveys.specs.declared.TsdfStats.{TsdfStats}
 use Rattle.refusals.specs.declared.Refusal.{Refusal}
 
--- before the first row: the lowest starts at the largest float, the highest at its negative, the weights at +0
+-- before the first row: the ends lie beyond every distance, the weights start at +0
 abbrev pub no_tally : Tally
-no_tally = record { near = 0; low = largest; high = neg largest; weight = zero32 }
+no_tally = record { near = 0; ends = no_ends; weight = zero32 }
 
 -- a row of weight above 0: it is near the surface where |distance| is below the voxel size; a row of weight 0 counts for nothing
 unfoldable pub tallied : Float → Tally → Float → Float → Tally
@@ -20,8 +21,7 @@ tallied size t d w =
     cond (lt zero32 w)
     (record {
       near = cond (lt (size_of d) size) (t.near + 1) t.near;
-      low = smaller_of t.low d;
-      high = larger_of t.high d;
+      ends = widened t.ends d;
       weight = add binary32 t.weight w;
     })
     t
@@ -30,10 +30,6 @@ tallied size t d w =
 unfoldable pub tallied_all : Float → Tally → List Row → Tally
 tallied_all size t [] = t
 tallied_all size t (r ∷ rs) = tallied_all size (tallied size t r.distance r.weight) rs
-
--- +0 for an end that no row moved
-abbrev pub unless_start : Float → Float → Float
-unless_start start x = cond (eq x start) zero32 x
 
 -- the sum of weights over the number of all rows; +0 over none
 abbrev pub mean_of : Float → ℕ → Float
@@ -45,8 +41,8 @@ stats_of n t =
     record {
       voxel_count = n;
       surface_voxel_count = t.near;
-      min_distance = record { 0 = unless_start largest t.low };
-      max_distance = record { 0 = unless_start (neg largest) t.high };
+      min_distance = record { 0 = lowest t.ends };
+      max_distance = record { 0 = highest t.ends };
       average_weight = mean_of t.weight n;
     }
 

@@ -1,20 +1,20 @@
 // The cells of the table near its surface, and its statistics (src/layers/tsdf.rs: get_surface_voxels, stats).
 #![tactic(auto)]
 
-ghost use Rattle.std.specs.Prelude.{◌≡◌, cond, ◌+◌, ◌≤◌, ◌<◌, length, set, Ok};
+ghost use Rattle.std.specs.Prelude.{◌≡◌, ◌≤◌, ◌<◌, length};
 ghost use Rattle.std.proofs.lemmas.List.Edits.{sets};
-ghost use Rattle.lists.specs.Listing.{count_of, held_for};
+ghost use Rattle.lists.specs.Listing.{count_of};
 ghost use Rattle.lists.specs.Places.{cleared_from};
-ghost use Rattle.table.specs.Table.{table, rows_of};
-ghost use Rattle.tsdf_surveys.specs.Surface.{is_surface, surface_keys, list_check, listed_if, surface_listed, surface_held};
-ghost use Rattle.tsdf_surveys.specs.Statistics.{no_tally, tallied, tallied_all, unless_start, mean_of, statistics_of};
+ghost use Rattle.tsdf_surveys.specs.Surface.{is_surface, surface_keys, list_check, surface_listed, surface_held};
+ghost use Rattle.tsdf_surveys.specs.Statistics.{no_tally, tallied, tallied_all, mean_of, statistics_of};
 ghost use Rattle.tsdf_questions.specs.Steps.{Accepted};
 ghost use Rattle.table.specs.Read.{table_of, rows_in};
 
-use floats::{Metres, is_finite, larger, size, smaller};
-use lists::{LONGEST_LIST, clear_from, count_of, room_for};
+use ends::Ends;
+use floats::{Metres, is_finite, size};
+use lists::{LONGEST_LIST, clear_from, count_of, put, room_for};
 use refusals::Refusal;
-use table::{Rows, Settings, check_table, check_with, then_test};
+use table::{Rows, Settings, check_table, check_with};
 
 // How many rows there are and lie near the surface, the ends of their distances, and their mean weight.
 #[derive(Clone, Copy)]
@@ -30,8 +30,7 @@ pub struct TsdfStats {
 #[derive(Clone, Copy)]
 struct Tally {
     near: usize,
-    low: f32,
-    high: f32,
+    ends: Ends,
     weight: f32,
 }
 
@@ -40,15 +39,6 @@ fn is_surface(threshold: f32, distance: f32, weight: f32) -> bool
     ensures { result ≡ is_surface threshold distance weight }
 {
     (size(distance) < threshold) & (0.0 < weight)
-}
-
-// A key at a place of a list; nothing where it has no such place.
-fn put_key(out: &mut [u64], at: usize, key: u64)
-    ensures { out.new ≡ set out.old at key }
-{
-    if at < out.len() {
-        out[at] = key;
-    }
 }
 
 // The keys of the surface's cells; those past the list's end are only counted.
@@ -65,14 +55,10 @@ fn list_surface(threshold: f32, rows: &Rows, out: &mut [u64]) -> usize
         count,
     } = *rows;
     let mut n = 0;
-    let mut i = 0;
-    while i < count {
+    for i in 0..count {
         if is_surface(threshold, distances[i], weights[i]) {
-            put_key(out, n, keys[i]);
+            put(out, n, keys[i]);
             n += 1;
-            i += 1;
-        } else {
-            i += 1;
         }
     }
     n
@@ -82,28 +68,26 @@ fn list_surface(threshold: f32, rows: &Rows, out: &mut [u64]) -> usize
 fn check_list(settings: Settings, rows: &Rows, threshold: f32, room: usize) -> Result<(), Refusal>
     ensures { result ≡ list_check settings (table_of rows.now) threshold room }
 {
-    let verdict = check_with(room <= LONGEST_LIST, settings, rows);
-    then_test(verdict, is_finite(threshold), Refusal::BadReading)
+    check_with(room <= LONGEST_LIST, settings, rows)?;
+    if is_finite(threshold) {
+        Ok(())
+    } else {
+        Err(Refusal::BadReading)
+    }
 }
 
-// The surface's cells, where the tests passed; the places past them are left to be cleared.
+// The surface's cells, where the tests pass; the places past them are left to be cleared.
 fn list_checked(
-    verdict: Result<(), Refusal>,
-    threshold: f32,
+    settings: Settings,
     rows: &Rows,
+    threshold: f32,
     out: &mut [u64],
 ) -> Result<usize, Refusal>
-    requires { verdict ≡ (Ok tt) → Accepted (table_of rows.now) }
-    ensures value { result ≡ listed_if verdict
-        (surface_keys threshold (rows_in rows.now))
-        (length out.old) }
+    ensures value { result ≡ surface_listed settings (table_of rows.now) threshold (length out.old) }
     ensures out_after { cleared_from 0 (count_of result) out.new
-        ≡ held_for 0 result (length out.old)
-        (surface_keys threshold (rows_in rows.now)) }
+        ≡ surface_held settings (table_of rows.now) threshold (length out.old) }
 {
-    if let Err(why) = verdict {
-        return Err(why);
-    }
+    check_list(settings, rows, threshold, out.len())?;
     let n = list_surface(threshold, rows, out);
     room_for(n, out.len())
 }
@@ -122,19 +106,9 @@ pub fn get_surface_voxels(
         (table_of rows.now) threshold.0
         (length out.old) }
 {
-    let below = threshold.0;
-    let verdict = check_list(settings, rows, below, out.len());
-    let listed = list_checked(verdict, below, rows, out);
+    let listed = list_checked(settings, rows, threshold.0, out);
     clear_from(out, count_of(listed), 0);
     listed
-}
-
-// One more where it counts.
-fn count_if(counts: bool, n: usize) -> usize
-    requires { n < 65536 }
-    ensures { result ≡ cond counts (n + 1) n }
-{
-    if counts { n + 1 } else { n }
 }
 
 // One row more.
@@ -144,9 +118,8 @@ fn add_row(near: f32, sum: Tally, distance: f32, weight: f32) -> Tally
 {
     if 0.0 < weight {
         Tally {
-            near: count_if(size(distance) < near, sum.near),
-            low: smaller(sum.low, distance),
-            high: larger(sum.high, distance),
+            near: sum.near + usize::from(size(distance) < near),
+            ends: sum.ends.with(distance),
             weight: sum.weight + weight,
         }
     } else {
@@ -167,21 +140,13 @@ fn tally_rows(near: f32, rows: &Rows) -> Tally
     } = *rows;
     let mut sum = Tally {
         near: 0,
-        low: 3.40282347e38,
-        high: -3.40282347e38,
+        ends: Ends::none(),
         weight: 0.0,
     };
     for i in 0..count {
         sum = add_row(near, sum, distances[i], weights[i]);
     }
     sum
-}
-
-// +0 for an end that no row moved.
-fn unless_start(start: f32, x: f32) -> f32
-    ensures { result ≡ unless_start start x }
-{
-    if x == start { 0.0 } else { x }
 }
 
 // The mean of `sum` over `count`; +0 over none.
@@ -200,18 +165,13 @@ fn mean(sum: f32, count: usize) -> f32
 pub fn stats(settings: Settings, rows: &Rows) -> Result<TsdfStats, Refusal>
     ensures { result ≡ statistics_of settings (table_of rows.now) }
 {
-    let Rows { count, .. } = *rows;
-    match check_table(settings, rows) {
-        Err(why) => Err(why),
-        Ok(()) => {
-            let sum = tally_rows(settings.voxel_size.0, rows);
-            Ok(TsdfStats {
-                voxel_count: count,
-                surface_voxel_count: sum.near,
-                min_distance: Metres(unless_start(3.40282347e38, sum.low)),
-                max_distance: Metres(unless_start(-3.40282347e38, sum.high)),
-                average_weight: mean(sum.weight, count),
-            })
-        }
-    }
+    check_table(settings, rows)?;
+    let sum = tally_rows(settings.voxel_size.0, rows);
+    Ok(TsdfStats {
+        voxel_count: rows.count,
+        surface_voxel_count: sum.near,
+        min_distance: Metres(sum.ends.lowest()),
+        max_distance: Metres(sum.ends.highest()),
+        average_weight: mean(sum.weight, rows.count),
+    })
 }

@@ -1,33 +1,40 @@
 -- `tsdf_surveys::list_checked` meets its contract: what the tests refuse leaves nothing to keep, and what was written
 -- from the front stands there where it has room.
 -- Assumes nothing.
-use mathlib.Core.Path.{refl}
-use Rattle.table.specs.Table.{rows_of}
-use Rattle.tsdf_surveys.specs.Surface.{surface_keys, listed_if}
+use Rattle.std.proofs.lemmas.Result.{err_from_is_err_and}
+use Rattle.std.specs.Prelude.{ℕ, length, Result}
+use mathlib.Core.Path.{refl, sym, ap, ◌∙◌}
+use Rattle.lists.specs.Listing.{held_for}
+use Rattle.refusals.specs.declared.Refusal.{Refusal}
 use Rattle.lists.proofs.Held.{refused_held}
-use Rattle.tsdf_surveys.proofs.Answers.{answer_room, keys_held}
+use Rattle.table.specs.Read.{rows_in}
+use Rattle.tsdf_surveys.specs.Surface.{surface_keys, listed_if, surface_listed}
+use Rattle.tsdf_surveys.proofs.Answers.{list_accepted, answer_room, keys_held}
 use Rattle.tsdf_surveys.proofs.list_checked.Goals as goal
 
-pub returns-in-Err : goal.returns-in-Err
-unfolding listed_if
-returns-in-Err c =
-    let a = c.args in record {
-      value = rw c.in-Err.is refl;
-      out_after = refused_held 0 _ a.out.now
-          (surface_keys a.threshold (rows_of a.rows.now.keys.now a.rows.now.distances.now a.rows.now.weights.now a.rows.now.count));
-    }
+pub returns-in_err-check_list : goal.returns-in_err-check_list
+unfolding surface_listed listed_if
+returns-in_err-check_list c =
+    let p = err_from_is_err_and c.from_residual.result c.from_residual.ensures.1 in
+    rw (p.1, p.2, ← c.check_list.ensures, c.in_err-check_list.was)
+    (record {
+      value = refl;
+      out_after = refused_held 0 _ c.args.out.now (surface_keys c.args.threshold (rows_in c.args.rows.now));
+    })
 
 pub list_surface-n-requires : goal.list_surface-n-requires
-list_surface-n-requires c = c.requires c.in_default.is
+list_surface-n-requires c = list_accepted _ _ _ _ _ _ _ (sym c.check_list.ensures ∙ c.in_ok-check_list.was)
 
 pub returns : goal.returns
+unfolding surface_listed
 returns c =
-    let passed = c.in_default.is in
-    let a = c.args in
-    let xs = surface_keys a.threshold (rows_of a.rows.now.keys.now a.rows.now.distances.now a.rows.now.weights.now a.rows.now.count) in
+    let xs = surface_keys c.args.threshold (rows_in c.args.rows.now) in
     let w = c.list_surface-n.ensures in
     let e = c.room_for.ensures in
-    record {
-      value = rw passed (answer_room xs a.out.now _ _ w.value w.out_after _ e);
-      out_after = keys_held xs a.out.now _ _ w.value w.out_after _ e;
-    }
+    let told = answer_room xs c.args.out.now _ _ w.value w.out_after _ e in
+    rw (← c.check_list.ensures, c.in_ok-check_list.was)
+    (record {
+      value = told;
+      out_after = keys_held xs c.args.out.now _ _ w.value w.out_after _ e
+          ∙ ap (λ (q : Result ℕ Refusal). held_for 0 q (length c.args.out.now) xs) told;
+    })

@@ -1,5 +1,5 @@
 -- `tsdf_surveys::tally_rows` meets its contract: what is left of the rows, tallied onto what was, says what all say.
-use mathlib.Core.Path.{refl, sym, ap, ◌∙◌}
+use mathlib.Core.Path.{sym, ap, ◌∙◌}
 use Prim.Native.Nat.{◌+◌}
 use native.Mathlib.Omega.{arith}
 use lib.Ieee.{nan, of_bits, neg}
@@ -12,7 +12,7 @@ use Rattle.tsdf_surveys.proofs.tally_rows.Goals as goal
 
 pub loop-i-init : goal.loop-i-init
 unfolding of_bits neg
-loop-i-init c = (search rules, search rules, refl)
+loop-i-init c = (search rules, search rules, rw c.none.ensures)
 
 pub loop-i-preserved : goal.loop-i-preserved
 loop-i-preserved c =
