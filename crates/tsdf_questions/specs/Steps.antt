@@ -1,5 +1,5 @@
 -- What the private functions promise each other.
-use Rattle.std.specs.Prelude.{ℕ, ◌≤◌, ◌≡◌, true, List, length, take, Float}
+use Rattle.std.specs.Prelude.{◌≤◌, ◌≡◌, true, length, take}
 use Rattle.search.specs.Keys.{ascending}
 use Rattle.table.specs.Table.{Table}
 
