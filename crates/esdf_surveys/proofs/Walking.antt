@@ -24,7 +24,7 @@ use Rattle.marching.specs.March.{MarchedRow, marched_row, keys_of, distances_of}
 use Rattle.esdf_surveys.specs.declared.Tally.{Tally}
 use Rattle.esdf_surveys.specs.Statistics.{tallied, tallied_all}
 use Rattle.esdf_surveys.specs.Within.{is_within, cells_within, listed_said, within_listed, within_keys, within_distances}
-use Rattle.marched.specs.Marched.{marched_table, marched_rows_of, pair_ok, list_check}
+use Rattle.marched.specs.Marched.{MarchedTable, marched_rows}
 use Rattle.esdf_surveys.specs.Steps.{PutOne, Put, Counted, Filled}
 
 -- ---- tallies
@@ -181,30 +181,19 @@ module _ {A : Type 0} (v : A) (xs l l' : List A) (long : length l' ≡ length l)
       let g = h.1 in
       rw (e, z, h.2, length-sets l 0 xs) (ap (λ (t : List A). t ++ replicate (length l - length xs) v) (sets_front l xs (omega arith)))
 
-module _ (ks : List ℕ) (ds : List Float) (n : ℕ) (threshold : Float) (oks : List ℕ) (ods : List Float) (fit : Bool)
-    (v : Result (Unit {0}) Refusal) (r : Result ℕ Refusal) (oks' : List ℕ) (ods' : List Float) (p : fit ≡ pair_ok (length oks) (length ods))
-    (q : v ≡ list_check (marched_table ks ds n) fit threshold)
-    (f : Filled (listed_said v (room_for (length (cells_within threshold (marched_rows_of ks ds n))) (length oks)))
-    (cells_within threshold (marched_rows_of ks ds n)) r oks ods oks' ods') where
-  pub within_answer : r ≡ within_listed (marched_table ks ds n) threshold (length oks) (length ods)
-  unfolding within_listed
-  within_answer =
-      f.answer
-      ∙ ap (λ (x : Result (Unit {0}) Refusal).
-      listed_said x (room_for (length (cells_within threshold (marched_rows_of ks ds n))) (length oks)))
-      (q ∙ ap (λ (b : Bool). list_check (marched_table ks ds n) b threshold) p)
-
+module _ (t : MarchedTable) (threshold : Float) (oks : List ℕ) (ods : List Float) (r : Result ℕ Refusal) (oks' : List ℕ) (ods' : List Float)
+    (f : Filled (within_listed t threshold (length oks) (length ods)) (cells_within threshold (marched_rows t)) r oks ods oks' ods') where
   pub within_keys_lem :
       (i : ℕ)
       → length oks' ≡ length oks
       → i ≡ count_of r
       → {out : List ℕ}
       → out ≡ cleared_from 0 i oks'
-      → out ≡ within_keys (marched_table ks ds n) threshold (length oks) (length ods)
+      → out ≡ within_keys t threshold (length oks) (length ods)
   within_keys_lem i l c e =
-      let rs = cells_within threshold (marched_rows_of ks ds n) in
+      let rs = cells_within threshold (marched_rows t) in
       e ∙ ap (λ (x : ℕ). cleared_from 0 x oks') c
-      ∙ held_by 0 (keys_of rs) oks oks' l r (within_listed (marched_table ks ds n) threshold (length oks) (length ods)) within_answer
+      ∙ held_by 0 (keys_of rs) oks oks' l r (within_listed t threshold (length oks) (length ods)) f.answer
       (λ m g. let h = f.counted m g in (h.put.count ∙ sym (length-map rs (λ (y : MarchedRow). y.key)), h.keys_fit, h.put.keys))
 
   pub within_distances_lem :
@@ -213,9 +202,9 @@ module _ (ks : List ℕ) (ds : List Float) (n : ℕ) (threshold : Float) (oks : 
       → i ≡ count_of r
       → {out : List Float}
       → out ≡ cleared_from zero32 i ods'
-      → out ≡ within_distances (marched_table ks ds n) threshold (length oks) (length ods)
+      → out ≡ within_distances t threshold (length oks) (length ods)
   within_distances_lem i l c e =
-      let rs = cells_within threshold (marched_rows_of ks ds n) in
+      let rs = cells_within threshold (marched_rows t) in
       e ∙ ap (λ (x : ℕ). cleared_from zero32 x ods') c
-      ∙ held_by zero32 (distances_of rs) ods ods' l r (within_listed (marched_table ks ds n) threshold (length oks) (length ods)) within_answer
+      ∙ held_by zero32 (distances_of rs) ods ods' l r (within_listed t threshold (length oks) (length ods)) f.answer
       (λ m g. let h = f.counted m g in (h.put.count ∙ sym (length-map rs (λ (y : MarchedRow). y.distance)), h.distances_fit, h.put.distances))

@@ -1,15 +1,8 @@
 -- What the private functions promise each other.
 use Rattle.std.specs.Prelude.{ℕ, ◌+◌, ◌≤◌, ◌≡◌, Bool, cond, List, length, set, Float, Ok, Result}
 use Rattle.std.proofs.lemmas.List.Edits.{sets}
-use Rattle.marched.specs.Steps.{Accepted}
 use Rattle.marching.specs.March.{MarchedRow, keys_of, distances_of}
 use Rattle.refusals.specs.declared.Refusal.{Refusal}
-use Rattle.marched.specs.Marched.{marched_table}
-
--- where the tests have passed, the lists are accepted and those to be filled equally long
-abbrev pub MayFill : Result (Unit {0}) Refusal → List ℕ → List Float → ℕ → List ℕ → List Float → Type 0
-MayFill verdict ks ds n oks ods =
-    verdict ≡ (Ok tt) → (Accepted (marched_table ks ds n) × (length ks ≤ 1048576) × (length ods ≡ length oks))
 
 -- a row is put at place n if it passes
 pub record PutOne (passes : Bool) (k : ℕ) (d : Float) (n r : ℕ) (ks : List ℕ) (ds : List Float) (ks' : List ℕ) (ds' : List Float) : Type 0 where

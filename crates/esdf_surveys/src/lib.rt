@@ -1,17 +1,17 @@
 // The cells of a marched table within a distance, and its statistics (src/layers/esdf.rs: get_voxels_within_distance, stats).
 #![tactic(auto)]
 
-ghost use Rattle.std.specs.Prelude.{◌≡◌, ◌≤◌, ◌<◌, ◌^◌, length, set};
-ghost use Rattle.lists.specs.Listing.{room_for};
+ghost use Rattle.std.specs.Prelude.{◌≡◌, ◌≤◌, ◌<◌, ◌^◌, length};
 ghost use Rattle.marching.specs.March.{marched_row};
-ghost use Rattle.marched.specs.Marched.{marched_table, marched_rows_of};
 ghost use Rattle.marched.specs.Steps.{Accepted};
-ghost use Rattle.esdf_surveys.specs.Steps.{MayFill, PutOne, Put, Filled};
-ghost use Rattle.esdf_surveys.specs.Within.{is_within, cells_within, listed_said, within_listed, within_keys, within_distances};
-ghost use Rattle.esdf_surveys.specs.Statistics.{no_tally, tallied, tallied_all, unless_start, stats_of, get_stats};
+ghost use Rattle.esdf_surveys.specs.Steps.{PutOne, Put, Filled};
+ghost use Rattle.esdf_surveys.specs.Within.{is_within, cells_within, within_listed, within_keys, within_distances};
+ghost use Rattle.esdf_surveys.specs.Statistics.{no_tally, tallied, tallied_all, get_stats};
 ghost use Rattle.marched.specs.Read.{marched_in, marched_rows_in};
 
+use ends::Ends;
 use floats::size;
+use lists::{clear_from, count_of, put, room_for};
 use marched::{check, check_list, pair_ok};
 use refusals::Refusal;
 use stored::Distances;
@@ -31,25 +31,7 @@ pub struct EsdfStats {
 struct Tally {
     obstacles: usize,
     free: usize,
-    low: f32,
-    high: f32,
-}
-
-// A value at a place, where there is one.
-fn put_key(list: &mut [u64], place: usize, key: u64)
-    ensures { list.new ≡ set list.old place key }
-{
-    if place < list.len() {
-        list[place] = key;
-    }
-}
-
-fn put_distance(list: &mut [f32], place: usize, distance: f32)
-    ensures { list.new ≡ set list.old place distance }
-{
-    if place < list.len() {
-        list[place] = distance;
-    }
+    ends: Ends,
 }
 
 // A row that is within a distance is put; how many are put then.
@@ -66,8 +48,8 @@ fn put_if(
         out_distances.old out_keys.new out_distances.new }
 {
     if size(distance) <= threshold {
-        put_key(out_keys, n, key);
-        put_distance(out_distances, n, distance);
+        put(out_keys, n, key);
+        put(out_distances, n, distance);
         n + 1
     } else {
         n
@@ -98,29 +80,22 @@ fn put_within(
     n
 }
 
-// The rows within a distance, if the tests have passed; what is answered.
+// The rows within a distance, if the tests pass; the places past them are left to be cleared.
 fn fill(
-    verdict: Result<(), Refusal>,
     field: &Distances,
     threshold: f32,
     out_keys: &mut [u64],
     out_distances: &mut [f32],
 ) -> Result<usize, Refusal>
-    requires { MayFill verdict field.now.keys.now field.now.distances.now field.now.count out_keys.old out_distances.old }
-    ensures { Filled (listed_said verdict
-        (room_for (length (cells_within threshold (marched_rows_in field.now)))
-        (length out_keys.old)))
+    ensures { Filled (within_listed (marched_in field.now) threshold (length out_keys.old) (length out_distances.old))
         (cells_within threshold (marched_rows_in field.now)) result
         out_keys.old out_distances.old out_keys.new
         out_distances.new }
 {
-    match verdict {
-        Err(why) => Err(why),
-        Ok(()) => {
-            let n = put_within(field, threshold, out_keys, out_distances);
-            lists::room_for(n, out_keys.len())
-        }
-    }
+    let fit = pair_ok(out_keys.len(), out_distances.len());
+    check_list(field, fit, threshold)?;
+    let n = put_within(field, threshold, out_keys, out_distances);
+    room_for(n, out_keys.len())
 }
 
 // The rows within a distance of the surface.
@@ -139,12 +114,10 @@ pub fn get_voxels_within_distance(
         (marched_in field.now) threshold (length out_keys.old)
         (length out_distances.old) }
 {
-    let fit = pair_ok(out_keys.len(), out_distances.len());
-    let verdict = check_list(field, fit, threshold);
-    let listed = fill(verdict, field, threshold, out_keys, out_distances);
-    let n = lists::count_of(listed);
-    lists::clear_from(out_keys, n, 0);
-    lists::clear_from(out_distances, n, 0.0);
+    let listed = fill(field, threshold, out_keys, out_distances);
+    let n = count_of(listed);
+    clear_from(out_keys, n, 0);
+    clear_from(out_distances, n, 0.0);
     listed
 }
 
@@ -153,22 +126,11 @@ fn tally_with(tally: Tally, distance: f32) -> Tally
     requires { (tally.obstacles < 2 ^ 32) × (tally.free < 2 ^ 32) }
     ensures { result ≡ tallied tally distance }
 {
-    let low = floats::smaller(tally.low, distance);
-    let high = floats::larger(tally.high, distance);
-    if distance < 0.0 {
-        Tally {
-            obstacles: tally.obstacles + 1,
-            free: tally.free,
-            low,
-            high,
-        }
-    } else {
-        Tally {
-            obstacles: tally.obstacles,
-            free: tally.free + 1,
-            low,
-            high,
-        }
+    let below = distance < 0.0;
+    Tally {
+        obstacles: tally.obstacles + usize::from(below),
+        free: tally.free + usize::from(!below),
+        ends: tally.ends.with(distance),
     }
 }
 
@@ -185,8 +147,7 @@ fn tally_all(field: &Distances) -> Tally
     let mut tally = Tally {
         obstacles: 0,
         free: 0,
-        low: 3.40282347e38,
-        high: -3.40282347e38,
+        ends: Ends::none(),
     };
     for i in 0..count {
         tally = tally_with(tally, distances[i]);
@@ -194,33 +155,17 @@ fn tally_all(field: &Distances) -> Tally
     tally
 }
 
-// +0 for an end that no row moved.
-fn unless_start(start: f32, x: f32) -> f32
-    ensures { result ≡ unless_start start x }
-{
-    if x == start { 0.0 } else { x }
-}
-
-// The statistics of a count and a tally.
-fn stats_of(count: usize, tally: Tally) -> EsdfStats
-    ensures { result ≡ stats_of count tally }
-{
-    EsdfStats {
-        voxel_count: count,
-        obstacle_voxel_count: tally.obstacles,
-        free_voxel_count: tally.free,
-        min_distance: unless_start(3.40282347e38, tally.low),
-        max_distance: unless_start(-3.40282347e38, tally.high),
-    }
-}
-
 // How many rows there are, below zero and not, and the ends of their distances.
 pub fn stats(field: &Distances) -> Result<EsdfStats, Refusal>
     ensures { result ≡ get_stats (marched_in field.now) }
 {
-    let Distances { count, .. } = *field;
-    match check(field) {
-        Err(why) => Err(why),
-        Ok(()) => Ok(stats_of(count, tally_all(field))),
-    }
+    check(field)?;
+    let tally = tally_all(field);
+    Ok(EsdfStats {
+        voxel_count: field.count,
+        obstacle_voxel_count: tally.obstacles,
+        free_voxel_count: tally.free,
+        min_distance: tally.ends.lowest(),
+        max_distance: tally.ends.highest(),
+    })
 }

@@ -7,7 +7,7 @@ pub returns-then-size-threshold : goal.returns-then-size-threshold
 returns-then-size-threshold c =
     let a = c.args in
     put_yes a.threshold a.key a.distance _ c.size.ensures _ _ _ _ _ c.if-size-threshold.true
-    c.put_key.ensures c.put_distance.ensures
+    c.put.ensures c.put-then-size-threshold.ensures
 
 pub returns-else-size-threshold : goal.returns-else-size-threshold
 returns-else-size-threshold c =

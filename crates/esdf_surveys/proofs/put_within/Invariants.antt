@@ -1,6 +1,6 @@
 -- `esdf_surveys::put_within` meets its contract: what is left to put says what the whole puts.
 -- Assumes nothing.
-use Prim.Native.Nat.{◌≤◌, ◌-◌}
+use Prim.Native.Nat.{◌≤◌}
 use mathlib.Core.Path.{◌≡◌}
 use lib.ListN.{length}
 use Rattle.marched.specs.Marched.{marched_rows_of}

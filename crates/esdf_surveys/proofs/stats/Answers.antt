@@ -1,27 +1,27 @@
 -- `esdf_surveys::stats` meets its contract: the verdict, then the tally.
 -- Assumes nothing.
-use Rattle.marched.proofs.MarchedLaws.{accepted, short}
-use Rattle.esdf_surveys.proofs.Answers.{stats_refused, stats_known}
+use Rattle.std.proofs.lemmas.Result.{err_from_is_err_and}
+use Rattle.marched.specs.Marched.{once_passed}
+use Rattle.marched.proofs.MarchedLaws.{accepted, short, pair_count}
+use Rattle.esdf_surveys.specs.Statistics.{stats_of}
 use Rattle.esdf_surveys.proofs.stats.Goals as goal
 
-pub tally_all-requires : goal.tally_all-requires
-tally_all-requires c =
-    let a = c.args in (
-      accepted a.field.now.keys.now a.field.now.distances.now a.field.now.count _ _ c.check.ensures
-          c.in-Ok.is,
-      short a.field.now.keys.now a.field.now.distances.now a.field.now.count _ _ c.check.ensures
-          c.in-Ok.is,
+pub tally_all-tally-requires : goal.tally_all-tally-requires
+tally_all-tally-requires c =
+    let a = c.args.field.now in (
+      accepted a.keys.now a.distances.now a.count _ _ c.check.ensures c.in_ok-check.was,
+      short a.keys.now a.distances.now a.count _ _ c.check.ensures c.in_ok-check.was,
     )
 
-pub returns-in-Err : goal.returns-in-Err
-returns-in-Err c =
-    let a = c.args in
-    stats_refused a.field.now.keys.now a.field.now.distances.now a.field.now.count _ c.check.ensures c.in-Err.is
+pub returns-in_err-check : goal.returns-in_err-check
+unfolding once_passed
+returns-in_err-check c =
+    let p = err_from_is_err_and c.from_residual.result c.from_residual.ensures.1 in
+    rw (p.1, p.2, ← c.check.ensures, c.in_err-check.was)
 
-pub returns-in-Ok : goal.returns-in-Ok
-returns-in-Ok c =
-    let a = c.args in
-    stats_known a.field.now.keys.now a.field.now.distances.now a.field.now.count _ c.check.ensures _ _
-    c.in-Ok.is
-    (accepted a.field.now.keys.now a.field.now.distances.now a.field.now.count _ _ c.check.ensures
-    c.in-Ok.is) c.tally_all.ensures c.stats_of.ensures
+pub returns : goal.returns
+unfolding once_passed stats_of
+returns c =
+    let a = c.args.field.now in
+    let h = accepted a.keys.now a.distances.now a.count _ _ c.check.ensures c.in_ok-check.was in
+    rw (← c.check.ensures, c.in_ok-check.was, pair_count a.keys.now a.distances.now a.count h.distances h.fits, ← c.tally_all-tally.ensures) cc

@@ -1,5 +1,5 @@
 -- `esdf_surveys::tally_all` meets its contract: the rows that are left say what all say.
-use mathlib.Core.Path.{refl, sym, ◌∙◌}
+use mathlib.Core.Path.{sym, ◌∙◌}
 use lib.Ieee.{of_bits, neg}
 use Rattle.marched.specs.Marched.{marched_rows_of}
 use Rattle.marched.proofs.MarchedLaws.{pair_at, pair_end}
@@ -9,7 +9,7 @@ use Rattle.esdf_surveys.proofs.tally_all.Goals as goal
 
 pub loop-i-init : goal.loop-i-init
 unfolding of_bits neg
-loop-i-init c = (search rules, search rules, search rules, refl)
+loop-i-init c = (search rules, search rules, search rules, rw c.none.ensures)
 
 pub loop-i-preserved : goal.loop-i-preserved
 loop-i-preserved c =

@@ -1,6 +1,6 @@
 -- `esdf_surveys::tally_all` meets its contract: the rows that are left say what all say.
 -- Assumes nothing.
-use Prim.Native.Nat.{◌≤◌, ◌-◌}
+use Prim.Native.Nat.{◌≤◌}
 use mathlib.Core.Path.{◌≡◌}
 use lib.ListN.{drop}
 use Rattle.marched.specs.Marched.{marched_rows_of}
