@@ -1,7 +1,7 @@
 // A vertex for each edge of the surface, and its normal (src/layers/mesh.rs).
 #![tactic(auto)]
 
-ghost use Rattle.std.specs.Prelude.{◌≡◌, ◌<◌, min, set, take};
+ghost use Rattle.std.specs.Prelude.{◌≡◌, take};
 ghost use Rattle.std.proofs.lemmas.List.Edits.{sets};
 ghost use Rattle.slopes.specs.Stored.{distance_by};
 ghost use Rattle.slopes.specs.Vertices.{vertices_of, xs_of, ys_of, zs_of};
@@ -11,22 +11,6 @@ ghost use Rattle.slopes.specs.Read.{stored_by};
 use floats::Metres;
 use slopes::{Normal, compute_normal, vertex_at};
 use stored::Distances;
-
-// The smaller of two numbers.
-fn least(a: usize, b: usize) -> usize
-    ensures { result ≡ min a b }
-{
-    if a <= b { a } else { b }
-}
-
-// A value at a place of a list; nothing where it has no such place.
-fn put(list: &mut [f32], at: usize, value: f32)
-    ensures { list.new ≡ set list.old at value }
-{
-    if at < list.len() {
-        list[at] = value;
-    }
-}
 
 // The place of each edge's vertex, as far as the lists have room.
 fn list_places(
@@ -49,12 +33,13 @@ fn list_places(
         (zs_of (vertices_of (stored_by field.now) voxel_size.0
         (take edges first.now) (take edges second.now))) }
 {
-    let n = least(edges, least(first.len(), second.len()));
+    let n = edges.min(first.len().min(second.len()));
+    // by a place, which five lists share
     for i in 0..n {
         let v = vertex_at(field, voxel_size, first[i], second[i]);
-        put(px, i, v.x.0);
-        put(py, i, v.y.0);
-        put(pz, i, v.z.0);
+        lists::put(px, i, v.x.0);
+        lists::put(py, i, v.y.0);
+        lists::put(pz, i, v.z.0);
     }
 }
 
@@ -90,16 +75,15 @@ fn list_normals(
         (parts_z (normals_of (stored_by field.now) voxel_size.0
         (take edges first.now))) }
 {
-    let n = least(edges, first.len());
+    let n = edges.min(first.len());
     let mut last = 0;
     let mut normal = compute_normal(field, voxel_size, last);
-    for i in 0..n {
-        let key = first[i];
+    for (i, &key) in first[..n].iter().enumerate() {
         normal = next_normal(field, voxel_size, last, normal, key);
         last = key;
-        put(nx, i, normal.x);
-        put(ny, i, normal.y);
-        put(nz, i, normal.z);
+        lists::put(nx, i, normal.x);
+        lists::put(ny, i, normal.y);
+        lists::put(nz, i, normal.z);
     }
 }
 

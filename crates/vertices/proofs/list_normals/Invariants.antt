@@ -1,6 +1,6 @@
 -- `vertices::list_normals` meets its contract: what is left of the edges says what all of them say.
 -- Assumes nothing.
-use Prim.Native.Nat.{◌-◌, min}
+use Prim.Native.Nat.{min}
 use mathlib.Core.Path.{◌≡◌}
 use lib.ListN.{length}
 use lib.Seq.{sets}
@@ -20,6 +20,3 @@ invariant-loop-i l = let look = distance_by l.fn.field.keys.now l.fn.field.dista
     × (sets l.initial.nx 0 (parts_x (from 0)) ≡ sets l.nx l.i (parts_x (from l.i)))
     × (sets l.initial.ny 0 (parts_y (from 0)) ≡ sets l.ny l.i (parts_y (from l.i)))
     × (sets l.initial.nz 0 (parts_z (from 0)) ≡ sets l.nz l.i (parts_z (from l.i)))
-
-abbrev pub decreases-loop-i : goal.decreases-loop-i
-decreases-loop-i l = l.n - l.i

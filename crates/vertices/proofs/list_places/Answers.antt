@@ -9,19 +9,7 @@ use Rattle.vertices.proofs.Columns.{column_more, column_done, vertex_next, verti
 use Rattle.vertices.proofs.list_places.Goals as goal
 
 pub loop-i-init : goal.loop-i-init
-loop-i-init c = (c.least-n.ensures ∙ ap (min _) c.least.ensures, refl, refl, refl, refl, refl, refl)
-
-pub offset_bounds-first-i : goal.offset_bounds-first-i
-offset_bounds-first-i c = omega (arith, c.loop-i.invariant.0)
-
-pub bounds-first-i : goal.bounds-first-i
-bounds-first-i c = omega (arith, c.loop-i.invariant.0)
-
-pub offset_bounds-second-i : goal.offset_bounds-second-i
-offset_bounds-second-i c = omega (arith, c.loop-i.invariant.0)
-
-pub bounds-second-i : goal.bounds-second-i
-bounds-second-i c = omega (arith, c.loop-i.invariant.0)
+loop-i-init c = (c.min-n.ensures ∙ ap (min _) c.min.ensures, refl, refl, refl, refl, refl, refl)
 
 pub loop-i-preserved : goal.loop-i-preserved
 loop-i-preserved c =

@@ -1,6 +1,6 @@
 -- `vertices::list_places` meets its contract: what is left of the edges says what all of them say.
 -- Assumes nothing.
-use Prim.Native.Nat.{◌-◌, min}
+use Prim.Native.Nat.{min}
 use mathlib.Core.Path.{◌≡◌}
 use lib.ListN.{length}
 use lib.Seq.{sets}
@@ -18,6 +18,3 @@ invariant-loop-i l = let from = vertices_from (distance_by l.fn.field.keys.now l
     × (sets l.initial.px 0 (xs_of (from 0)) ≡ sets l.px l.i (xs_of (from l.i)))
     × (sets l.initial.py 0 (ys_of (from 0)) ≡ sets l.py l.i (ys_of (from l.i)))
     × (sets l.initial.pz 0 (zs_of (from 0)) ≡ sets l.pz l.i (zs_of (from l.i)))
-
-abbrev pub decreases-loop-i : goal.decreases-loop-i
-decreases-loop-i l = l.n - l.i
