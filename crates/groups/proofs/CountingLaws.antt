@@ -4,8 +4,10 @@ use Prim.Native.Nat.{ℕ, zero, suc, ◌+◌, ◌-◌, ◌≤◌, ◌<◌}
 use native.Mathlib.Nat.{not-suc-le-zero, le_of_suc-le-suc, suc-ne-zero, suc_inj, add-sub_cancel_left}
 use native.Mathlib.Numerals.{add-one}
 use native.Mathlib.Omega.{arith}
-use mathlib.Core.Path.{◌≡◌, refl, sym, ap}
-use mathlib.Core.Bool.{Bool, true, false, cond, ◌&&◌}
+use mathlib.Core.Path.{◌≡◌, refl, sym, ap, subst}
+use mathlib.Core.Logic.{◌⊎◌, inl, inr}
+use mir.Val.{bool_byte}
+use mathlib.Core.Bool.{Bool, true, false, cond, ◌&&◌, ◌||◌}
 use mathlib.Core.List.{List, [], ◌∷◌, ◌++◌}
 use lib.Dec.{ltb, eqb, leb}
 use lib.ListN.{length, get_or, take, drop, length-take, drop_of_length-le}
@@ -38,6 +40,73 @@ pub ends_few : (first second : List ℕ) (n cell : ℕ) → n ≤ 1048576 → st
 ends_few first second n cell h =
     omega (arith, start_most cell (edges_in first second n), count_most cell (edges_in first second n), length-take n (paired first second))
 
+-- ---- a loop that counts the ends, by what is left of the two columns
+
+paired_take : (n : ℕ) (xs ys : List ℕ) → paired (take n xs) (take n ys) ≡ take n (paired xs ys)
+unfolding paired
+paired_take zero xs ys = refl
+paired_take (suc n) [] ys = refl
+paired_take (suc n) (x ∷ xs) [] = refl
+paired_take (suc n) (x ∷ xs) (y ∷ ys) = ap {B = List Edge} (λ r. edge x y ∷ r) (paired_take n xs ys)
+
+unpaired : (xs : List ℕ) → paired xs [] ≡ []
+unfolding paired
+unpaired [] = refl
+unpaired (x ∷ xs) = refl
+
+byte_one : (b : Bool) → bool_byte b ≡ one b
+byte_one true = refl
+byte_one false = refl
+
+-- of es, of which there are at most n, those paired of xs and ys are not yet counted
+pub record Counting (cell n : ℕ) (es : List Edge) (below here : ℕ) (xs ys : List ℕ) : Type 0 where
+  pub ends : below + (length (paired xs ys) + length (paired xs ys)) ≤ n + n
+  pub own : here + length (paired xs ys) ≤ n
+  pub start : start_of cell es ≡ below + start_of cell (paired xs ys)
+  pub count : count_of cell es ≡ here + count_of cell (paired xs ys)
+
+pub counting_begun : (cell n : ℕ) (first second : List ℕ) {xs ys : List ℕ} → xs ≡ take n first → ys ≡ take n second
+    → Counting cell n (edges_in first second n) 0 0 xs ys
+counting_begun cell n first second {xs} {ys} e f =
+    let few : length (edges_in first second n) ≤ n = omega (arith, length-take n (paired first second)) in
+    let whole : paired xs ys ≡ edges_in first second n = rw (e, f) (paired_take n first second) in
+    record {
+      ends = rw whole (omega arith);
+      own = rw whole (omega arith);
+      start = rw whole (omega arith);
+      count = rw whole (omega arith);
+    }
+
+module _ (cell n : ℕ) (es : List Edge) (below here : ℕ) (xs ys : List ℕ) (h : Counting cell n es below here xs ys) where
+  pub counting_more : (x y : ℕ) (as' bs : List ℕ) → xs ≡ x ∷ as' → ys ≡ y ∷ bs
+      → Counting cell n es (below + (bool_byte (ltb x cell) + bool_byte (ltb y cell))) (here + bool_byte (eqb x cell || eqb y cell)) as' bs
+  unfolding paired start_of count_of
+  counting_more x y as' bs e f =
+      let k : Counting cell n es below here (x ∷ as') (y ∷ bs) = subst (λ (l : List ℕ). Counting cell n es below here (x ∷ as') l) f (rw e at h) in
+      let p = byte_one (ltb x cell) in
+      let q = byte_one (ltb y cell) in
+      let r = byte_one (eqb x cell || eqb y cell) in
+      let ps = one_small (ltb x cell) in
+      let qs = one_small (ltb y cell) in
+      let rs = one_small (eqb x cell || eqb y cell) in
+      record {
+        ends = omega (arith, k.ends);
+        own = omega (arith, k.own);
+        start = omega (arith, k.start);
+        count = omega (arith, k.count);
+      }
+
+  pub counting_done : (xs ≡ []) ⊎ (ys ≡ []) → (below ≡ start_of cell es) × (here ≡ count_of cell es)
+  unfolding paired start_of count_of
+  counting_done (inl e) =
+      let s = rw e at h.start in
+      let t = rw e at h.count in
+      (omega (arith, s), omega (arith, t))
+  counting_done (inr f) =
+      let s = rw (f, unpaired xs) at h.start in
+      let t = rw (f, unpaired xs) at h.count in
+      (omega (arith, s), omega (arith, t))
+
 -- the edge at a place, and those after it
 pub edge_next : (first second : List ℕ) (n i : ℕ)
     → length second ≡ length first
@@ -50,19 +119,6 @@ edge_next [] second (suc n) i p h g = absurd (not-suc-le-zero g)
 edge_next (a ∷ first) [] (suc n) i p h g = absurd (suc-ne-zero _ (sym p))
 edge_next (a ∷ first) (b ∷ second) (suc n) zero p h g = refl
 edge_next (a ∷ first) (b ∷ second) (suc n) (suc i) p h g = edge_next first second n i (suc_inj p) (le_of_suc-le-suc h) (le_of_suc-le-suc g)
-
-module _ (first second : List ℕ) (n i cell : ℕ) (p : length second ≡ length first) (h : i < n) (g : n ≤ length first) where
-  pub start_next : start_of cell (drop i (edges_in first second n))
-      ≡ (one (ltb (get_or first i 0) cell) + one (ltb (get_or second i 0) cell))
-      + start_of cell (drop (i + 1) (edges_in first second n))
-  unfolding start_of
-  start_next = rw (edge_next first second n i p h g, add-one)
-
-  pub count_next : count_of cell (drop i (edges_in first second n))
-      ≡ one (touches cell (edge (get_or first i 0) (get_or second i 0)))
-      + count_of cell (drop (i + 1) (edges_in first second n))
-  unfolding count_of
-  count_next = rw (edge_next first second n i p h g, add-one)
 
 pub none_left : (first second : List ℕ) (n i : ℕ) → n ≤ i → drop i (edges_in first second n) ≡ []
 none_left first second n i h = drop_of_length-le (edges_in first second n) {i = i} (omega (arith, length-take n (paired first second)))

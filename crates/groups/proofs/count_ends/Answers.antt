@@ -1,36 +1,30 @@
 -- `groups::count_ends` meets its contract: what is left of the edges says what all of them say.
-use mathlib.Core.Path.{◌≡◌, sym, ◌∙◌}
+use Rattle.std.proofs.lemmas.Slice.Zip.{either_empty_from_Zip}
 use native.Mathlib.Omega.{arith}
-use Rattle.groups.specs.Groups.{start_of, count_of}
-use Rattle.groups.specs.CellEdges.{edges_in}
-use Rattle.groups.proofs.CountingLaws.{start_next, count_next, none_left}
 use borrow.Author.Rules.{rules}
+use Rattle.groups.proofs.CountingLaws.{counting_begun, counting_more, counting_done}
 use Rattle.groups.proofs.count_ends.Goals as goal
 
-pub loop-i-init : goal.loop-i-init
-loop-i-init c = (search rules, search rules, search rules, omega arith, omega arith)
+pub loop-a-init : goal.loop-a-init
+loop-a-init c = counting_begun c.args.cell c.args.count c.args.first.now c.args.second.now (search rules) (search rules)
 
-pub loop-i-preserved : goal.loop-i-preserved
-loop-i-preserved c =
-    let a = c.args in
-    let t = c.loop-i-test.true in
-    let x = c.one.ensures in
-    let y = c.one-in-loop-i.ensures in
-    let z = c.one-here.ensures in
-    let v = c.loop-i.invariant in (
-      omega arith,
-      omega arith,
-      omega arith,
-      omega (arith, start_next a.first.now a.second.now a.count c.loop-i.i a.cell c.requires.equal t c.requires.fits),
-      omega (arith, count_next a.first.now a.second.now a.count c.loop-i.i a.cell c.requires.equal t c.requires.fits),
-    )
+pub loop-a-preserved : goal.loop-a-preserved
+loop-a-preserved c = let s = c.in-Some.ensures.steps in counting_more _ _ _ _ _ _ _ c.loop-a.invariant _ _ _ _ s.0 s.1
+
+pub overflow_add-here : goal.overflow_add-here
+overflow_add-here c =
+    let s = c.in-Some.ensures.steps in
+    let more = counting_more _ _ _ _ _ _ _ c.loop-a.invariant _ _ _ _ s.0 s.1 in
+    omega (arith, more.own, c.requires.fits, c.requires.few)
+
+pub overflow_add-below-in-loop-a : goal.overflow_add-below-in-loop-a
+overflow_add-below-in-loop-a c =
+    let s = c.in-Some.ensures.steps in
+    let more = counting_more _ _ _ _ _ _ _ c.loop-a.invariant _ _ _ _ s.0 s.1 in
+    omega (arith, more.ends, c.requires.fits, c.requires.few)
 
 pub returns : goal.returns
-unfolding start_of count_of
 returns c =
-    let a = c.args in
-    let e = none_left a.first.now a.second.now a.count c.loop-i.i c.loop-i-test.false in
-    let v = c.loop-i.invariant in
-    let p : c.loop-i.below ≡ start_of a.cell (edges_in a.first.now a.second.now a.count) = sym (v.3 ∙ rw e (omega arith)) in
-    let q : c.loop-i.here ≡ count_of a.cell (edges_in a.first.now a.second.now a.count) = sym (v.4 ∙ rw e (omega arith)) in
-    λ i. record { below = p i; here = q i }
+    let none = either_empty_from_Zip c.loop-a.a-iterator c.next.new.self c.next.result c.in-None.is c.next.ensures.steps in
+    let h = counting_done _ _ _ _ _ _ _ c.loop-a.invariant none in
+    λ i. record { below = h.0 i; here = h.1 i }
