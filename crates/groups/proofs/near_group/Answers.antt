@@ -16,9 +16,10 @@ returns-then-not-pairs_ok c = rw (no c.pairs_ok.ensures (ap not c.if-not-pairs_o
 
 pub gather-requires : goal.gather-requires
 gather-requires c =
-    let cells : c.cells.result.now ≡ neighbours c.args.cell = cells_known _ c.around-near.ensures c.cells.ensures in
-    (pairs_known c.args.first.now c.args.second.now c.args.count (yes c.pairs_ok.ensures (ap not c.if-not-pairs_ok.false)),
-    rw cells (at_most_14 c.args.cell))
+    let cells : c.cells.result.now ≡ neighbours c.args.cell = cells_known _ c.around-near.ensures c.cells.ensures in (
+      pairs_known c.args.first.now c.args.second.now c.args.count (yes c.pairs_ok.ensures (ap not c.if-not-pairs_ok.false)),
+      rw cells (at_most_14 c.args.cell),
+    )
 
 pub returns : goal.returns
 unfolding group_in
