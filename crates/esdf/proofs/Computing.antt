@@ -27,7 +27,7 @@ use Rattle.marching.specs.March.{Rooms, rooms, Going, keys_of, distances_of}
 use Rattle.marching.specs.Lattice.{march_from}
 use Rattle.table.proofs.Checking.{need_passed, sound, with_passed, went_on}
 use Rattle.fronts.specs.Fronts.{Fair, rooms_of}
-use Rattle.racing.specs.Racing.{Tabled}
+use Rattle.racing.specs.Racing.{Tabled, Blank, Finished}
 use Rattle.racing.proofs.Marching.{same_rooms}
 use Rattle.racing.proofs.Finishing.{cleared}
 use Rattle.ids.specs.Key.{on_lattice}
@@ -35,8 +35,7 @@ use Rattle.floats.proofs.Order.{within_finite, between_finite}
 use Rattle.table.specs.Rows.{keys_of as table_keys}
 use Rattle.table.proofs.Laying.{columns, distances_of as table_distances, weights_of as table_weights}
 use Rattle.table.proofs.SettingsLaws.{settings_known, farthest_known}
-use Rattle.racing.specs.Racing.{Finished}
-use Rattle.esdf.specs.Steps.{MayMarch, tidied}
+use Rattle.esdf.specs.Steps.{tidied}
 use Rattle.marched.specs.Marched.{pair_ok}
 use Rattle.esdf.specs.Compute.{Places, places, march_check, tested, marching, outcome, answer_of, keys_left, distances_left, left, computed}
 
@@ -193,53 +192,61 @@ module _ (verdict : Result (Unit {0}) Refusal) (g : Going) (ks : List ℕ) (ds e
   unfolding tested
   passed_first r e f = rw e f
 
-module _ (s : Settings) (tks : List ℕ) (tds tws : List Float) (n : ℕ) (threshold : Float) (ks₀ cs₀ : List ℕ) (ds₀ es₀ : List Float) where
+module _ (s : Settings) (tks : List ℕ) (tds tws : List Float) (n : ℕ) (threshold : Float) where
+  -- what the march needs, where the tests pass
   pub may_march :
-      (ks cs : List ℕ) (ds es : List Float) {fit : Bool} {verdict : Result (Unit {0}) Refusal}
-      → fit ≡ pair_ok (length ks₀) (length ds₀) && pair_ok (length es₀) (length cs₀)
-      → verdict ≡ march_check s (table tks tds tws n) threshold fit
-      → ks ≡ filled 0 ks₀
-      → ds ≡ filled zero32 ds₀
-      → es ≡ filled zero32 es₀
-      → cs ≡ filled 0 cs₀
-      → MayMarch verdict (record { size = s.voxel_size.0; most = s.max_distance.0 }) (table tks tds tws n) ks ds es cs
-  may_march ks cs ds es {fit} p q a b c d e =
-      let h = sym q ∙ e in
-      let k = sets_equal (length ks₀) (length ds₀) (length es₀) (length cs₀) (sym p ∙ (tests s (table tks tds tws n) threshold fit h).places) in (
-        (tested_table s tks tds tws n threshold fit h, tested_course s (table tks tds tws n) threshold fit h),
-        cleared ks₀ cs₀ ds₀ es₀ ks cs ds es k.0 k.1 a b c d,
-      )
+      (fit : Bool) (ks : List ℕ) (ds es : List Float) (cs : List ℕ)
+      → (fit ≡ true → Blank ks ds es cs)
+      → march_check s (table tks tds tws n) threshold fit ≡ (Ok tt)
+      → (Tabled (table tks tds tws n) × Fair (record { size = s.voxel_size.0; most = s.max_distance.0 })) × Blank ks ds es cs
+  may_march fit ks ds es cs b h = (
+    (tested_table s tks tds tws n threshold fit h, tested_course s (table tks tds tws n) threshold fit h),
+    b (tests s (table tks tds tws n) threshold fit h).places,
+  )
 
-  -- the whole call
-  pub march_left :
-      {fit : Bool} {verdict : Result (Unit {0}) Refusal} (ks₁ cs₁ : List ℕ)
-      → fit ≡ pair_ok (length ks₀) (length ds₀) && pair_ok (length es₀) (length cs₀)
-      → verdict ≡ march_check s (table tks tds tws n) threshold fit
-      → length ks₁ ≡ length ks₀
-      → length cs₁ ≡ length cs₀
-      → (ks : List ℕ) (ds es : List Float) (cs : List ℕ)
-      → length ks ≡ length ks₀
-      → length ds ≡ length ds₀
-      → length es ≡ length es₀
-      → length cs ≡ length cs₀
-      → (r : Result (ℕ × ℕ) Refusal)
-      → Finished (tested verdict (march_from s.voxel_size.0 s.max_distance.0 (rooms_of ks₁ cs₁) threshold (rows_of tks tds tws n))) r ks ds es cs
-      → (ks' : List ℕ) (ds' es' : List Float) (cs' : List ℕ)
-      → ks' ≡ tidied 0 r ks
-      → ds' ≡ tidied zero32 r ds
-      → es' ≡ tidied zero32 r es
-      → cs' ≡ tidied 0 r cs
-      → outcome r ks' ds' es' cs' ≡ computed s (table tks tds tws n) threshold (places (length ks₀) (length ds₀) (length es₀) (length cs₀))
-  unfolding marching
-  march_left {verdict = verdict} ks₁ cs₁ p q i j ks ds es cs lk ld le lc r f ks' ds' es' cs' a b c d =
-      let l = places (length ks₀) (length ds₀) (length es₀) (length cs₀) in
-      let h = q ∙ ap (march_check s (table tks tds tws n) threshold) p in
-      let g : Finished (marching s (table tks tds tws n) threshold l) r ks ds es cs =
-      subst (λ (v : Result (Unit {0}) Refusal).
-      Finished (tested v (march_from s.voxel_size.0 s.max_distance.0 (rooms (length ks₀) (length cs₀))
-      threshold (rows_of tks tds tws n))) r ks ds es cs) h
-      (subst (λ (m : Rooms).
-      Finished (tested verdict
-      (march_from s.voxel_size.0 s.max_distance.0 m threshold (rows_of tks tds tws n))) r ks ds es
-      cs) (same_rooms (rooms (length ks₀) (length cs₀)) ks₁ cs₁ i j) f) in
-      tidied_left l (marching s (table tks tds tws n) threshold l) ks ds es cs lk ld le lc r ks' ds' es' cs' g a b c d
+  module _ (ks₀ cs₀ : List ℕ) (ds₀ es₀ : List Float) where
+    -- cleared lists hold nothing
+    pub blank_if :
+        (ks cs : List ℕ) (ds es : List Float) {fit : Bool}
+        → fit ≡ pair_ok (length ks₀) (length ds₀) && pair_ok (length es₀) (length cs₀)
+        → ks ≡ filled 0 ks₀
+        → ds ≡ filled zero32 ds₀
+        → es ≡ filled zero32 es₀
+        → cs ≡ filled 0 cs₀
+        → fit ≡ true
+        → Blank ks ds es cs
+    blank_if ks cs ds es p a b c d e =
+        let k = sets_equal (length ks₀) (length ds₀) (length es₀) (length cs₀) (sym p ∙ e) in cleared ks₀ cs₀ ds₀ es₀ ks cs ds es k.0 k.1 a b c d
+
+    -- the whole call
+    pub march_left :
+        {fit : Bool} (ks₁ cs₁ : List ℕ)
+        → fit ≡ pair_ok (length ks₀) (length ds₀) && pair_ok (length es₀) (length cs₀)
+        → length ks₁ ≡ length ks₀
+        → length cs₁ ≡ length cs₀
+        → (ks : List ℕ) (ds es : List Float) (cs : List ℕ)
+        → length ks ≡ length ks₀
+        → length ds ≡ length ds₀
+        → length es ≡ length es₀
+        → length cs ≡ length cs₀
+        → (r : Result (ℕ × ℕ) Refusal)
+        → Finished (tested (march_check s (table tks tds tws n) threshold fit)
+        (march_from s.voxel_size.0 s.max_distance.0 (rooms_of ks₁ cs₁) threshold (rows_of tks tds tws n))) r ks ds es cs
+        → (ks' : List ℕ) (ds' es' : List Float) (cs' : List ℕ)
+        → ks' ≡ tidied 0 r ks
+        → ds' ≡ tidied zero32 r ds
+        → es' ≡ tidied zero32 r es
+        → cs' ≡ tidied 0 r cs
+        → outcome r ks' ds' es' cs' ≡ computed s (table tks tds tws n) threshold (places (length ks₀) (length ds₀) (length es₀) (length cs₀))
+    unfolding marching
+    march_left {fit = fit} ks₁ cs₁ p i j ks ds es cs lk ld le lc r f ks' ds' es' cs' a b c d =
+        let l = places (length ks₀) (length ds₀) (length es₀) (length cs₀) in
+        let g : Finished (marching s (table tks tds tws n) threshold l) r ks ds es cs =
+        subst (λ (x : Bool).
+        Finished (tested (march_check s (table tks tds tws n) threshold x)
+        (march_from s.voxel_size.0 s.max_distance.0 (rooms (length ks₀) (length cs₀)) threshold (rows_of tks tds tws n))) r ks ds es cs) p
+        (subst (λ (m : Rooms).
+        Finished (tested (march_check s (table tks tds tws n) threshold fit)
+        (march_from s.voxel_size.0 s.max_distance.0 m threshold (rows_of tks tds tws n))) r ks ds es cs)
+        (same_rooms (rooms (length ks₀) (length cs₀)) ks₁ cs₁ i j) f) in
+        tidied_left l (marching s (table tks tds tws n) threshold l) ks ds es cs lk ld le lc r ks' ds' es' cs' g a b c d

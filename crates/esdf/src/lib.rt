@@ -1,14 +1,14 @@
 // The march: distances carried outwards from the surface (src/layers/esdf.rs). The tests of the call, then the march of racing, and its answer.
 #![tactic(auto)]
 
-ghost use Rattle.std.specs.Prelude.{◌≡◌, length};
+ghost use Rattle.std.specs.Prelude.{◌≡◌, true, length};
 ghost use Rattle.floats.specs.Floats.{zero32};
 ghost use Rattle.lists.specs.Places.{filled};
 ghost use Rattle.table.specs.Table.{table};
 ghost use Rattle.marching.specs.Lattice.{march_from};
 ghost use Rattle.fronts.specs.Fronts.{rooms_of};
-ghost use Rattle.racing.specs.Racing.{Finished};
-ghost use Rattle.esdf.specs.Steps.{MayMarch, tidied};
+ghost use Rattle.racing.specs.Racing.{Blank, Finished};
+ghost use Rattle.esdf.specs.Steps.{tidied};
 ghost use Rattle.esdf.specs.Compute.{places, march_check, tested, outcome, computed};
 ghost use Rattle.table.specs.Read.{table_of, rows_in};
 
@@ -17,7 +17,7 @@ use marched::pair_ok;
 use marching::Course;
 use racing::{clear, march};
 use refusals::Refusal;
-use table::{Rows, Settings, check_with, then_test};
+use table::{Rows, Settings, check_with};
 
 // A refused march leaves zeros.
 fn tidy(
@@ -41,27 +41,40 @@ fn tidy(
 fn check(settings: Settings, rows: &Rows, threshold: f32, fit: bool) -> Result<(), Refusal>
     ensures { result ≡ march_check settings (table_of rows.now) threshold fit }
 {
-    let verdict = check_with(fit, settings, rows);
-    then_test(verdict, floats::is_finite(threshold), Refusal::BadReading)
+    check_with(fit, settings, rows)?;
+    if !floats::is_finite(threshold) {
+        return Err(Refusal::BadReading);
+    }
+    Ok(())
 }
 
-// The march, if the tests have passed.
-fn march_if(
-    verdict: Result<(), Refusal>,
-    plan: &Plan,
+// The march, if the tests pass, into lists that hold nothing.
+fn march_checked(
+    settings: Settings,
+    rows: &Rows,
+    threshold: f32,
+    fit: bool,
     keys: &mut [u64],
     distances: &mut [f32],
     estimates: &mut [f32],
     cells: &mut [u64],
 ) -> Result<(usize, usize), Refusal>
-    requires { MayMarch verdict plan.now.course (table_of plan.now.fused) keys.old distances.old estimates.old cells.old }
-    ensures { Finished (tested verdict
-        (march_from plan.now.course.size plan.now.course.most (rooms_of keys.old cells.old) plan.now.threshold
-        (rows_in plan.now.fused))) result
+    requires { fit ≡ true → Blank keys.old distances.old estimates.old cells.old }
+    ensures { Finished (tested (march_check settings (table_of rows.now) threshold fit)
+        (march_from settings.voxel_size.0 settings.max_distance.0 (rooms_of keys.old cells.old) threshold
+        (rows_in rows.now))) result
         keys.new distances.new estimates.new cells.new }
 {
-    verdict?;
-    march(plan, keys, distances, estimates, cells)
+    check(settings, rows, threshold, fit)?;
+    let plan = Plan {
+        fused: *rows,
+        threshold,
+        course: Course {
+            size: settings.voxel_size.0,
+            most: settings.max_distance.0,
+        },
+    };
+    march(&plan, keys, distances, estimates, cells)
 }
 
 // The march over a fused table: its rows into the marched lists, by way of the waiting ones.
@@ -82,24 +95,17 @@ pub fn compute_from_tsdf(
 {
     let fit = pair_ok(marched_keys.len(), marched_distances.len())
         & pair_ok(waiting_estimates.len(), waiting_keys.len());
-    let verdict = check(settings, rows, threshold, fit);
     clear(
         marched_keys,
         marched_distances,
         waiting_estimates,
         waiting_keys,
     );
-    let plan = Plan {
-        fused: *rows,
+    let answer = march_checked(
+        settings,
+        rows,
         threshold,
-        course: Course {
-            size: settings.voxel_size.0,
-            most: settings.max_distance.0,
-        },
-    };
-    let answer = march_if(
-        verdict,
-        &plan,
+        fit,
         marched_keys,
         marched_distances,
         waiting_estimates,

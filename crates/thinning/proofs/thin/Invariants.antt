@@ -1,6 +1,6 @@
 -- `thinning::thin` meets its contract: the marks of waiting cells that are left are those of cells further on.
 -- Assumes nothing.
-use Prim.Native.Nat.{◌≤◌, ◌-◌}
+use Prim.Native.Nat.{◌≤◌}
 use mathlib.Core.Path.{◌≡◌}
 use lib.ListN.{length}
 use Rattle.thinning.proofs.Forgetting.{Thinning}
