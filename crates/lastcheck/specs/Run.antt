@@ -1,24 +1,23 @@
 -- What one byte of the input does, and what a run prints.
-use Rattle.std.specs.Prelude.{ℕ, ◌+◌, Bool, true, false, cond, List, [], ◌∷◌, ◌++◌, ltb, eqb, length}
-use Rattle.lastlines.specs.Lastcheck.{After, step_of, unset, unfilled}
+use Rattle.std.specs.Prelude.{ℕ, ◌+◌, Bool, true, false, cond, List, [], ◌∷◌, ◌++◌, ltb, eqb, length, Option, None}
+use Rattle.lastlines.specs.Lastcheck.{After, step_of, unfilled}
 use Rattle.table.specs.declared.Settings.{Settings}
 use Rattle.table.specs.Table.{Table}
 
--- where a run stands: what is kept of the present line, its number, whether P came, the settings, the table, and whether the run goes on
+-- where a run stands: what is kept of the present line, its number, the settings, where P came, the table, and whether the run goes on
 pub record State : Type 0 where
   pub kept : List ℕ
   pub number : ℕ
-  pub started : Bool
-  pub settings : Settings
+  pub settings : Option Settings
   pub left : Table
   pub going : Bool
 
-abbrev pub state : List ℕ → ℕ → Bool → Settings → Table → Bool → State
-state l n started s t going = record { kept = l; number = n; started = started; settings = s; left = t; going = going }
+abbrev pub state : List ℕ → ℕ → Option Settings → Table → Bool → State
+state l n s t going = record { kept = l; number = n; settings = s; left = t; going = going }
 
 -- before the first byte
 abbrev pub beginning : State
-beginning = state [] 1 false unset unfilled true
+beginning = state [] 1 None unfilled true
 
 -- lines are numbered from 1; past 2^64 - 1 the number stays
 abbrev pub counted : ℕ → ℕ
@@ -26,18 +25,18 @@ counted n = cond (ltb n 18446744073709551615) (n + 1) n
 
 -- the line that is kept has ended: what it does
 abbrev pub ended : State → After
-ended s = step_of s.kept s.number s.started s.settings s.left
+ended s = step_of s.kept s.number s.settings s.left
 
 -- the next line is begun
 abbrev pub renewed : State → After → State
-renewed s a = state [] (counted s.number) a.started a.settings a.left a.goes
+renewed s a = state [] (counted s.number) a.settings a.left a.goes
 
 -- one byte more of the line, of which `room` bytes are kept
 abbrev pub kept_with : ℕ → List ℕ → ℕ → List ℕ
 kept_with room l byte = cond (ltb (length l) room) (l ++ (byte ∷ [])) l
 
 abbrev pub longer : ℕ → State → ℕ → State
-longer room s byte = state (kept_with room s.kept byte) s.number s.started s.settings s.left s.going
+longer room s byte = state (kept_with room s.kept byte) s.number s.settings s.left s.going
 
 -- what a byte leaves: a newline ends the line; a run that has ended stays as it is
 unfoldable pub step_byte : ℕ → State → ℕ → State
@@ -63,4 +62,4 @@ fed room s (byte ∷ bytes) = fed room (step_byte room s byte) bytes
 
 -- a run that ends
 abbrev pub stopped : State → State
-stopped s = state s.kept s.number s.started s.settings s.left false
+stopped s = state s.kept s.number s.settings s.left false
