@@ -1,38 +1,14 @@
 -- `search::place_between` meets its contract: what is left of the search ends where the whole does.
 use native.Mathlib.Omega.{arith}
-use mathlib.Core.Path.{refl, sym, ◌∙◌}
+use mathlib.Core.Path.{sym, ◌∙◌}
 use Rattle.search.proofs.KeyLaws.{goes_up, goes_down, ends}
 use Rattle.search.proofs.place_between.Goals as goal
-
-pub loop-low-init : goal.loop-low-init
-loop-low-init c = (omega arith, refl)
-
-pub overflow_sub-middle : goal.overflow_sub-middle
-overflow_sub-middle c = omega arith
-
-pub overflow_add-middle : goal.overflow_add-middle
-overflow_add-middle c = omega arith
-
-pub offset_bounds-keys-middle : goal.offset_bounds-keys-middle
-offset_bounds-keys-middle c = omega arith
-
-pub bounds-keys-middle : goal.bounds-keys-middle
-bounds-keys-middle c = omega arith
-
-pub overflow_add-low : goal.overflow_add-low
-overflow_add-low c = omega arith
-
-pub loop-low-smaller-then-keys-middle : goal.loop-low-smaller-then-keys-middle
-loop-low-smaller-then-keys-middle c = omega arith
 
 pub loop-low-preserved-then-keys-middle : goal.loop-low-preserved-then-keys-middle
 loop-low-preserved-then-keys-middle c =
     let t = c.loop-low-test.true in
     let h = c.loop-low.invariant.0 in
     (h, c.loop-low.invariant.1 ∙ goes_up _ _ _ _ _ t (omega (arith, h)) c.if-keys-middle.true)
-
-pub loop-low-smaller : goal.loop-low-smaller
-loop-low-smaller c = omega arith
 
 pub loop-low-preserved : goal.loop-low-preserved
 loop-low-preserved c =
