@@ -46,7 +46,8 @@ use Rattle.triangles.specs.Building.{Rooms as Lent, rooms as rooms_for}
 use Rattle.mesh.specs.declared.Rooms.{Rooms}
 use Rattle.mesh.specs.declared.Drawn.{Drawn}
 use Rattle.mesh.specs.Mesh.{surface_edges, vertices_on, normals_on, groups_on, triangles_on, rooms_ok, mesh_check, have_room_on, meshed_on, mesh_answer_on, held_in}
-use Rattle.mesh.specs.Steps.{with_built, with_vertices, with_edges, answer_for, kept_of, Fit, Drawing}
+use Rattle.lists.specs.Listing.{kept_of}
+use Rattle.mesh.specs.Steps.{with_built, with_vertices, with_edges, answer_for, Fit, Drawing}
 
 -- ---- one list
 

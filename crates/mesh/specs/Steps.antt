@@ -29,11 +29,6 @@ unfoldable pub answer_for : Result (Unit {0}) Refusal → Result ℕ Refusal →
 answer_for (Ok tt) edges room built = with_edges edges room built
 answer_for (Err why) edges room built = Err why
 
--- n where an answer is a mesh, 0 where it refuses
-abbrev pub kept_of : Result (ℕ × ℕ) Refusal → ℕ → ℕ
-kept_of (Ok (i, j)) n = n
-kept_of (Err why) n = 0
-
 -- a verdict that passed, and lists for groups and triangles that fit
 pub record Fit (v : Result (Unit {0}) Refusal) (l : Lent) : Type 0 where
   pub passed : v ≡ (Ok tt)

@@ -2,13 +2,14 @@
 #![tactic(auto)]
 
 ghost use Rattle.std.specs.Prelude.{◌≡◌, length};
+ghost use Rattle.lists.specs.Listing.{kept_of};
 ghost use Rattle.lists.specs.Places.{zero_f, cleared_from};
 ghost use Rattle.table.specs.Table.{table};
 ghost use Rattle.edges.specs.Steps.{Tested};
 ghost use Rattle.edges.specs.declared.Surface.TheVariants.{Open, Closed};
 ghost use Rattle.triangles.specs.Building.{rooms as lent_of};
 ghost use Rattle.mesh.specs.Mesh.{rooms as rooms_of, rooms_ok, mesh_check, IsMeshOn, IsMesh, IsClosedMesh};
-ghost use Rattle.mesh.specs.Steps.{with_built, with_vertices, with_edges, answer_for, kept_of, Fit, Drawing};
+ghost use Rattle.mesh.specs.Steps.{answer_for, Fit, Drawing};
 ghost use Rattle.table.specs.Read.{table_of};
 
 use edges::Surface;
@@ -147,46 +148,8 @@ fn draw(
     }
 }
 
-// The answer, where the vertices have room, by that to the triangles.
-fn with_built(n: usize, built: Result<usize, Refusal>) -> Result<(usize, usize), Refusal>
-    ensures { result ≡ with_built n built }
-{
-    match built {
-        Ok(m) => Ok((n, m)),
-        Err(why) => Err(why),
-    }
-}
-
-// The answer, where the edges have room.
-fn with_vertices(
-    n: usize,
-    room: usize,
-    built: Result<usize, Refusal>,
-) -> Result<(usize, usize), Refusal>
-    ensures { result ≡ with_vertices n room built }
-{
-    if n <= room {
-        with_built(n, built)
-    } else {
-        Err(Refusal::NoPlace)
-    }
-}
-
-// The answer, where the tests passed.
-fn with_edges(
-    edges: Result<usize, Refusal>,
-    room: usize,
-    built: Result<usize, Refusal>,
-) -> Result<(usize, usize), Refusal>
-    ensures { result ≡ with_edges edges room built }
-{
-    match edges {
-        Ok(n) => with_vertices(n, room, built),
-        Err(why) => Err(why),
-    }
-}
-
-// The answer.
+// The answer: what the tests refuse, then the edges, the vertices' room and the triangles.
+#[tactic(auto, unfolding(crate::specs::Steps::answer_for))]
 fn answer(
     verdict: Result<(), Refusal>,
     edges: Result<usize, Refusal>,
@@ -195,20 +158,9 @@ fn answer(
 ) -> Result<(usize, usize), Refusal>
     ensures { result ≡ answer_for verdict edges room built }
 {
-    match verdict {
-        Ok(()) => with_edges(edges, room, built),
-        Err(why) => Err(why),
-    }
-}
-
-// How many of `n` places are kept: none where the answer refuses.
-fn kept(meshed: Result<(usize, usize), Refusal>, n: usize) -> usize
-    ensures { result ≡ kept_of meshed n }
-{
-    match meshed {
-        Ok((_, _)) => n,
-        Err(_) => 0,
-    }
+    verdict?;
+    let vertices = lists::room_for(edges?, room)?;
+    Ok((vertices, built?))
 }
 
 // The edges stay, or are wiped where the answer refuses.
@@ -216,8 +168,8 @@ fn settle_edges(meshed: Result<(usize, usize), Refusal>, first: &mut [u64], seco
     ensures first_after { first.new ≡ cleared_from 0 (kept_of meshed (length first.old)) first.old }
     ensures second_after { second.new ≡ cleared_from 0 (kept_of meshed (length second.old)) second.old }
 {
-    let a = kept(meshed, first.len());
-    let b = kept(meshed, second.len());
+    let a = lists::kept(meshed, first.len());
+    let b = lists::kept(meshed, second.len());
     lists::clear_from(first, a, 0);
     lists::clear_from(second, b, 0);
 }
@@ -234,7 +186,7 @@ fn settle_places(
     ensures y_after { y.new ≡ cleared_from zero_f (kept_of meshed n) y.old }
     ensures z_after { z.new ≡ cleared_from zero_f (kept_of meshed n) z.old }
 {
-    let k = kept(meshed, n);
+    let k = lists::kept(meshed, n);
     lists::clear_from(x, k, 0.0);
     lists::clear_from(y, k, 0.0);
     lists::clear_from(z, k, 0.0);
@@ -253,10 +205,10 @@ fn settle_triangles(
     ensures t1_after { t1.new ≡ cleared_from 0 (kept_of meshed (length t1.old)) t1.old }
     ensures t2_after { t2.new ≡ cleared_from 0 (kept_of meshed (length t2.old)) t2.old }
 {
-    let g = kept(meshed, groups.len());
-    let a = kept(meshed, t0.len());
-    let b = kept(meshed, t1.len());
-    let c = kept(meshed, t2.len());
+    let g = lists::kept(meshed, groups.len());
+    let a = lists::kept(meshed, t0.len());
+    let b = lists::kept(meshed, t1.len());
+    let c = lists::kept(meshed, t2.len());
     lists::clear_from(groups, g, 0);
     lists::clear_from(t0, a, 0);
     lists::clear_from(t1, b, 0);

@@ -21,7 +21,8 @@ use Rattle.groups.specs.CellEdges.{pairs_ok}
 use Rattle.triangles.specs.declared.Filled.{Filled}
 use Rattle.lists.specs.Threes.{Three, column0, column1, column2}
 use Rattle.triangles.specs.Building.{Source, source, rooms, groups_at, triangles_at, lengths_ok, sizes_ok, room_for_both, built_answer, groups_held, held0, held1, held2}
-use Rattle.triangles.specs.Steps.{Ready, filled_with, answer_for, kept_of}
+use Rattle.triangles.specs.Steps.{Ready, filled_with, answer_for}
+use Rattle.lists.specs.Listing.{kept_of}
 
 -- ---- one list
 

@@ -5,12 +5,12 @@ use native.Mathlib.Numerals.{add-one}
 use native.Mathlib.Omega.{arith}
 use mathlib.Core.Path.{◌≡◌, sym, ap, ◌∙◌}
 use mathlib.Core.List.{List, [], ◌∷◌, ◌++◌, map, map-append}
-use lib.ListN.{length, get_or, take, drop, length-append, length-map, drop_of_length-le}
+use lib.ListN.{length, get_or, drop, length-append, length-map, drop_of_length-le}
 use lib.Seq.{sets, drop-cons}
 use Rattle.lists.specs.Lists.{joined}
-use Rattle.lists.proofs.PaddingLaws.{padded_front, padded_length}
 use Rattle.handful.specs.declared.Handful.{Handful}
-use Rattle.handful.specs.Handfuls.{held}
+use Rattle.handful.specs.Handfuls.{held, numbers_of}
+use Rattle.handful.proofs.PlacingLaws.{held_numbers}
 use Rattle.lists.specs.Threes.{Three, threes, threes_of, column0, column1, column2}
 use Rattle.triangles.specs.Building.{Source, group_at, groups_at, triangles_at}
 use Rattle.triangles.specs.Steps.{filled_with}
@@ -113,13 +113,5 @@ module _ (s : Source) (cells : List ℕ) (g₀ x₀ y₀ z₀ : List ℕ) where
         )
 
 -- a cell's group as the program holds it
-pub group_known : (g : Handful) (l : List ℕ) → g ≡ held l → length l ≤ 14 →
-    (g.count ≤ 14) × (length g.numbers ≡ 14) × (take g.count g.numbers ≡ l) × (g.count ≡ length (take g.count g.numbers))
-group_known g l e h =
-    let n : g.count ≡ length l = ap (λ (y : Handful). y.count) e in
-    let t : take g.count g.numbers ≡ l = ap (λ (y : Handful). take y.count y.numbers) e ∙ padded_front 0 14 l in (
-      omega arith,
-      ap (λ (y : Handful). length y.numbers) e ∙ padded_length 0 14 l h,
-      t,
-      n ∙ sym (ap length t),
-    )
+pub group_known : {g : Handful} {numbers : List ℕ} (l : List ℕ) → numbers ≡ numbers_of g → g ≡ held l → numbers ≡ l
+group_known l n e = n ∙ ap numbers_of e ∙ held_numbers l

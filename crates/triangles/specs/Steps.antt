@@ -1,5 +1,5 @@
 -- What the private functions promise each other.
-use Rattle.std.specs.Prelude.{ℕ, ◌<◌, ◌≤◌, ◌≡◌, Bool, cond, List, length, Ok, Err, Result}
+use Rattle.std.specs.Prelude.{ℕ, ◌<◌, ◌≤◌, ◌≡◌, Bool, cond, List, length, Err, Result}
 use Rattle.refusals.specs.declared.Refusal.TheVariants.{Lengths}
 use Rattle.triangles.specs.Building.{Source, groups_at, triangles_at, room_for_both}
 use Rattle.triangles.specs.declared.Filled.{Filled}
@@ -19,8 +19,3 @@ filled_with s cells = record { groups = length (groups_at s cells); triangles = 
 -- the answer to lengths that were tested and to what was filled
 abbrev pub answer_for : Bool → Filled → ℕ → ℕ → Result ℕ Refusal
 answer_for ok f room place = cond ok (room_for_both f.groups room f.triangles place) (Err Lengths)
-
--- n where an answer counts, 0 where it refuses
-abbrev pub kept_of : Result ℕ Refusal → ℕ → ℕ
-kept_of (Ok m) n = n
-kept_of (Err why) n = 0

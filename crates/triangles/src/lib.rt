@@ -5,7 +5,7 @@ ghost use Rattle.std.specs.Prelude.{◌≡◌, cond, ◌≤◌, length, take};
 ghost use Rattle.std.proofs.lemmas.List.Edits.{sets};
 ghost use Rattle.lists.specs.Threes.{threes, threes_of, column0, column1, column2};
 ghost use Rattle.triangles.specs.Building.{source, rooms, groups_at, triangles_at, lengths_ok, built_answer, groups_held, held0, held1, held2};
-ghost use Rattle.triangles.specs.Steps.{Ready, filled_with, answer_for, kept_of};
+ghost use Rattle.triangles.specs.Steps.{Ready, filled_with, answer_for};
 
 use lists::LONGEST_LIST;
 use refusals::Refusal;
@@ -34,16 +34,17 @@ fn put_numbers(group: &[u32], groups: &mut [u32], at: usize)
     ensures { groups.new ≡ sets groups.old at group.now }
 {
     let mut end = at;
-    for i in 0..group.len() {
+    for &number in group {
         if groups.len() <= end {
             break;
         }
-        groups[end] = group[i];
+        groups[end] = number;
         end += 1;
     }
 }
 
-// Every three of a group, from the place `at` on; the loops are left together when the lists have no place.
+// Every three of a group, from the place `at` on; the loops are left together when the lists have no place. By places: each loop begins where the one around
+// it stands, which an iterator over the numbers would say by a `skip`.
 fn put_threes(group: &[u32], t0: &mut [u32], t1: &mut [u32], t2: &mut [u32], at: usize)
     requires { (length t1.old ≡ length t0.old) × (length t2.old ≡ length t0.old) }
     ensures t0_after { t0.new ≡ sets t0.old at (column0 (threes group.now)) }
@@ -95,15 +96,13 @@ fn fill(
 {
     let mut numbers_end = 0;
     let mut triangles_end = 0;
-    for row in 0..n {
-        let cell = keys[row];
+    for &cell in &keys[..n] {
         let group = groups::near_group(first, second, edges, cell);
-        let numbers = group.numbers;
-        let count = group.count;
-        put_numbers(&numbers[..count], groups, numbers_end);
-        put_threes(&numbers[..count], t0, t1, t2, triangles_end);
-        numbers_end += count;
-        triangles_end += threes_of(count);
+        let numbers = group.as_slice();
+        put_numbers(numbers, groups, numbers_end);
+        put_threes(numbers, t0, t1, t2, triangles_end);
+        numbers_end += numbers.len();
+        triangles_end += threes_of(numbers.len());
     }
     Filled {
         groups: numbers_end,
@@ -148,16 +147,6 @@ fn answer(ok: bool, filled: Filled, room: usize, place: usize) -> Result<usize, 
         return Err(Refusal::NoPlace);
     }
     lists::room_for(filled.triangles, place)
-}
-
-// How many of `n` places are kept: none where the answer refuses.
-fn kept(listed: Result<usize, Refusal>, n: usize) -> usize
-    ensures { result ≡ kept_of listed n }
-{
-    match listed {
-        Ok(_) => n,
-        Err(_) => 0,
-    }
 }
 
 // The groups and the triangles of a table's cells from an edge list: 2, then 6 exactly when one outgrows its own list.
@@ -206,7 +195,7 @@ pub fn build_triangles(
     let n = rows_taken(ok, rows);
     let filled = fill(keys, n, first, second, edges, groups, t0, t1, t2);
     let listed = answer(ok, filled, groups.len(), t0.len());
-    let numbers = kept(listed, filled.groups);
+    let numbers = lists::kept(listed, filled.groups);
     let count = lists::count_of(listed);
     lists::clear_from(groups, numbers, 0);
     lists::clear_from(t0, count, 0);
