@@ -17,7 +17,7 @@ use marched::pair_ok;
 use marching::Course;
 use racing::{clear, march};
 use refusals::Refusal;
-use table::{Rows, Settings, check_with};
+use table::{Rows, Settings, check_threshold};
 
 // A refused march leaves zeros.
 fn tidy(
@@ -41,11 +41,7 @@ fn tidy(
 fn check(settings: Settings, rows: &Rows, threshold: f32, fit: bool) -> Result<(), Refusal>
     ensures { result ≡ march_check settings (table_of rows.now) threshold fit }
 {
-    check_with(fit, settings, rows)?;
-    if !floats::is_finite(threshold) {
-        return Err(Refusal::BadReading);
-    }
-    Ok(())
+    check_threshold(fit, settings, rows, threshold)
 }
 
 // The march, if the tests pass, into lists that hold nothing.

@@ -7,7 +7,7 @@ use Rattle.table.proofs.settings_ok.Reads as settings_ok
 use Rattle.table.proofs.lengths_ok.Reads as lengths_ok
 use Rattle.table.proofs.check_with.Reads as check_with
 use Rattle.table.proofs.check_table.Reads as check_table
-use Rattle.table.proofs.then_test.Reads as then_test
+use Rattle.table.proofs.check_threshold.Reads as check_threshold
 
 pub settings_of_determined : (κs : _) (a : _) (r r' : _) (s s' : _) → settings_of.Post κs a r s → settings_of.Post κs a r' s' → r ≡ r'
 settings_of_determined κs a r r' s s' p q = p ∙ sym q
@@ -24,8 +24,8 @@ lengths_ok_determined κs a r r' s s' p q = p ∙ sym q
 pub check_with_determined : (κs : _) (a : _) (r r' : _) (s s' : _) → check_with.Post κs a r s → check_with.Post κs a r' s' → r ≡ r'
 check_with_determined κs a r r' s s' p q = p ∙ sym q
 
-pub then_test_determined : (κs : _) (a : _) (r r' : _) (s s' : _) → then_test.Post κs a r s → then_test.Post κs a r' s' → r ≡ r'
-then_test_determined κs a r r' s s' p q = p ∙ sym q
+pub check_threshold_determined : (κs : _) (a : _) (r r' : _) (s s' : _) → check_threshold.Post κs a r s → check_threshold.Post κs a r' s' → r ≡ r'
+check_threshold_determined κs a r r' s s' p q = p ∙ sym q
 
 pub check_table_determined : (κs : _) (a : _) (r r' : _) (s s' : _) → check_table.Post κs a r s → check_table.Post κs a r' s' → r ≡ r'
 check_table_determined κs a r r' s s' p q = p ∙ sym q

@@ -3,9 +3,11 @@
 
 ghost use Rattle.std.specs.Prelude.{◌≡◌, ◌≤◌, length, Ok};
 ghost use Rattle.table.specs.Table.{settings_of, defaults, table, rows_of, farthest_ok, settings_ok, lengths_ok, row_ok, rows_ok, need, check_with, table_check, then_test};
+ghost use Rattle.floats.specs.Floats.{is_finite};
+ghost use Rattle.refusals.specs.declared.Refusal.TheVariants.{BadReading};
 ghost use Rattle.table.specs.Read.{table_of, rows_in};
 
-use floats::{Metres, between, positive_to, within};
+use floats::{Metres, between, is_finite, positive_to, within};
 use refusals::Refusal;
 use search::keys_ascend;
 
@@ -62,11 +64,7 @@ pub struct Rows<'a> {
 fn farthest_ok(x: f32) -> bool
     ensures { result ≡ farthest_ok x }
 {
-    if between(0.0, 1000000.0, x) {
-        f32::to_bits(x) != 0x8000_0000
-    } else {
-        false
-    }
+    between(0.0, 1000000.0, x) && f32::to_bits(x) != 0x8000_0000
 }
 
 // Each setting is in its range.
@@ -74,22 +72,23 @@ pub fn settings_ok(settings: Settings) -> bool
     ensures { result ≡ settings_ok settings }
 {
     positive_to(1000.0, settings.truncation.0)
-        & (positive_to(1000000.0, settings.max_weight)
-            & (positive_to(1000.0, settings.voxel_size.0) & farthest_ok(settings.max_distance.0)))
+        && positive_to(1000000.0, settings.max_weight)
+        && positive_to(1000.0, settings.voxel_size.0)
+        && farthest_ok(settings.max_distance.0)
 }
 
 // Equal lengths within the limit, and no more rows than places.
 pub fn lengths_ok(keys: usize, distances: usize, weights: usize, count: usize) -> bool
     ensures { result ≡ lengths_ok keys distances weights count }
 {
-    (keys == distances) & ((keys == weights) & ((keys <= LONGEST_TABLE) & (count <= keys)))
+    keys == distances && keys == weights && keys <= LONGEST_TABLE && count <= keys
 }
 
 // A row is in its ranges.
 fn row_ok(most: f32, key: u64, distance: f32, weight: f32) -> bool
     ensures { result ≡ row_ok most key distance weight }
 {
-    ids::is_on_lattice(key) & (within(1000000.0, distance) & between(0.0, most, weight))
+    ids::is_on_lattice(key) && within(1000000.0, distance) && between(0.0, most, weight)
 }
 
 // Every row is in its ranges.
@@ -112,6 +111,7 @@ fn rows_ok(most: f32, rows: &Rows) -> bool
 }
 
 // The tests of a call, in this order: settings (1), lists, `fits` says whether its own pass (2), the table's rows (3).
+#[tactic(auto, unfolding(crate::specs::Table::check_with, crate::specs::Table::need))]
 pub fn check_with(fits: bool, settings: Settings, rows: &Rows) -> Result<(), Refusal>
     ensures { result ≡ check_with fits settings (table_of rows.now) }
 {
@@ -124,10 +124,10 @@ pub fn check_with(fits: bool, settings: Settings, rows: &Rows) -> Result<(), Ref
     if !settings_ok(settings) {
         return Err(Refusal::Setting);
     }
-    if !(fits & lengths_ok(keys.len(), distances.len(), weights.len(), count)) {
+    if !(fits && lengths_ok(keys.len(), distances.len(), weights.len(), count)) {
         return Err(Refusal::Lengths);
     }
-    if !(rows_ok(settings.max_weight, rows) & keys_ascend(keys, count)) {
+    if !(rows_ok(settings.max_weight, rows) && keys_ascend(keys, count)) {
         return Err(Refusal::BadRow);
     }
     Ok(())
@@ -140,12 +140,15 @@ pub fn check_table(settings: Settings, rows: &Rows) -> Result<(), Refusal>
     check_with(true, settings, rows)
 }
 
-// A verdict, and what the call tests after it: `passes`, or why it is refused.
-pub fn then_test(verdict: Result<(), Refusal>, passes: bool, why: Refusal) -> Result<(), Refusal>
-    ensures { result ≡ then_test verdict (need passes why (Ok tt)) }
+// Those of a call that takes a threshold too, which has to be finite (5).
+#[tactic(auto, unfolding(crate::specs::Table::then_test, crate::specs::Table::need))]
+pub fn check_threshold(fits: bool, settings: Settings, rows: &Rows, threshold: f32) -> Result<(), Refusal>
+    ensures { result ≡ then_test (check_with fits settings (table_of rows.now)) (need (is_finite threshold) BadReading (Ok tt)) }
 {
-    match verdict {
-        Err(earlier) => Err(earlier),
-        Ok(()) => { if passes { Ok(()) } else { Err(why) } }
+    check_with(fits, settings, rows)?;
+    if is_finite(threshold) {
+        Ok(())
+    } else {
+        Err(Refusal::BadReading)
     }
 }

@@ -5,16 +5,16 @@ ghost use Rattle.std.specs.Prelude.{◌≡◌, ◌≤◌, ◌<◌, length};
 ghost use Rattle.std.proofs.lemmas.List.Edits.{sets};
 ghost use Rattle.lists.specs.Listing.{count_of};
 ghost use Rattle.lists.specs.Places.{cleared_from};
-ghost use Rattle.tsdf_surveys.specs.Surface.{is_surface, surface_keys, list_check, surface_listed, surface_held};
+ghost use Rattle.tsdf_surveys.specs.Surface.{is_surface, surface_keys, surface_listed, surface_held};
 ghost use Rattle.tsdf_surveys.specs.Statistics.{no_tally, tallied, tallied_all, mean_of, statistics_of};
 ghost use Rattle.tsdf_questions.specs.Steps.{Accepted};
 ghost use Rattle.table.specs.Read.{table_of, rows_in};
 
 use ends::Ends;
-use floats::{Metres, is_finite, size};
+use floats::{Metres, size};
 use lists::{LONGEST_LIST, clear_from, count_of, put, room_for};
 use refusals::Refusal;
-use table::{Rows, Settings, check_table, check_with};
+use table::{Rows, Settings, check_table, check_threshold};
 
 // How many rows there are and lie near the surface, the ends of their distances, and their mean weight.
 #[derive(Clone, Copy)]
@@ -64,19 +64,7 @@ fn list_surface(threshold: f32, rows: &Rows, out: &mut [u64]) -> usize
     n
 }
 
-// Refusals 1, 2, of the list to be filled too, 3 and 5.
-fn check_list(settings: Settings, rows: &Rows, threshold: f32, room: usize) -> Result<(), Refusal>
-    ensures { result ≡ list_check settings (table_of rows.now) threshold room }
-{
-    check_with(room <= LONGEST_LIST, settings, rows)?;
-    if is_finite(threshold) {
-        Ok(())
-    } else {
-        Err(Refusal::BadReading)
-    }
-}
-
-// The surface's cells, where the tests pass; the places past them are left to be cleared.
+// The surface's cells after refusals 1, 2, of the list to be filled too, 3 and 5; the places past them are left to be cleared.
 fn list_checked(
     settings: Settings,
     rows: &Rows,
@@ -87,7 +75,8 @@ fn list_checked(
     ensures out_after { cleared_from 0 (count_of result) out.new
         ≡ surface_held settings (table_of rows.now) threshold (length out.old) }
 {
-    check_list(settings, rows, threshold, out.len())?;
+    let fits = out.len() <= LONGEST_LIST;
+    check_threshold(fits, settings, rows, threshold)?;
     let n = list_surface(threshold, rows, out);
     room_for(n, out.len())
 }
@@ -112,6 +101,7 @@ pub fn get_surface_voxels(
 }
 
 // One row more.
+#[tactic(auto, unfolding(crate::specs::Statistics::tallied))]
 fn add_row(near: f32, sum: Tally, distance: f32, weight: f32) -> Tally
     requires { sum.near < 65536 }
     ensures { result ≡ tallied near sum distance weight }
@@ -162,6 +152,7 @@ fn mean(sum: f32, count: usize) -> f32
 }
 
 // The statistics of a table.
+#[tactic(auto, unfolding(crate::specs::Statistics::statistics_of, crate::specs::Statistics::statistics_if, crate::specs::Statistics::stats_of), using(tsdf_questions::proofs::Answers::accepted))]
 pub fn stats(settings: Settings, rows: &Rows) -> Result<TsdfStats, Refusal>
     ensures { result ≡ statistics_of settings (table_of rows.now) }
 {
