@@ -46,6 +46,7 @@ impl From<Settings> for Averaging {
 }
 
 // A weight after a reading of a confidence.
+#[tactic(auto, unfolding(crate::specs::Fusing::new_weight))]
 fn new_weight(how: Averaging, weight: f32, confidence: f32) -> f32
     ensures { result ≡ new_weight how weight confidence }
 {
@@ -53,6 +54,7 @@ fn new_weight(how: Averaging, weight: f32, confidence: f32) -> f32
 }
 
 // A voxel after a reading.
+#[tactic(auto, unfolding(crate::specs::Fusing::fused_voxel))]
 pub fn fused_voxel(how: Averaging, old: Voxel, m: Measured) -> Voxel
     ensures { result ≡ fused_voxel how old m }
 {
@@ -142,6 +144,7 @@ fn fuse_near(
 }
 
 // One reading, into a table that passed the check.
+#[tactic(auto, unfolding(crate::specs::Fusing::effect_of, crate::specs::Fusing::fuse_if, crate::specs::Fusing::fused_if))]
 pub fn fuse_sound(
     settings: Settings,
     keys: &mut [u64],
@@ -183,6 +186,7 @@ impl From<Step> for Fused {
 }
 
 // One reading. A refusal or Far leaves the table as it was.
+#[tactic(auto, unfolding(crate::specs::Fusing::fuse, crate::specs::Fusing::effect_of, crate::specs::Fusing::fuse_if))]
 pub fn fuse(
     settings: Settings,
     keys: &mut [u64],

@@ -142,7 +142,12 @@ pub fn check_table(settings: Settings, rows: &Rows) -> Result<(), Refusal>
 
 // Those of a call that takes a threshold too, which has to be finite (5).
 #[tactic(auto, unfolding(crate::specs::Table::then_test, crate::specs::Table::need))]
-pub fn check_threshold(fits: bool, settings: Settings, rows: &Rows, threshold: f32) -> Result<(), Refusal>
+pub fn check_threshold(
+    fits: bool,
+    settings: Settings,
+    rows: &Rows,
+    threshold: f32,
+) -> Result<(), Refusal>
     ensures { result ≡ then_test (check_with fits settings (table_of rows.now)) (need (is_finite threshold) BadReading (Ok tt)) }
 {
     check_with(fits, settings, rows)?;

@@ -36,6 +36,7 @@ fn row_of(rows: &Rows, key: u64) -> Result<Option<Voxel>, Refusal>
 }
 
 // The row of a cell, after refusals 1 to 4.
+#[tactic(auto, using(crate::proofs::Answers::accepted), unfolding(crate::specs::Lookups::looked_up, crate::specs::Lookups::looked_if))]
 fn look_up(settings: Settings, rows: &Rows, key: u64) -> Result<Option<Voxel>, Refusal>
     ensures { result ≡ looked_up settings (table_of rows.now) key }
 {
@@ -60,6 +61,7 @@ pub fn get_weight(settings: Settings, rows: &Rows, key: u64) -> Result<Option<f3
 }
 
 // Whether a cell is stored and near the surface; a threshold that is not finite is a 5.
+#[tactic(auto, unfolding(crate::specs::Lookups::surface_of, crate::specs::Lookups::surface_if))]
 pub fn is_surface_voxel(
     settings: Settings,
     rows: &Rows,
