@@ -13,8 +13,8 @@ ghost use Rattle.vectors.specs.Vectors.{empty_field, with_row, field_after, no_s
 use std::fmt;
 use table::{Rows, Settings, settings_of};
 
-// A line as far as it was read: its letter, 0 before it, and its words. The definition `longer_line` takes a byte 0 for no letter, and the programs
-// read the words past the last as 0, so the letter is no Option and the words are an array.
+// A line as far as it was read: its letter, 0 before it, and its words. `longer_line` takes a byte 0 for no letter, so
+// it is no Option; the programs read the words past the last as 0, so these are an array.
 #[derive(Clone, Copy)]
 pub struct Line {
     pub letter: u8,
@@ -295,6 +295,11 @@ pub fn scored(score: Score, letter: u8, good: bool) -> Score
 }
 
 impl fmt::Display for Score {
+    ghost use Rattle.std.specs.Prelude.{◌++◌, Some, codes, decimal};
+
+    ghost output = { λ s. Some (codes "answers of the Rust " ++ (decimal s.asked ++ (codes ", given again " ++ (decimal s.again
+        ++ (codes "; changed by a bit " ++ (decimal s.changed ++ (codes ", seen " ++ decimal s.seen))))))) };
+
     fn fmt<W: fmt::Write>(&self, f: &mut fmt::Formatter<W>) -> fmt::Result {
         write!(
             f,
