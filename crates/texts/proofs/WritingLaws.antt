@@ -1,20 +1,19 @@
 -- Laws of texts written one after the other, and of their digits.
 -- Assumes nothing.
 use Prim.Native.Nat.{ℕ, zero, suc, ◌+◌, ◌-◌, ◌/◌, ◌%◌, ◌^◌, ◌<◌, ◌≤◌}
-use native.Mathlib.Nat.{zero-add, pow-suc}
+use native.Mathlib.Nat.{zero-add, pow-suc, pow-le-pow_right}
 use native.Mathlib.Numerals.{add-one}
 use native.Mathlib.Omega.{arith}
-use mathlib.Core.Path.{◌≡◌, refl, sym, ap, subst, ◌∙◌}
-use mathlib.Core.Bool.{true}
+use mathlib.Core.Path.{◌≡◌, refl, sym, ap, ◌∙◌}
+use mathlib.Core.Bool.{true, false≢true}
 use mathlib.Core.List.{List, [], ◌∷◌, ◌++◌}
 use lib.ListN.{length, get_or, set, take, drop, length-append, length-set, length-drop}
 use lib.Seq.{sets, set_out, length-sets, length-take-le, take-suc, take_all, drop-cons, drop-set-lt, get_or-set_same}
-use lib.Dec.{T}
-use lib.Ieee.{Float, ne, to_bits, binary32}
-use lib.Ieee.Compare.{differs_from_itself}
+use lib.Dec.{lit<}
+use lib.Ieee.{Float, nan, inf, fin, is_nan, to_bits, binary32}
 use borrow.Author.Tests.{lt-ltb, le-ltb}
 use Rattle.lists.proofs.Writing.{sets_append}
-use Rattle.texts.specs.Texts.{hex_field, decimal_from}
+use Rattle.texts.specs.Texts.{glyph, hex_digits, hex_field, decimal_from}
 use Rattle.texts.specs.Steps.{Wrote}
 
 -- what is written past the end is nothing
@@ -58,10 +57,28 @@ text_more l text at i h e w =
     let long : length (take i text) ≡ i = length-take-le i text (omega arith) in
     rw (add-one i, take-suc text i 0 h, sets_append l at (take i text) (get_or text i 0 ∷ []), long, ← e) w.list
 
+-- one byte written, and what is left from where it goes on
+pub goes_on : {l m : List ℕ} {at p b : ℕ} (rest : List ℕ) → Wrote l at (b ∷ []) m p → sets m p rest ≡ sets l at (b ∷ rest)
+goes_on {l} {m} {at} {p} {b} rest w =
+    let next : p ≡ suc at = omega (arith, w.ends) in
+    rw (w.list, next)
+
+-- one hex digit more
+pub digit_written :
+    (k w : ℕ) {l m : List ℕ} {at p : ℕ} → Wrote l at (glyph (w / 16 ^ k % 16) ∷ []) m p → sets m p (hex_digits k w) ≡ sets l at (hex_digits (suc k) w)
+unfolding hex_digits
+digit_written k w d = goes_on (hex_digits k w) d
+
+-- a place of eight digits has a weight of 32 bits
+pub weight_fits : (k : ℕ) → k < 8 → 16 ^ k < 2 ^ 32
+weight_fits k h = omega (arith, pow-le-pow_right {n = 16} (lit< tt) {i = k} {j = 7} (omega arith))
+
 -- a NaN's pattern
-pub nan_bits : (x : Float) → ne x x ≡ true → to_bits binary32 x ≡ 0x7fc0_0000
-unfolding to_bits
-nan_bits x h = rw (differs_from_itself x (subst T (sym h) tt))
+pub nan_bits : (x : Float) → is_nan x ≡ true → to_bits binary32 x ≡ 0x7fc0_0000
+unfolding to_bits is_nan
+nan_bits nan h = refl
+nan_bits (inf s) h = absurd (false≢true h)
+nan_bits (fin s m e) h = absurd (false≢true h)
 
 -- twenty digits from the last on: a digit more, or the first
 module _ (number : ℕ) (ds : List ℕ) (start rest : ℕ) (inside : start < length ds)

@@ -10,17 +10,16 @@ ghost use Rattle.texts.specs.Steps.{Wrote};
 
 use refusals::Refusal;
 
-// A byte at a place, and the place after it.
+// A byte at a place, and the place after it. A `write!` promises its text on Ok alone, and these lines are promised on every call, so they are put by
+// functions of their own.
 fn put(out: &mut [u8], at: usize, byte: u8) -> usize
     requires { at + 1 < 2 ^ 64 }
     ensures { Wrote out.old at (byte ∷ []) out.new result }
 {
     if at < out.len() {
         out[at] = byte;
-        at + 1
-    } else {
-        at + 1
     }
+    at + 1
 }
 
 // A text from a place on, and the place after it.
@@ -28,12 +27,11 @@ fn put_text(out: &mut [u8], at: usize, text: &[u8]) -> usize
     requires { at ≤ 1000 }
     ensures { Wrote out.old at text.now out.new result }
 {
-    let mut i = 0;
-    while i < text.len() {
-        put(out, at + i, text[i]);
-        i += 1;
+    let mut next = at;
+    for byte in text {
+        next = put(out, next, *byte);
     }
-    at + i
+    next
 }
 
 // A hex digit.
@@ -42,9 +40,9 @@ fn hex_digit(value: u32) -> u8
     ensures { result ≡ glyph value }
 {
     if value < 10 {
-        48 + (value as u8)
+        b'0' + value as u8
     } else {
-        87 + (value as u8)
+        b'a' + (value - 10) as u8
     }
 }
 
@@ -53,15 +51,11 @@ fn put_word(out: &mut [u8], at: usize, word: u32) -> usize
     requires { at + 9 < 2 ^ 64 }
     ensures { Wrote out.old at (hex_field word) out.new result }
 {
-    let a0 = put(out, at, b' ');
-    let a1 = put(out, a0, hex_digit(word / 0x1000_0000 % 16));
-    let a2 = put(out, a1, hex_digit(word / 0x100_0000 % 16));
-    let a3 = put(out, a2, hex_digit(word / 0x10_0000 % 16));
-    let a4 = put(out, a3, hex_digit(word / 0x1_0000 % 16));
-    let a5 = put(out, a4, hex_digit(word / 0x1000 % 16));
-    let a6 = put(out, a5, hex_digit(word / 0x100 % 16));
-    let a7 = put(out, a6, hex_digit(word / 0x10 % 16));
-    put(out, a7, hex_digit(word % 16))
+    let mut next = put(out, at, b' ');
+    for place in (0..8u32).rev() {
+        next = put(out, next, hex_digit(word / 16u32.pow(place) % 16));
+    }
+    next
 }
 
 // A number in decimal, its digits put at the end of twenty places first, and the place after it.
@@ -74,11 +68,11 @@ fn put_decimal(out: &mut [u8], at: usize, number: u64) -> usize
     let mut start = 19;
     let mut rest = number;
     while 10 <= rest {
-        digits[start] = 48 + ((rest % 10) as u8);
-        rest = rest / 10;
+        digits[start] = b'0' + (rest % 10) as u8;
+        rest /= 10;
         start -= 1;
     }
-    digits[start] = 48 + (rest as u8);
+    digits[start] = b'0' + rest as u8;
     put_text(out, at, &digits[start..])
 }
 
@@ -120,7 +114,7 @@ pub fn refused_line(out: &mut [u8], why: Refusal) -> usize
 fn bits_of(x: f32) -> u32
     ensures { result ≡ to_bits binary32 x }
 {
-    if x != x { 0x7fc0_0000 } else { f32::to_bits(x) }
+    if x.is_nan() { 0x7fc0_0000 } else { x.to_bits() }
 }
 
 // `v` and the bits of a vertex's place, from the place `at` on.

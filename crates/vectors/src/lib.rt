@@ -149,14 +149,6 @@ pub fn signed(word: u64) -> i32
     low32(word).cast_signed()
 }
 
-// The f32 of a pattern that is no NaN's.
-fn float_of(bits: u32) -> f32
-    requires { not_finite bits ≡ false }
-    ensures { result ≡ f32 bits }
-{
-    f32::from_bits(bits)
-}
-
 // The f32 of 32 bits; 0 for those of an infinity or a NaN, of which no vector has one.
 #[tactic(auto, using(std::proofs::lemmas::Bool::Decides::nat_tests), unfolding(crate::specs::Vectors::float_of))]
 pub fn float(word: u64) -> f32
@@ -166,7 +158,7 @@ pub fn float(word: u64) -> f32
     if bits % 0x8000_0000 / 0x80_0000 == 255 {
         0.0
     } else {
-        float_of(bits)
+        words::float_of_pattern(bits)
     }
 }
 

@@ -7,11 +7,8 @@ use Rattle.texts.proofs.bad_line.Goals as goal
 pub returns : goal.returns
 unfolding bad_line
 returns c =
+    let line = whole (more c.put_text-a0.ensures (more c.put_decimal-a1.ensures.wrote c.put.ensures)) in
     record {
-      value = (whole (more c.put_text-a0.ensures
-          (more c.put_decimal-a1.ensures.wrote
-          c.put.ensures))).0;
-      out_after = (whole (more c.put_text-a0.ensures
-          (more c.put_decimal-a1.ensures.wrote
-          c.put.ensures))).1;
+      value = line.0;
+      out_after = line.1;
     }

@@ -1,12 +1,8 @@
--- `texts::bits_of` meets its contract: only a NaN differs from itself.
+-- `texts::bits_of` meets its contract: a NaN has one pattern.
 -- Assumes nothing.
-use mathlib.Core.Path.{sym}
-use Rattle.floats.proofs.Signs.{number}
+use Rattle.std.proofs.Common.{sym, ◌∙◌}
 use Rattle.texts.proofs.WritingLaws.{nan_bits}
 use Rattle.texts.proofs.bits_of.Goals as goal
 
-pub float_to_bits-result : goal.float_to_bits-result
-float_to_bits-result c = rw (number _ c.if-x.false) tt
-
-pub returns-then-x : goal.returns-then-x
-returns-then-x c = sym (nan_bits _ c.if-x.true)
+pub returns-then-is_nan : goal.returns-then-is_nan
+returns-then-is_nan c = sym (nan_bits _ (sym c.is_nan.ensures.value ∙ c.if-is_nan.true))

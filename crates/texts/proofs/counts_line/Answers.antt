@@ -7,19 +7,14 @@ use Rattle.texts.proofs.counts_line.Goals as goal
 pub returns : goal.returns
 unfolding counts_line
 returns c =
+    let line = whole (more c.put_text-a0.ensures
+    (more c.put_decimal-a1.ensures.wrote
+    (more c.put_text-a2.ensures
+    (more c.put_decimal-a3.ensures.wrote
+    (more c.put_text-a4.ensures
+    (more c.put_decimal-a5.ensures.wrote
+    c.put.ensures)))))) in
     record {
-      value = (whole (more c.put_text-a0.ensures
-          (more c.put_decimal-a1.ensures.wrote
-          (more c.put_text-a2.ensures
-          (more c.put_decimal-a3.ensures.wrote
-          (more c.put_text-a4.ensures
-          (more c.put_decimal-a5.ensures.wrote
-          c.put.ensures))))))).0;
-      out_after = (whole (more c.put_text-a0.ensures
-          (more c.put_decimal-a1.ensures.wrote
-          (more c.put_text-a2.ensures
-          (more c.put_decimal-a3.ensures.wrote
-          (more c.put_text-a4.ensures
-          (more c.put_decimal-a5.ensures.wrote
-          c.put.ensures))))))).1;
+      value = line.0;
+      out_after = line.1;
     }

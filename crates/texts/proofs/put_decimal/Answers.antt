@@ -18,11 +18,9 @@ loop-rest-preserved c = digit_again c.args.number c.loop-rest.digits c.loop-rest
 
 pub returns : goal.returns
 returns c =
+    let wrote = digits_wrote c.args.number c.loop-rest.digits c.loop-rest.start c.loop-rest.rest c.loop-rest-test.false
+    c.loop-rest.invariant c.put_text.ensures in
     record {
-      wrote = (digits_wrote c.args.number c.loop-rest.digits c.loop-rest.start c.loop-rest.rest
-          c.loop-rest-test.false c.loop-rest.invariant
-          c.put_text.ensures).0;
-      upper_bound = (digits_wrote c.args.number c.loop-rest.digits c.loop-rest.start c.loop-rest.rest
-          c.loop-rest-test.false c.loop-rest.invariant
-          c.put_text.ensures).1;
+      wrote = wrote.0;
+      upper_bound = wrote.1;
     }
