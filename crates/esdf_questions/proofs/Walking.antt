@@ -8,22 +8,11 @@ use native.Mathlib.Omega.{arith}
 use lib.ListN.{length, drop, get_or, drop_of_length-le}
 use lib.Seq.{drop-cons}
 use lib.Ieee.{Float}
-use Rattle.lists.specs.Padding.{padded}
-use Rattle.lists.proofs.PaddingLaws.{padded_at}
-use Rattle.neighbors.specs.Neighbors.{neighbours, near_of}
-use Rattle.neighbors.specs.declared.Near.{Near}
-use Rattle.neighbors.proofs.NeighborLaws.{at_most_14}
 use Rattle.marching.specs.March.{MarchedRow, distance_of}
 use Rattle.esdf_questions.specs.declared.Slopes.{Slopes}
 use Rattle.esdf_questions.specs.Gradient.{slopes_with, slopes_from}
 
--- ---- neighbours
-
--- the neighbours that were found
-pub near_is : (k : ℕ) (f : Near) → f ≡ near_of k → (f.keys ≡ padded 0 14 (neighbours k)) × (f.count ≡ length (neighbours k)) × (f.count ≤ 14)
-near_is k f e = (ap (λ (x : Near). x.keys) e, ap (λ (x : Near). x.count) e, rw (ap (λ (x : Near). x.count) e) (at_most_14 k))
-
-module _ (rs : List MarchedRow) (k : ℕ) (d : Float) (ns list : List ℕ) (filled : list ≡ padded 0 14 ns) where
+module _ (rs : List MarchedRow) (k : ℕ) (d : Float) (ns list : List ℕ) (filled : list ≡ ns) where
   pub slopes_more :
       (i : ℕ) (sum sum' : Slopes)
       → i < length ns
@@ -33,7 +22,7 @@ module _ (rs : List MarchedRow) (k : ℕ) (d : Float) (ns list : List ℕ) (fill
   slopes_more i sum sum' l e =
       ap (slopes_from rs k d sum) (drop-cons ns i 0 l)
       ∙ ap (λ (x : ℕ). slopes_from rs k d (slopes_with k d sum x (distance_of x rs)) (drop (suc i) ns))
-      (sym (ap (λ (x : List ℕ). get_or x i 0) filled ∙ padded_at 0 14 ns i))
+      (sym (ap (λ (x : List ℕ). get_or x i 0) filled))
       ∙ ap (λ (s : Slopes). slopes_from rs k d s (drop (suc i) ns)) (sym e)
       ∙ ap (λ (j : ℕ). slopes_from rs k d sum' (drop j ns)) (sym (add-one i))
 

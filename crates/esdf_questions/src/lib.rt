@@ -84,16 +84,14 @@ fn sum_slopes(field: &Distances, key: u64, distance: f32) -> Slopes
     ensures { result ≡ slopes_from (marched_rows_in field.now) key distance no_slopes (neighbours key) }
 {
     let near = neighbors::around(key);
-    let list = near.keys;
-    let n = near.count;
     let mut sum = Slopes {
         x: 0.0,
         y: 0.0,
         z: 0.0,
         count: 0,
     };
-    for i in 0..n {
-        sum = slopes_next(field, key, distance, sum, list[i]);
+    for &neighbour in near.cells() {
+        sum = slopes_next(field, key, distance, sum, neighbour);
     }
     sum
 }

@@ -10,8 +10,6 @@ use lib.Dec.{eqb}
 use lib.ListN.{length, drop, get_or, drop_of_length-le}
 use lib.Seq.{drop-cons}
 use lib.Ieee.{Float}
-use Rattle.lists.specs.Padding.{padded}
-use Rattle.lists.proofs.PaddingLaws.{padded_at}
 use Rattle.search.specs.Keys.{member}
 use Rattle.marching.specs.March.{State, Field, Going, and_then, wait, wait_all}
 use Rattle.marching.specs.Spreading.{Told}
@@ -53,7 +51,7 @@ Rest lean seed f k e ns ks₀ ds₀ w₀ es₀ cs₀ i ks ds w es cs =
     × (Told seed f k (drop i ns) t
     × (MarksFit lean (length (drop i ns)) t ks × (wait_all (length cs₀) e ns s ≡ wait_all (length cs₀) e (drop i ns) t)))))
 
-module _ (lean : Bool) (seed : ℕ → Bool) (f : Field) (k : ℕ) (e : Float) (ns list : List ℕ) (listed : list ≡ padded 0 14 ns) (once : Once ns)
+module _ (lean : Bool) (seed : ℕ → Bool) (f : Field) (k : ℕ) (e : Float) (ns list : List ℕ) (listed : list ≡ ns) (once : Once ns)
     (ks₀ : List ℕ) (ds₀ : List Float) (w₀ : ℕ) (es₀ : List Float) (cs₀ : List ℕ) where
   abbrev Rest_at : ℕ → List ℕ → List Float → ℕ → List Float → List ℕ → Type 0
   Rest_at i ks ds w es cs = Rest lean seed f k e ns ks₀ ds₀ w₀ es₀ cs₀ i ks ds w es cs
@@ -65,7 +63,7 @@ module _ (lean : Bool) (seed : ℕ → Bool) (f : Field) (k : ℕ) (e : Float) (
     module _ (long : length cs ≡ length cs₀) (l : i < length ns) (p : Result ℕ Refusal) (ks' : List ℕ) (ds' es' : List Float)
         (cs' : List ℕ) (does : DoesWait lean seed f k (get_or list i 0 ∷ []) (wait (length cs) e (get_or list i 0)) ks ds w es cs p ks' ds' es' cs') where
       here : drop i ns ≡ get_or list i 0 ∷ drop (suc i) ns
-      here = drop-cons ns i 0 l ∙ ap (λ (n : ℕ). n ∷ drop (suc i) ns) (sym (ap (λ (x : List ℕ). get_or x i 0) listed ∙ padded_at 0 14 ns i))
+      here = drop-cons ns i 0 l ∙ ap (λ (n : ℕ). n ∷ drop (suc i) ns) (sym (ap (λ (x : List ℕ). get_or x i 0) listed))
 
       one : (t : State) → wait_all (length cs₀) e (drop i ns) t ≡ and_then (wait (length cs) e (get_or list i 0) t) (wait_all (length cs₀) e (drop (suc i) ns))
       unfolding wait_all

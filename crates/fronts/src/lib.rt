@@ -137,12 +137,10 @@ fn wait_around(
         keys.new distances.new estimates.new cells.new }
 {
     let near = neighbors::around(key);
-    let list = near.keys;
-    let n = near.count;
     let mut held = waiting;
-    for i in 0..n {
+    for &neighbour in near.cells() {
         held = wait(
-            lean, plan, keys, distances, estimates, cells, held, estimate, key, list[i],
+            lean, plan, keys, distances, estimates, cells, held, estimate, key, neighbour,
         )?;
     }
     Ok(held)

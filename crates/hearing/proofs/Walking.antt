@@ -10,26 +10,15 @@ use lib.Seq.{drop-cons}
 use lib.Ieee.{Float}
 use Rattle.ids.specs.Key.{on_lattice}
 use Rattle.ids.proofs.KeyLaws.{lattice_by_low_bits}
-use Rattle.lists.specs.Padding.{padded}
 use Rattle.lists.proofs.ListLaws.{at_in}
-use Rattle.lists.proofs.PaddingLaws.{padded_at}
 use Rattle.neighbors.specs.Neighbors.{neighbours}
-use Rattle.neighbors.specs.declared.Near.{Near}
-use Rattle.neighbors.proofs.NeighborLaws.{at_most_14}
 use Rattle.neighbors.proofs.Adjacency.{neighbour_on_lattice}
 use Rattle.marching.specs.March.{MarchedRow, Field, distance_of, heard, settling}
 use Rattle.marching.specs.Spreading.{has_spread, other_spread}
 
--- ---- neighbours that were found
-
-pub near_list : (k : ℕ) (f : Near)
-    → f ≡ record { keys = padded 0 14 (neighbours k); count = length (neighbours k) }
-    → (f.keys ≡ padded 0 14 (neighbours k)) × (f.count ≡ length (neighbours k)) × (f.count ≤ 14)
-near_list k f e = (ap (λ (x : Near). x.keys) e, ap (λ (x : Near). x.count) e, rw (ap (λ (x : Near). x.count) e) (at_most_14 k))
-
-module _ (ns list : List ℕ) (listed : list ≡ padded 0 14 ns) where
+module _ (ns list : List ℕ) (listed : list ≡ ns) where
   listed_at : (i : ℕ) → i < length ns → get_or list i 0 ≡ get_or ns i 0
-  listed_at i l = ap (λ (x : List ℕ). get_or x i 0) listed ∙ padded_at 0 14 ns i
+  listed_at i l = ap (λ (x : List ℕ). get_or x i 0) listed
 
   -- ---- settling, from place i of the neighbours on
 
@@ -79,7 +68,7 @@ module _ (ns list : List ℕ) (listed : list ≡ padded 0 14 ns) where
 pub real_key : (k : ℕ) → on_lattice k ≡ true → k ≡ 1 → ⊥
 real_key k on e = true≢false (sym on ∙ ap on_lattice e ∙ lattice_by_low_bits 1)
 
-pub near_lattice : (k : ℕ) → on_lattice k ≡ true → (list : List ℕ) → list ≡ padded 0 14 (neighbours k) → (i : ℕ) → i < length (neighbours k)
+pub near_lattice : (k : ℕ) → on_lattice k ≡ true → (list : List ℕ) → list ≡ neighbours k → (i : ℕ) → i < length (neighbours k)
     → on_lattice (get_or list i 0) ≡ true
 near_lattice k own list listed i l =
     rw (listed_at (neighbours k) list listed i l) (neighbour_on_lattice k (get_or (neighbours k) i 0) own (at_in (neighbours k) 0 i l))
@@ -88,7 +77,7 @@ pub real_near :
     (k : ℕ)
     → on_lattice k ≡ true
     → (list : List ℕ)
-    → list ≡ padded 0 14 (neighbours k)
+    → list ≡ neighbours k
     → (i : ℕ)
     → i < length (neighbours k)
     → get_or list i 0 ≡ 1

@@ -67,11 +67,9 @@ pub fn settled(keys: &[u64], distances: &[f32], course: Course, key: u64) -> f32
         → result ≡ settled (lattice_of course) rs key }
 {
     let near = neighbors::around(key);
-    let list = near.keys;
-    let n = near.count;
     let mut best = 3.40282347e38;
-    for i in 0..n {
-        best = hear(keys, distances, course, best, i, list[i]);
+    for (place, &neighbour) in near.cells().iter().enumerate() {
+        best = hear(keys, distances, course, best, place, neighbour);
     }
     clamped(course, best)
 }
@@ -135,10 +133,8 @@ pub fn other_spread(plan: &Plan, keys: &[u64], distances: &[f32], from: u64, key
         (field_of plan.now) from rs (neighbours key) }
 {
     let near = neighbors::around(key);
-    let list = near.keys;
-    let n = near.count;
-    for i in 0..n {
-        if spread_at(plan, keys, distances, from, list[i]) {
+    for &neighbour in near.cells() {
+        if spread_at(plan, keys, distances, from, neighbour) {
             return true;
         }
     }

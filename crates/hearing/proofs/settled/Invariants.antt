@@ -1,10 +1,9 @@
 -- `hearing::settled` meets its contract: what is left to hear says what the whole does.
 -- Assumes nothing.
-use Prim.Native.Nat.{ℕ, ◌≤◌}
+use Prim.Native.Nat.{ℕ}
 use mathlib.Core.Path.{◌≡◌}
 use mathlib.Core.List.{List}
-use lib.ListN.{length, drop}
-use Rattle.lists.specs.Padding.{padded}
+use lib.ListN.{drop}
 use Rattle.neighbors.specs.Neighbors.{neighbours}
 use Rattle.floats.specs.Floats.{largest}
 use Rattle.marching.specs.March.{MarchedRow, settling}
@@ -12,12 +11,8 @@ use Rattle.marching.specs.Lattice.{lattice_of}
 use Rattle.hearing.specs.Hearing.{Marked}
 use Rattle.hearing.proofs.settled.Given as goal
 
-abbrev pub invariant-loop-i : goal.invariant-loop-i
-invariant-loop-i l = (l.list ≡ padded 0 14 (neighbours l.key))
-    × (l.n ≡ length (neighbours l.key))
-    × (l.n ≤ 14)
-    × (l.i ≤ l.n)
-    × ((rs : List MarchedRow) (ws : List ℕ)
+abbrev pub invariant-loop-place : goal.invariant-loop-place
+invariant-loop-place l = ((rs : List MarchedRow) (ws : List ℕ)
     → Marked rs ws l.keys l.distances
     → settling (lattice_of l.course) rs l.key 0 largest (neighbours l.key)
-    ≡ settling (lattice_of l.course) rs l.key l.i l.best (drop l.i (neighbours l.key)))
+    ≡ settling (lattice_of l.course) rs l.key l.place l.best (drop l.place (neighbours l.key)))
