@@ -5,21 +5,20 @@ use native.Mathlib.Numerals.{add-one}
 use native.Mathlib.Omega.{arith}
 use mathlib.Core.Path.{◌≡◌, sym, ap, ◌∙◌}
 use mathlib.Core.List.{List, [], ◌∷◌, ◌++◌, map, map-append}
+use Rattle.std.proofs.lemmas.List.{take_all}
 use lib.ListN.{length, get_or, take, set, length-map}
-use lib.Seq.{take-suc, get_or-take, length-take-le}
+use lib.Seq.{take-suc, length-take-le}
 use Rattle.lists.specs.Padding.{padded}
 use Rattle.lists.proofs.ListLaws.{at_in}
-use Rattle.lists.proofs.PaddingLaws.{padded_length, padded_more}
+use Rattle.lists.proofs.PaddingLaws.{padded_more}
 use Rattle.handful.specs.declared.Handful.{Handful}
 use Rattle.handful.specs.Handfuls.{held, numbers_of}
 use Rattle.handful.proofs.PlacingLaws.{held_numbers}
 use Rattle.higher.specs.Steps.{AllBelow}
 
 -- a place that is read is below what all are below
-pub one_below : {m : ℕ} (n : ℕ) (places : List ℕ) (i : ℕ) → i < n → n ≤ length places → AllBelow m (take n places) → get_or places i 0 < m
-one_below n places i h fits b =
-    let long : i < length (take n places) = rw (length-take-le n places fits) h in
-    rw (← get_or-take n places i 0 h) (b _ (at_in (take n places) 0 i long))
+pub one_below : {m : ℕ} (places : List ℕ) (i : ℕ) → i < length places → AllBelow m places → get_or places i 0 < m
+one_below places i h b = b _ (at_in places 0 i h)
 
 module _ {A : Type 0} (f : ℕ → A) (v : A) (places : List ℕ) where
   pub column_turn :
@@ -39,14 +38,10 @@ module _ {A : Type 0} (f : ℕ → A) (v : A) (places : List ℕ) where
       ∙ padded_more v 14 done x (omega arith)
       ∙ ap (padded v 14) (sym more)
 
+  pub column_whole :
+      (i : ℕ) (out : List A) → length places ≤ i → out ≡ padded v 14 (map f (take i places)) → out ≡ padded v 14 (map f places)
+  column_whole i out h e = e ∙ rw (take_all i places h)
+
 -- a handful that is known to hold these numbers
-module _ (h : Handful) (numbers : List ℕ) (e : h ≡ held numbers) where
-  pub same_numbers : numbers_of h ≡ numbers
-  same_numbers = ap numbers_of e ∙ held_numbers numbers
-
-  module _ (few : length numbers ≤ 14) where
-    pub few_numbers : h.count ≤ 14
-    few_numbers = rw e few
-
-    pub whole_room : length h.numbers ≡ 14
-    whole_room = rw e (padded_length 0 14 numbers few)
+pub same_numbers : {h : Handful} {shown : List ℕ} (numbers : List ℕ) → shown ≡ numbers_of h → h ≡ held numbers → shown ≡ numbers
+same_numbers numbers n e = n ∙ ap numbers_of e ∙ held_numbers numbers

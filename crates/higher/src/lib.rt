@@ -1,7 +1,7 @@
 // The neighbours of a row with larger keys and weight above 0, ascending, and which of them are inside (document 02, No. 14).
 #![tactic(auto)]
 
-ghost use Rattle.std.specs.Prelude.{◌≡◌, ◌≤◌, ◌<◌, false, map, length, take};
+ghost use Rattle.std.specs.Prelude.{◌≡◌, ◌≤◌, ◌<◌, false, map, length};
 ghost use Rattle.lists.specs.Padding.{padded};
 ghost use Rattle.handful.specs.Handfuls.{held, numbers_of, Roomy};
 ghost use Rattle.groups.specs.Near.{with_number, gathered};
@@ -44,25 +44,13 @@ fn with_higher(
     }
 }
 
-// The places of those of the first `n` cells, from the last one down.
-fn gather(
-    keys: &[u64],
-    weights: &[f32],
-    count: usize,
-    row: usize,
-    cells: [u64; 14],
-    n: usize,
-) -> Handful
-    requires { AtRow keys.now weights.now count row × (n ≤ 14) × (n ≤ length cells) }
-    ensures { result ≡ held (gathered (found_above keys.now weights.now count row) (take n cells)) }
+// The places of those of some cells, from the last one down.
+fn gather(keys: &[u64], weights: &[f32], count: usize, row: usize, cells: &[u64]) -> Handful
+    requires { AtRow keys.now weights.now count row × (length cells.now ≤ 14) }
+    ensures { result ≡ held (gathered (found_above keys.now weights.now count row) cells.now) }
 {
-    let mut places = Handful {
-        numbers: [0u32; 14],
-        count: 0,
-    };
-    let mut i = n;
-    while 0 < i {
-        i -= 1;
+    let mut places = handful::EMPTY;
+    for i in (0..cells.len()).rev() {
         places = with_higher(keys, weights, count, row, places, cells[i]);
     }
     places
@@ -73,38 +61,32 @@ fn places_of(keys: &[u64], distances: usize, weights: &[f32], count: usize, row:
     ensures { result ≡ held (places_in keys.now distances weights.now count row) }
 {
     if !(table::lengths_ok(keys.len(), distances, weights.len(), count) & (row < count)) {
-        return Handful {
-            numbers: [0u32; 14],
-            count: 0,
-        };
+        return handful::EMPTY;
     }
     let near = neighbors::around(keys[row]);
-    let cells = near.keys;
-    gather(keys, weights, count, row, cells, near.count)
+    gather(keys, weights, count, row, near.cells())
 }
 
-// The keys at the first `n` places.
-fn keys_at(keys: &[u64], places: [u32; 14], n: usize) -> [u64; 14]
-    requires { (n ≤ 14) × (length places ≡ 14) × AllBelow (length keys.now) (take n places) }
-    ensures { result ≡ padded 0 14 (map (key_at keys.now) (take n places)) }
+// The keys at some places.
+fn keys_at(keys: &[u64], places: &[u32]) -> [u64; 14]
+    requires { (length places.now ≤ 14) × AllBelow (length keys.now) places.now }
+    ensures { result ≡ padded 0 14 (map (key_at keys.now) places.now) }
 {
-    let mut out = [0u64; 14];
-    for i in 0..n {
-        let place = places[i] as usize;
-        out[i] = keys[place];
+    let mut out = [0; 14];
+    for (i, &place) in places.iter().enumerate() {
+        out[i] = keys[place as usize];
     }
     out
 }
 
-// Which of the rows at the first `n` places are inside.
-fn inside_at(distances: &[f32], places: [u32; 14], n: usize) -> [bool; 14]
-    requires { (n ≤ 14) × (length places ≡ 14) × AllBelow (length distances.now) (take n places) }
-    ensures { result ≡ padded false 14 (map (is_inside_at distances.now) (take n places)) }
+// Which of the rows at some places are inside.
+fn inside_at(distances: &[f32], places: &[u32]) -> [bool; 14]
+    requires { (length places.now ≤ 14) × AllBelow (length distances.now) places.now }
+    ensures { result ≡ padded false 14 (map (is_inside_at distances.now) places.now) }
 {
     let mut out = [false; 14];
-    for i in 0..n {
-        let place = places[i] as usize;
-        out[i] = distances[place] < 0.0;
+    for (i, &place) in places.iter().enumerate() {
+        out[i] = distances[place as usize] < 0.0;
     }
     out
 }
@@ -120,11 +102,9 @@ pub fn higher_of(rows: &Rows, row: usize) -> Higher
         count,
     } = *rows;
     let places = places_of(keys, distances.len(), weights, count, row);
-    let numbers = places.numbers;
-    let n = places.count;
     Higher {
-        keys: keys_at(keys, numbers, n),
-        inside: inside_at(distances, numbers, n),
-        count: n,
+        keys: keys_at(keys, places.as_slice()),
+        inside: inside_at(distances, places.as_slice()),
+        count: places.count,
     }
 }

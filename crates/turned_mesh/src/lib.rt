@@ -29,11 +29,8 @@ fn turn_meshed(
     ensures t2_after { t2.new ≡ turned_for meshed
         (column2 (turned_triangles (rows_in rows.now))) t2.old }
 {
-    match meshed {
-        Ok((edges, triangles)) => turning::turn_triangles(
-            rows, first, second, edges, triangles, t0, t1, t2,
-        ),
-        Err(_) => {}
+    if let Ok((edges, triangles)) = meshed {
+        turning::turn_triangles(rows, first, second, edges, triangles, t0, t1, t2);
     }
 }
 

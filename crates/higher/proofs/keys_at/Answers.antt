@@ -1,35 +1,23 @@
 -- `higher::keys_at` meets its contract: what was written is the column at the places passed.
 -- Assumes nothing.
-use Prim.Native.Nat.{◌<◌}
 use native.Mathlib.Omega.{arith}
-use mathlib.Core.Path.{◌≡◌, refl}
-use lib.ListN.{length}
+use mathlib.Core.Path.{refl}
 use Rattle.lists.specs.Padding.{padded}
 use Rattle.higher.specs.Places.{key_at}
-use Rattle.higher.proofs.ColumnLaws.{column_turn, one_below}
+use Rattle.higher.proofs.ColumnLaws.{column_turn, column_whole, one_below}
 use Rattle.higher.proofs.keys_at.Goals as goal
 
 pub loop-i-init : goal.loop-i-init
 unfolding padded
-loop-i-init c = (omega arith, refl)
-
-pub overflow_cast-place : goal.overflow_cast-place
-overflow_cast-place c = let h = one_below c.args.n c.args.places c.loop-i.i c.loop-i-test.true (omega (arith, c.requires)) c.requires.2 in omega arith
-
-pub offset_bounds-keys-place : goal.offset_bounds-keys-place
-offset_bounds-keys-place c = let h = one_below c.args.n c.args.places c.loop-i.i c.loop-i-test.true (omega (arith, c.requires)) c.requires.2 in omega arith
+loop-i-init c = refl
 
 pub bounds-keys-place : goal.bounds-keys-place
-bounds-keys-place c = one_below c.args.n c.args.places c.loop-i.i c.loop-i-test.true (omega (arith, c.requires)) c.requires.2
+bounds-keys-place c = one_below c.args.places.now c.loop-i.i c.loop-i-test.true c.requires.1
 
 pub loop-i-preserved : goal.loop-i-preserved
 loop-i-preserved c =
-    let t = c.loop-i-test.true in
-    let few : c.loop-i.i < 14 = omega (arith, c.requires) in
-    let more : c.loop-i.i < length c.args.places = omega (arith, c.requires) in
-    (omega arith, column_turn (key_at c.args.keys.now) 0 c.args.places c.loop-i.i _ few more c.loop-i.invariant.1)
+    column_turn (key_at c.args.keys.now) 0 c.args.places.now c.loop-i.i _ (omega (arith, c.requires.0, c.loop-i-test.true)) c.loop-i-test.true
+    c.loop-i.invariant
 
 pub returns : goal.returns
-returns c =
-    let same : c.loop-i.i ≡ c.args.n = omega (arith, c.loop-i.invariant.0, c.loop-i-test.false) in
-    rw same at c.loop-i.invariant.1
+returns c = column_whole (key_at c.args.keys.now) 0 c.args.places.now _ _ c.loop-i-test.false c.loop-i.invariant

@@ -1,6 +1,5 @@
 -- `higher::keys_at` meets its contract: what was written is the column at the places passed.
 -- Assumes nothing.
-use Prim.Native.Nat.{◌≤◌, ◌-◌}
 use mathlib.Core.Path.{◌≡◌}
 use mathlib.Core.List.{map}
 use lib.ListN.{take}
@@ -9,7 +8,4 @@ use Rattle.higher.specs.Places.{key_at}
 use Rattle.higher.proofs.keys_at.Given as goal
 
 abbrev pub invariant-loop-i : goal.invariant-loop-i
-invariant-loop-i l = (l.i ≤ l.n) × (l.out ≡ padded 0 14 (map (key_at l.keys) (take l.i l.places)))
-
-abbrev pub decreases-loop-i : goal.decreases-loop-i
-decreases-loop-i l = l.n - l.i
+invariant-loop-i l = l.out ≡ padded 0 14 (map (key_at l.keys) (take l.i l.places))

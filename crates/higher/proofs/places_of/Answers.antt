@@ -3,19 +3,18 @@
 use Rattle.std.proofs.Common.{not}
 use Prim.Native.Nat.{ℕ}
 use native.Mathlib.Omega.{arith}
-use mathlib.Core.Path.{◌≡◌, ap, ◌∙◌}
+use mathlib.Core.Path.{◌≡◌, ap}
 use mathlib.Core.Bool.{Bool, true, ◌&&◌}
 use mathlib.Core.List.{List}
 use lib.Dec.{ltb}
 use lib.Ieee.{Float}
-use lib.ListN.{length}
+use lib.ListN.{length, get_or}
 use Rattle.lists.specs.Padding.{padded}
 use Rattle.lists.proofs.Bools.{yes, no}
 use Rattle.table.specs.Table.{lengths_ok}
-use Rattle.rings.proofs.NearLaws.{count_few, count_fits, front}
-use Rattle.handful.specs.Handfuls.{held}
-use Rattle.groups.specs.Near.{gathered}
-use Rattle.higher.specs.Places.{found_above, places_in}
+use Rattle.neighbors.specs.Neighbors.{neighbours}
+use Rattle.neighbors.proofs.NeighborLaws.{at_most_14, cells_known}
+use Rattle.higher.specs.Places.{places_in}
 use Rattle.higher.specs.Steps.{AtRow}
 use Rattle.higher.proofs.PlaceLaws.{fit, within}
 use Rattle.higher.proofs.places_of.Goals as goal
@@ -47,13 +46,15 @@ bounds-keys-row c = let h = stands _ c.args.distances _ _ _ c.lengths_ok.ensures
 
 pub gather-requires : goal.gather-requires
 gather-requires c =
-    let e = c.around-near.ensures in
-    (stands _ c.args.distances _ _ _ c.lengths_ok.ensures c.if-not-lengths_ok-row.false, count_few _ _ e, count_fits _ _ e)
+    let key = get_or c.args.keys.now c.args.row 0 in
+    let cells : c.cells.result.now ≡ neighbours key = cells_known key c.around-near.ensures c.cells.ensures in
+    (stands _ c.args.distances _ _ _ c.lengths_ok.ensures c.if-not-lengths_ok-row.false, rw cells (at_most_14 key))
 
 pub returns : goal.returns
 unfolding places_in
 returns c =
     let a = c.args in
+    let key = get_or a.keys.now a.row 0 in
+    let cells : c.cells.result.now ≡ neighbours key = cells_known key c.around-near.ensures c.cells.ensures in
     rw (yes (tested a.keys.now a.distances a.weights.now a.count a.row c.lengths_ok.ensures) (ap not c.if-not-lengths_ok-row.false))
-    (c.gather.ensures
-    ∙ ap (λ (l : List ℕ). held (gathered (found_above a.keys.now a.weights.now a.count a.row) l)) (front _ _ c.around-near.ensures))
+    (rw cells at c.gather.ensures)
