@@ -32,16 +32,13 @@ pub struct ClosedListed {
 
 // A triangle at a place of three lists; nothing where they have no such place.
 fn put_triangle(t: Triangle, at: usize, t0: &mut [u32], t1: &mut [u32], t2: &mut [u32])
-    requires { Even t0.old t1.old t2.old }
     ensures t0_after { t0.new ≡ set t0.old at t.a }
     ensures t1_after { t1.new ≡ set t1.old at t.b }
     ensures t2_after { t2.new ≡ set t2.old at t.c }
 {
-    if at < t0.len() {
-        t0[at] = t.a;
-        t1[at] = t.b;
-        t2[at] = t.c;
-    }
+    lists::put(t0, at, t.a);
+    lists::put(t1, at, t.b);
+    lists::put(t2, at, t.c);
 }
 
 // The triangles of a patch, from a place on.
@@ -129,7 +126,8 @@ fn patch_at(
     cuts::patch_of(corners, sides, first, second, edges, near)
 }
 
-// The triangles of a cell and two others that are adjacent, with each of those that follow.
+// The triangles of a cell and two others that are adjacent, with each of those that follow. Here and in the two loops around it a place names a cell, its
+// side and what it meets, which are three lists.
 fn cut_third(
     own: u64,
     side: bool,
@@ -234,15 +232,12 @@ fn cut_first(
 }
 
 // Whether an edge starts at a key, by the key's place.
+#[tactic(auto, unfolding(crate::specs::Steps::starts_at))]
 fn starts(first: &[u64], edges: usize, place: usize, key: u64) -> bool
     requires { edges ≤ length first.now }
     ensures { result ≡ starts_at first.now edges place key }
 {
-    if place < edges {
-        first[place] == key
-    } else {
-        false
-    }
+    place < edges && first[place] == key
 }
 
 // The triangles of the tetrahedra whose smallest key is a row's.
@@ -390,10 +385,7 @@ fn cut_checked(
     ensures { IsCut edges (rows_in rows.now)
         t0.old t1.old t2.old result t0.new t1.new t2.new }
 {
-    match edges {
-        Ok(n) => cut_listed(rows, first, second, n, t0, t1, t2),
-        Err(why) => Err(why),
-    }
+    cut_listed(rows, first, second, edges?, t0, t1, t2)
 }
 
 // The closed mesh's edges in two lists and its triangles in three, by the verdict of the tests: what they refuse stays refused, then 6 exactly
