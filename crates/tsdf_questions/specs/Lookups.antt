@@ -4,7 +4,7 @@ use Rattle.std.specs.Float.{nan}
 use Rattle.std.specs.Float.Ieee.{lt}
 use Rattle.floats.specs.Floats.{size_of, is_finite}
 use Rattle.ids.specs.Key.{on_lattice}
-use Rattle.refusals.specs.Refusals.{number_of, absent_number}
+use Rattle.refusals.specs.Refusals.{answer_number, found_number}
 use Rattle.refusals.specs.declared.Refusal.TheVariants.{OffLattice, BadReading}
 use Rattle.table.specs.declared.Settings.{Settings}
 use Rattle.search.specs.Keys.{find}
@@ -64,15 +64,10 @@ surface_of threshold (Err why) = Err why
 
 -- the number of an answer: 0 where there is one, Absent's, or document 01's of the refusal
 abbrev pub distance_number : Result (Option Metres) Refusal → ℕ
-distance_number (Ok (Some d)) = 0
-distance_number (Ok None) = absent_number
-distance_number (Err why) = number_of why
+distance_number answer = found_number answer
 
 abbrev pub weight_number : Result (Option Float) Refusal → ℕ
-weight_number (Ok (Some w)) = 0
-weight_number (Ok None) = absent_number
-weight_number (Err why) = number_of why
+weight_number answer = found_number answer
 
 abbrev pub surface_number : Result Bool Refusal → ℕ
-surface_number (Ok near) = 0
-surface_number (Err why) = number_of why
+surface_number answer = answer_number answer

@@ -4,7 +4,7 @@ use Rattle.std.specs.Float.{binary32}
 use Rattle.std.specs.Float.Ieee.{add, div, lt, of_int}
 use Rattle.ends.specs.Ends.{no_ends, widened, lowest, highest}
 use Rattle.floats.specs.Floats.{zero32, size_of}
-use Rattle.refusals.specs.Refusals.{number_of}
+use Rattle.refusals.specs.Refusals.{answer_number}
 use Rattle.table.specs.declared.Settings.{Settings}
 use Rattle.table.specs.Table.{Row, Table, rows, table_check}
 use Rattle.tsdf_surveys.specs.declared.Tally.{Tally}
@@ -58,5 +58,4 @@ statistics_of s t = statistics_if (table_check s t) (stats_of t.count (tallied_a
 
 -- document 01's number of an answer, 0 where it is no refusal
 abbrev pub statistics_number : Result TsdfStats Refusal → ℕ
-statistics_number (Ok s) = 0
-statistics_number (Err why) = number_of why
+statistics_number answer = answer_number answer
