@@ -112,6 +112,7 @@ fn batch_sound(
 {
     let mut far = 0;
     let mut i = 0;
+    // No `for`: a part takes as many readings as it does.
     while i < readings.keys.len() {
         let run = batch_step(settings, keys, distances, weights, count, readings, i);
         far += run.far;

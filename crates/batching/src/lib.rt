@@ -6,7 +6,7 @@ ghost use Rattle.batching.specs.Batches.{readings_taken, batched_of, refused_at_
 
 use refusals::Refusal;
 
-// The readings of a batch: three lent lists side by side.
+// The readings of a batch: three lists side by side, as C lends them.
 #[derive(Clone, Copy)]
 pub struct Readings<'a> {
     pub keys: &'a [u64],

@@ -328,6 +328,7 @@ pub fn batch_run(
         result (table keys.new distances.new weights.new count.new) }
 {
     let to = end_of(readings.keys.len(), from);
+    // Lists of a fixed length, not `Vec`: no call takes memory.
     let mut own_keys = [0u64; 4096];
     let mut own_distances = [0.0f32; 4096];
     let mut own_weights = [0.0f32; 4096];
