@@ -18,7 +18,7 @@ use Rattle.ids.specs.Key.{on_lattice}
 use Rattle.lists.proofs.Bools.{and_first, and_second, cases}
 use Rattle.table.specs.declared.Settings.{Settings}
 use Rattle.search.specs.Keys.{rises_from, ascending}
-use Rattle.table.specs.Table.{Row, Table, beside, rows_of, rows, put, laid, relaid, row_ok, rows_ok, lengths_ok, need, check_with, table_check}
+use Rattle.table.specs.Table.{Row, Table, rows_of, rows, put, laid, relaid, row_ok, rows_ok, lengths_ok, need, check_with, table_check}
 use Rattle.table.proofs.RowLaws.{lengths_known}
 use Rattle.table.specs.Rows.{keys_of}
 use Rattle.table.proofs.Laying.{distances_of, weights_of}

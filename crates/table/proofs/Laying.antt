@@ -15,7 +15,7 @@ use lib.Ieee.{Float}
 use Rattle.lists.specs.Beside.{beside_by}
 use Rattle.lists.specs.Places.{opened}
 use Rattle.search.specs.Keys.{find, place_of, ascending}
-use Rattle.table.specs.Table.{Row, beside, rows_of, put, laid}
+use Rattle.table.specs.Table.{Row, rows_of, put, laid}
 use Rattle.table.specs.Rows.{keys_of}
 use Rattle.lists.proofs.Bools.{cases}
 use Rattle.search.proofs.KeyLaws.{first_below, tail_ascends, absent_differs}

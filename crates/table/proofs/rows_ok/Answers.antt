@@ -1,8 +1,6 @@
 -- `table::rows_ok` meets its contract: the rows that are left pass exactly when all do.
 use Rattle.std.proofs.Common.{ap, not}
-use Prim.Native.Nat.{◌-◌}
 use mathlib.Core.Path.{refl, sym, ◌∙◌}
-use native.Mathlib.Omega.{arith}
 use native.Mathlib.Numerals.{add-one}
 use borrow.Author.Rules.{rules}
 use Rattle.lists.proofs.Bools.{yes, no}
@@ -11,15 +9,6 @@ use Rattle.table.proofs.rows_ok.Goals as goal
 
 pub loop-i-init : goal.loop-i-init
 loop-i-init c = (search rules, refl)
-
-pub offset_bounds-keys-i : goal.offset_bounds-keys-i
-offset_bounds-keys-i c = omega arith
-
-pub offset_bounds-distances-i : goal.offset_bounds-distances-i
-offset_bounds-distances-i c = omega arith
-
-pub offset_bounds-weights-i : goal.offset_bounds-weights-i
-offset_bounds-weights-i c = omega arith
 
 pub returns-then-not-row_ok : goal.returns-then-not-row_ok
 returns-then-not-row_ok c =

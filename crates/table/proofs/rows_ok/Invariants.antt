@@ -1,8 +1,7 @@
 -- `table::rows_ok` meets its contract: the rows that are left pass exactly when all do.
 -- Assumes nothing.
-use Prim.Native.Nat.{◌≤◌, ◌-◌}
+use Prim.Native.Nat.{◌≤◌}
 use mathlib.Core.Path.{◌≡◌}
-use native.Mathlib.Omega.{arith}
 use lib.ListN.{drop}
 use Rattle.table.specs.Table.{rows_of, rows_ok}
 use Rattle.table.proofs.rows_ok.Given as goal
