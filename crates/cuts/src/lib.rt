@@ -1,7 +1,7 @@
 // A tetrahedron cut (document 02, No. 14): by its four ascending keys and their sides into no triangle, one or two, by the numbers of their vertices.
 #![tactic(auto)]
 
-ghost use Rattle.std.specs.Prelude.{◌≡◌, true, false};
+ghost use Rattle.std.specs.Prelude.{◌≡◌};
 ghost use Rattle.tetrahedra.specs.ClosedTriangles.{rising};
 ghost use Rattle.cuts.specs.declared.Cut.TheVariants.{Two};
 ghost use Rattle.cuts.specs.Cuts.{cut_of};
@@ -44,7 +44,7 @@ pub struct Triangle {
     pub c: u32,
 }
 
-// The surface within a tetrahedron.
+// The surface within a tetrahedron: one of three things, which an Option of a pair with an Option in it would say no plainer, and a slice without its bound.
 #[derive(Clone, Copy)]
 pub enum Patch {
     Empty,
@@ -52,74 +52,28 @@ pub enum Patch {
     Double(Triangle, Triangle),
 }
 
-// The cut where the first corner is inside.
-fn cut_inside(k: Corners, s: Sides) -> Cut
-    requires { s.a ≡ true }
-    ensures { result ≡ cut_of s.a s.b s.c s.d k.a k.b k.c k.d }
-{
-    if s.b {
-        if s.c {
-            if s.d {
-                Cut::Nothing
-            } else {
-                Cut::One(k.d, k.a, k.b, k.c)
-            }
-        } else if s.d {
-            Cut::One(k.c, k.a, k.b, k.d)
-        } else {
-            Cut::Two(k.a, k.b, k.c, k.d)
-        }
-    } else if s.c {
-        if s.d {
-            Cut::One(k.b, k.a, k.c, k.d)
-        } else {
-            Cut::Two(k.a, k.c, k.b, k.d)
-        }
-    } else if s.d {
-        Cut::Two(k.a, k.d, k.b, k.c)
-    } else {
-        Cut::One(k.a, k.b, k.c, k.d)
-    }
-}
-
-// The cut where the first corner is outside.
-fn cut_outside(k: Corners, s: Sides) -> Cut
-    requires { s.a ≡ false }
-    ensures { result ≡ cut_of s.a s.b s.c s.d k.a k.b k.c k.d }
-{
-    if s.b {
-        if s.c {
-            if s.d {
-                Cut::One(k.a, k.b, k.c, k.d)
-            } else {
-                Cut::Two(k.b, k.c, k.a, k.d)
-            }
-        } else if s.d {
-            Cut::Two(k.b, k.d, k.a, k.c)
-        } else {
-            Cut::One(k.b, k.a, k.c, k.d)
-        }
-    } else if s.c {
-        if s.d {
-            Cut::Two(k.c, k.d, k.a, k.b)
-        } else {
-            Cut::One(k.c, k.a, k.b, k.d)
-        }
-    } else if s.d {
-        Cut::One(k.d, k.a, k.b, k.c)
-    } else {
-        Cut::Nothing
-    }
-}
-
 // How the tetrahedron of four corners is cut.
 fn cut_four(k: Corners, s: Sides) -> Cut
     ensures { result ≡ cut_of s.a s.b s.c s.d k.a k.b k.c k.d }
 {
-    if s.a {
-        cut_inside(k, s)
-    } else {
-        cut_outside(k, s)
+    let Corners { a, b, c, d } = k;
+    match (s.a, s.b, s.c, s.d) {
+        (true, true, true, true) => Cut::Nothing,
+        (true, true, true, false) => Cut::One(d, a, b, c),
+        (true, true, false, true) => Cut::One(c, a, b, d),
+        (true, true, false, false) => Cut::Two(a, b, c, d),
+        (true, false, true, true) => Cut::One(b, a, c, d),
+        (true, false, true, false) => Cut::Two(a, c, b, d),
+        (true, false, false, true) => Cut::Two(a, d, b, c),
+        (true, false, false, false) => Cut::One(a, b, c, d),
+        (false, true, true, true) => Cut::One(a, b, c, d),
+        (false, true, true, false) => Cut::Two(b, c, a, d),
+        (false, true, false, true) => Cut::Two(b, d, a, c),
+        (false, true, false, false) => Cut::One(b, a, c, d),
+        (false, false, true, true) => Cut::Two(c, d, a, b),
+        (false, false, true, false) => Cut::One(c, a, b, d),
+        (false, false, false, true) => Cut::One(d, a, b, c),
+        (false, false, false, false) => Cut::Nothing,
     }
 }
 

@@ -1,4 +1,3 @@
 pub mod WeightLaws
 pub mod LoopLaws
-pub mod NearLaws
 pub mod Determined
