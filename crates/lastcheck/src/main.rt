@@ -9,8 +9,9 @@ use table::Settings;
 // The descriptor of the standard output.
 const STDOUT_FILENO: i32 = 1;
 
-// Where a run stands: the bytes that are kept of the present line, its number, the settings, where P came, whether the run goes on, the table, and the
-// bytes that are to be printed. The program has fixed memory and no heap, so its lists are arrays with a length beside.
+// Where a run stands: the bytes that are kept of the present line, its number, the settings, where P came, whether the run
+// goes on, the table, and the bytes that are to be printed. The program has fixed memory and no heap, so its lists are
+// arrays with a length beside.
 #[derive(Drop)]
 struct Run {
     line: [u8; 38],

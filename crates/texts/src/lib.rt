@@ -10,8 +10,8 @@ ghost use Rattle.texts.specs.Steps.{Wrote};
 
 use refusals::Refusal;
 
-// A byte at a place, and the place after it. A `write!` promises its text on Ok alone, and these lines are promised on every call, so they are put by
-// functions of their own.
+// A byte at a place, and the place after it. A `write!` promises its text on Ok alone, and these lines are promised on
+// every call, so they are put by functions of their own.
 fn put(out: &mut [u8], at: usize, byte: u8) -> usize
     requires { at + 1 < 2 ^ 64 }
     ensures { Wrote out.old at (byte ∷ []) out.new result }
@@ -59,6 +59,7 @@ fn put_word(out: &mut [u8], at: usize, word: u32) -> usize
 }
 
 // A number in decimal, its digits put at the end of twenty places first, and the place after it.
+// The loop stays a while: it counts the number down, and ends by its value.
 fn put_decimal(out: &mut [u8], at: usize, number: u64) -> usize
     requires { at ≤ 1000 }
     ensures wrote { Wrote out.old at (decimal number) out.new result }
