@@ -117,7 +117,7 @@ fn measure(size: Metres, key: u64, reading: Reading) -> Measured
 }
 
 // Refusals 4 and 5, and Far.
-#[tactic(auto, using(table::proofs::SettingsLaws::settings_known), unfolding(crate::specs::Readings::admitted, crate::specs::Readings::admit_if))]
+#[tactic(auto, unfolding(crate::specs::Readings::admitted, crate::specs::Readings::admit_if))]
 pub fn admit(settings: Settings, key: u64, reading: Reading) -> Result<Option<Measured>, Refusal>
     requires { settings_ok settings ≡ true }
     ensures { result ≡ admitted settings key reading }

@@ -148,7 +148,8 @@ pub fn check_threshold(
     rows: &Rows,
     threshold: f32,
 ) -> Result<(), Refusal>
-    ensures { result ≡ then_test (check_with fits settings (table_of rows.now)) (need (is_finite threshold) BadReading (Ok tt)) }
+    ensures { result ≡ then_test (check_with fits settings (table_of rows.now))
+        (need (is_finite threshold) BadReading (Ok tt)) }
 {
     check_with(fits, settings, rows)?;
     if is_finite(threshold) {

@@ -36,7 +36,7 @@ fn row_of(rows: &Rows, key: u64) -> Result<Option<Voxel>, Refusal>
 }
 
 // The row of a cell, after refusals 1 to 4.
-#[tactic(auto, using(crate::proofs::Answers::accepted), unfolding(crate::specs::Lookups::looked_up, crate::specs::Lookups::looked_if))]
+#[tactic(auto, unfolding(crate::specs::Lookups::looked_up, crate::specs::Lookups::looked_if))]
 fn look_up(settings: Settings, rows: &Rows, key: u64) -> Result<Option<Voxel>, Refusal>
     ensures { result ≡ looked_up settings (table_of rows.now) key }
 {

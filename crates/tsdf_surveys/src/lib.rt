@@ -152,7 +152,6 @@ fn mean(sum: f32, count: usize) -> f32
 }
 
 // The statistics of a table.
-#[tactic(auto, unfolding(crate::specs::Statistics::statistics_of, crate::specs::Statistics::statistics_if, crate::specs::Statistics::stats_of), using(tsdf_questions::proofs::Answers::accepted))]
 pub fn stats(settings: Settings, rows: &Rows) -> Result<TsdfStats, Refusal>
     ensures { result ≡ statistics_of settings (table_of rows.now) }
 {
