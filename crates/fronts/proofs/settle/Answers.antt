@@ -2,25 +2,9 @@
 -- Assumes nothing.
 use Rattle.hearing.specs.Hearing.{seeds_of}
 use Rattle.std.proofs.lemmas.Result.{err_from_is_err_and}
-use mathlib.Core.Path.{sym, ◌∙◌}
 use Rattle.fronts.specs.Fronts.{marking_also}
 use Rattle.fronts.proofs.Stepping.{settle_no_row, settle_no_cell, settle_done}
 use Rattle.fronts.proofs.settle.Goals as goal
-
-pub settled-distance-requires : goal.settled-distance-requires
-settled-distance-requires c = (c.requires.lent.1.0, c.requires.key_value.0)
-
-pub store-requires : goal.store-requires
-store-requires c = (c.requires.lent.1.0, c.requires.key_value.0)
-
-pub spread-requires : goal.spread-requires
-spread-requires c =
-    let k = c.store.auto in
-    let p = c.requires in
-    record {
-      lent = (p.lent.0, (k.distances ∙ p.lent.1.0 ∙ sym k.keys, p.lent.1.1));
-      key_value = p.key_value.0;
-    }
 
 pub returns-in_err-rows : goal.returns-in_err-rows
 returns-in_err-rows c =

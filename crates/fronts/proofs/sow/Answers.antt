@@ -2,22 +2,12 @@
 -- Assumes nothing.
 use Rattle.hearing.specs.Hearing.{seeds_of}
 use Rattle.std.proofs.lemmas.Result.{err_from_is_err_and}
-use mathlib.Core.Path.{sym, ◌∙◌}
 use Rattle.marching.proofs.Numbers.{seed_number}
 use Rattle.fronts.proofs.Stepping.{sow_no_row, sow_no_cell, sow_done}
 use Rattle.fronts.proofs.sow.Goals as goal
 
-pub store-requires : goal.store-requires
-store-requires c = (c.requires.lent.1.0, c.requires.key_value.0)
-
-pub wait_around-requires : goal.wait_around-requires
-wait_around-requires c =
-    let k = c.store.auto in
-    let p = c.requires in
-    record {
-      lent = (p.lent.0, (k.distances ∙ p.lent.1.0 ∙ sym k.keys, p.lent.1.1));
-      key_value = (p.key_value.0, rw c.size-estimate.ensures (seed_number c.args.distance p.key_value.1));
-    }
+pub wait_around-requires-clause-key_value : goal.wait_around-requires-clause-key_value
+wait_around-requires-clause-key_value c = (c.requires.key_value.0, rw c.size-estimate.ensures (seed_number c.args.distance c.requires.key_value.1))
 
 pub returns-in_err-rows : goal.returns-in_err-rows
 returns-in_err-rows c =

@@ -6,12 +6,8 @@ use Rattle.marching.specs.March.{marched_row}
 use Rattle.fronts.proofs.Stepping.{number_le, spread_waits, spread_stays}
 use Rattle.fronts.proofs.spread.Goals as goal
 
-pub wait_around-requires : goal.wait_around-requires
-wait_around-requires c =
-    record {
-      lent = c.requires.lent;
-      key_value = (c.requires.key_value, number_le _ _ (sym c.spreads.ensures ∙ c.if-spreads.true));
-    }
+pub wait_around-requires-clause-key_value : goal.wait_around-requires-clause-key_value
+wait_around-requires-clause-key_value c = (c.requires.key_value, number_le _ _ (sym c.spreads.ensures ∙ c.if-spreads.true))
 
 pub returns-then-spreads : goal.returns-then-spreads
 returns-then-spreads c =

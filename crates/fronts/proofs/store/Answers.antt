@@ -18,9 +18,6 @@ offset_bounds-distances-place c = omega (arith, place_in _ _ _ (sym c.find.ensur
 pub bounds-distances-place : goal.bounds-distances-place
 bounds-distances-place c = omega (arith, place_in _ _ _ (sym c.find.ensures ∙ c.in-Ok.is), c.requires.0)
 
-pub enter-requires : goal.enter-requires
-enter-requires c = c.requires.0
-
 pub returns-in-Ok : goal.returns-in-Ok
 returns-in-Ok c =
     let a = c.args in

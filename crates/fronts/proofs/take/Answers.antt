@@ -2,19 +2,9 @@
 -- Assumes nothing.
 use Rattle.hearing.specs.Hearing.{seeds_of, field_of}
 use mathlib.Core.Path.{sym, ◌∙◌}
-use native.Mathlib.Omega.{arith}
 use Rattle.hearing.proofs.Walking.{real_key}
 use Rattle.fronts.proofs.Stepping.{take_skips, take_settles}
 use Rattle.fronts.proofs.take.Goals as goal
-
-pub bounds-cells-0 : goal.bounds-cells-0
-bounds-cells-0 c = omega (arith, c.requires.waiting_nonzero.0, c.requires.waiting_nonzero.1.0)
-
-pub pop-requires : goal.pop-requires
-pop-requires c = (c.requires.waiting_nonzero.0, omega (arith, c.requires.waiting_nonzero.1.0, c.requires.lent.1.1), c.requires.waiting_nonzero.1.0)
-
-pub overflow_sub-left : goal.overflow_sub-left
-overflow_sub-left c = omega (arith, c.requires.waiting_nonzero.0)
 
 pub known-requires : goal.known-requires
 known-requires c = (c.requires.lent.1.0, real_key _ c.requires.waiting_nonzero.1.1.1)
@@ -28,15 +18,6 @@ returns-then-is_finite c =
     (field_of a.plan.now) s a.count a.keys.now a.distances.now a.waiting a.estimates.now a.cells.now h c.requires.waiting_nonzero.0
     p.new.estimates p.new.cells p.ensures p.auto.cells c.known.result c.known.ensures
     (sym c.is_finite.ensures ∙ c.if-is_finite.true)
-
-pub settle-requires : goal.settle-requires
-settle-requires c =
-    let k = c.pop.auto in
-    let p = c.requires in
-    record {
-      lent = (p.lent.0, (p.lent.1.0, k.estimates ∙ p.lent.1.1 ∙ sym k.cells));
-      key_value = (p.waiting_nonzero.1.1.1, p.waiting_nonzero.1.1.0);
-    }
 
 pub returns : goal.returns
 returns c =

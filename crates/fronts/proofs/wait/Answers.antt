@@ -16,20 +16,6 @@ returns-in_default c =
     λ s h told room.
     wait_marked _ _ _ (real_key _ c.requires.key_value.0) s _ _ _ _ _ h _ (sym c.find.ensures ∙ c.in_default.is)
 
-pub wait_lean-requires : goal.wait_lean-requires
-wait_lean-requires c =
-    record {
-      lent = c.requires.lent;
-      keys_value = (sym c.find.ensures ∙ c.in-Err.is, c.requires.key_value);
-    }
-
-pub wait_marked-requires : goal.wait_marked-requires
-wait_marked-requires c =
-    record {
-      paired = c.requires.lent.1;
-      keys_value = (sym c.find.ensures ∙ c.in-Err.is, c.requires.key_value);
-    }
-
 pub returns-then-lean : goal.returns-then-lean
 returns-then-lean c =
     let a = c.args in

@@ -1,11 +1,7 @@
 -- `fronts::wait_lean` meets its contract: another stored neighbour that has spread tells that a cell waits.
 -- Assumes nothing.
-use native.Mathlib.Omega.{arith}
 use Rattle.fronts.proofs.Marking.{lean_already, lean_full, lean_placed}
 use Rattle.fronts.proofs.wait_lean.Goals as goal
-
-pub other_spread-requires : goal.other_spread-requires
-other_spread-requires c = (c.requires.lent.0, (c.requires.lent.1.0, c.requires.keys_value.1.0))
 
 pub returns-then-other_spread : goal.returns-then-other_spread
 returns-then-other_spread c =
@@ -18,9 +14,6 @@ returns-then-cells-waiting c =
     λ st h told room.
     lean_full _ _ _ _ _ c.requires.keys_value.1.0 st _ _ _ _ _ h told _ c.requires.keys_value.0 _ (c.other_spread.ensures _ _ h.marked) c.if-other_spread.false
     c.if-cells-waiting.true
-
-pub push-requires : goal.push-requires
-push-requires c = (omega (arith, c.if-cells-waiting.false, c.requires.lent.1.1), omega (arith, c.if-cells-waiting.false))
 
 pub returns : goal.returns
 returns c =

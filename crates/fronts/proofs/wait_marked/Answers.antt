@@ -1,6 +1,5 @@
 -- `fronts::wait_marked` meets its contract: a cell without a mark neither is stored nor waits.
 -- Assumes nothing.
-use native.Mathlib.Omega.{arith}
 use lib.Ieee.{of_bits, nan_bits}
 use Rattle.fronts.proofs.Marking.{mark_full, mark_placed, waits_entered}
 use Rattle.fronts.proofs.wait_marked.Goals as goal
@@ -11,12 +10,6 @@ returns-then-cells-waiting c = λ s h few. mark_full _ _ c.requires.keys_value.1
 pub float_from_bits-enter : goal.float_from_bits-enter
 unfolding nan_bits
 float_from_bits-enter c = tt
-
-pub enter-requires : goal.enter-requires
-enter-requires c = c.requires.paired.0
-
-pub push-requires : goal.push-requires
-push-requires c = (omega (arith, c.if-cells-waiting.false, c.requires.paired.1), omega (arith, c.if-cells-waiting.false))
 
 pub returns : goal.returns
 unfolding of_bits

@@ -6,8 +6,5 @@ use Rattle.hearing.proofs.has_spread.Goals as goal
 pub returns-then-spreads : goal.returns-then-spreads
 returns-then-spreads c = spread_on _ _ _ _ _ c.onward.ensures _ c.spreads.ensures c.if-spreads.true
 
-pub has_seed-requires : goal.has_seed-requires
-has_seed-requires c = c.requires
-
 pub returns : goal.returns
 returns c = spread_seed _ _ _ _ _ c.onward.ensures _ c.spreads.ensures c.if-spreads.false _ c.has_seed.ensures

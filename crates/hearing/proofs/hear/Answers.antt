@@ -7,9 +7,6 @@ use Rattle.marching.specs.March.{heard}
 use Rattle.hearing.proofs.Saying.{said_some, said_none}
 use Rattle.hearing.proofs.hear.Goals as goal
 
-pub known-distance-requires : goal.known-distance-requires
-known-distance-requires c = c.requires
-
 pub returns-then-not-is_finite : goal.returns-then-not-is_finite
 unfolding heard
 returns-then-not-is_finite c =

@@ -1,13 +1,10 @@
 -- `hearing::other_spread` meets its contract: what is left to ask says what the whole does.
-use mathlib.Core.Path.{◌≡◌, refl, sym, ◌∙◌}
+use mathlib.Core.Path.{◌≡◌, sym, ◌∙◌}
 use Rattle.neighbors.specs.Neighbors.{neighbours}
 use Rattle.neighbors.proofs.NeighborLaws.{cells_known}
 use Rattle.hearing.specs.Hearing.{field_of}
 use Rattle.hearing.proofs.Walking.{real_near, other_more, other_here, other_none}
 use Rattle.hearing.proofs.other_spread.Goals as goal
-
-pub loop-neighbour-init : goal.loop-neighbour-init
-loop-neighbour-init c = λ rs ws h. refl
 
 pub spread_at-requires : goal.spread_at-requires
 spread_at-requires c =

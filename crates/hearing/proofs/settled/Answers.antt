@@ -1,16 +1,11 @@
 -- `hearing::settled` meets its contract: what is left to hear says what the whole does.
-use mathlib.Core.Path.{◌≡◌, refl, ◌∙◌}
-use lib.Ieee.{of_bits}
+use mathlib.Core.Path.{◌≡◌, ◌∙◌}
 use Rattle.neighbors.specs.Neighbors.{neighbours}
 use Rattle.neighbors.proofs.NeighborLaws.{cells_known}
 use Rattle.marching.specs.March.{settled}
 use Rattle.marching.specs.Lattice.{lattice_of}
 use Rattle.hearing.proofs.Walking.{real_near, settle_more, settle_none}
 use Rattle.hearing.proofs.settled.Goals as goal
-
-pub loop-place-init : goal.loop-place-init
-unfolding of_bits
-loop-place-init c = λ rs ws h. refl
 
 pub hear-best-requires : goal.hear-best-requires
 hear-best-requires c =

@@ -10,9 +10,6 @@ use Rattle.hearing.proofs.spread_at.Goals as goal
 pub returns-then-key-from : goal.returns-then-key-from
 returns-then-key-from c = λ rs ws h. rw (eq-eqb _ _ c.if-key-from.true)
 
-pub known-distance-requires : goal.known-distance-requires
-known-distance-requires c = c.requires.1
-
 pub returns-then-not-is_finite : goal.returns-then-not-is_finite
 unfolding has_spread
 returns-then-not-is_finite c =
@@ -21,9 +18,6 @@ returns-then-not-is_finite c =
       ne_eqb _ _ c.if-key-from.false,
       said_none c.known-distance.result _ (c.known-distance.ensures rs ws h) (no c.is_finite.ensures (ap not c.if-not-is_finite.true)),
     )
-
-pub has_spread-requires : goal.has_spread-requires
-has_spread-requires c = c.requires.0
 
 pub returns : goal.returns
 returns c =

@@ -23,9 +23,6 @@ returns-then-has_room c =
       lists = marks_stay _ _ _ _ _ _ e;
     }
 
-pub thin-requires : goal.thin-requires
-thin-requires c = c.requires
-
 pub returns : goal.returns
 returns c =
     let a = c.args in

@@ -5,16 +5,6 @@ use lib.ListN.{length}
 use Rattle.thinning.proofs.Forgetting.{thin_begun, thin_more, thin_done}
 use Rattle.thinning.proofs.thin.Goals as goal
 
-pub loop-i-init : goal.loop-i-init
-loop-i-init c =
-    let a = c.args in
-    (omega arith, refl, refl, thin_begun a.waiting a.cells.now a.keys.now a.distances.now)
-
-pub forget-requires : goal.forget-requires
-forget-requires c =
-    let i = c.loop-i.invariant in
-    i.2 ∙ c.requires.0 ∙ sym i.1
-
 pub loop-i-preserved : goal.loop-i-preserved
 loop-i-preserved c =
     let a = c.args in
