@@ -9,9 +9,6 @@ use Rattle.racing.proofs.Marching.{rows_ascend, rows_lattice}
 use Rattle.racing.proofs.Finishing.{blank_long, march_stopped, sown_all, march_halted, march_done}
 use Rattle.racing.proofs.march.Goals as goal
 
-pub sow_all-requires : goal.sow_all-requires
-sow_all-requires c = (c.requires.0.0, c.requires.1)
-
 pub take_all-requires : goal.take_all-requires
 take_all-requires c =
     let a = c.args in

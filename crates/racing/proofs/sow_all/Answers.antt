@@ -2,7 +2,7 @@
 use Rattle.hearing.specs.Hearing.{seeds_of, field_of}
 use Rattle.table.specs.Read.{rows_in}
 use Rattle.std.proofs.lemmas.Result.{err_from_is_err_and}
-use mathlib.Core.Path.{refl, sym, ◌∙◌}
+use mathlib.Core.Path.{refl, ◌∙◌}
 use mathlib.Core.Bool.{false}
 use native.Mathlib.Omega.{arith}
 use lib.ListN.{length, get_or}
@@ -12,7 +12,7 @@ use Rattle.table.proofs.RowLaws.{row_at_lem}
 use Rattle.marching.proofs.Facts.{back}
 use Rattle.fronts.specs.Fronts.{rooms_of}
 use Rattle.racing.proofs.Marching.{rows_ascend, rows_past, seeds_are, sow_start, sow_stop, sow_more, sow_finish}
-use Rattle.racing.proofs.Finishing.{blank_long, blank_ready}
+use Rattle.racing.proofs.Finishing.{blank_ready}
 use borrow.Author.Rules.{rules}
 use Rattle.racing.proofs.sow_all.Goals as goal
 
@@ -30,33 +30,6 @@ loop-i-init c =
           a.distances.now a.estimates.now a.cells.now (rows_ascend _ _ _ _ p.0.lent) (seeds_are a.plan.now.threshold _ _ _ _ p.0.lent)
           (blank_ready false _ _ _ _ p.1),
     )
-
-pub offset_bounds-fused_keys-i : goal.offset_bounds-fused_keys-i
-offset_bounds-fused_keys-i c = let p = c.requires.0.lent in omega (arith, c.loop-i-test.true, p.fits)
-
-pub bounds-fused_keys-i : goal.bounds-fused_keys-i
-bounds-fused_keys-i c = let p = c.requires.0.lent in omega (arith, c.loop-i-test.true, p.fits)
-
-pub offset_bounds-fused_distances-i : goal.offset_bounds-fused_distances-i
-offset_bounds-fused_distances-i c = let p = c.requires.0.lent in omega (arith, c.loop-i-test.true, p.fits, p.distances)
-
-pub bounds-fused_distances-i : goal.bounds-fused_distances-i
-bounds-fused_distances-i c = let p = c.requires.0.lent in omega (arith, c.loop-i-test.true, p.fits, p.distances)
-
-pub offset_bounds-fused_weights-i : goal.offset_bounds-fused_weights-i
-offset_bounds-fused_weights-i c = let p = c.requires.0.lent in omega (arith, c.loop-i-test.true, p.fits, p.weights)
-
-pub bounds-fused_weights-i : goal.bounds-fused_weights-i
-bounds-fused_weights-i c = let p = c.requires.0.lent in omega (arith, c.loop-i-test.true, p.fits, p.weights)
-
-pub sow_if-requires : goal.sow_if-requires
-sow_if-requires c =
-    let p = c.requires in
-    let i = c.loop-i.invariant in
-    let l = c.loop-i-test.true in record {
-      lent = (p.0.lent, (i.2 ∙ blank_long _ _ _ p.1.distances ∙ sym i.1, i.3 ∙ blank_long _ _ _ p.1.estimates ∙ sym i.4));
-      key_value = (p.0.lattice _ l, (p.0.finite _ l, i.5.ready.held.front.heap.fits));
-    }
 
 pub returns-in_err-now : goal.returns-in_err-now
 returns-in_err-now c =
@@ -78,9 +51,6 @@ returns-in_err-now c =
     d.new.distances d.new.estimates
     d.new.cells
     d.ensures _ c.in_err-now.was)
-
-pub loop-i-smaller : goal.loop-i-smaller
-loop-i-smaller c = omega (arith, c.loop-i-test.true)
 
 pub loop-i-preserved : goal.loop-i-preserved
 loop-i-preserved c =

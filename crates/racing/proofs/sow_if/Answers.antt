@@ -12,18 +12,6 @@ use Rattle.racing.proofs.sow_if.Goals as goal
 pub returns-then-not-is_seed : goal.returns-then-not-is_seed
 returns-then-not-is_seed c = λ s h new told. sow_if_not _ _ _ _ _ s (sym c.is_seed.ensures ∙ not-true _ (ap not c.if-not-is_seed.true)) _ _ _ _ _ _ h
 
-pub lighten-lean-requires : goal.lighten-lean-requires
-lighten-lean-requires c = (c.requires.lent.1.0, c.requires.key_value.1.1)
-
-pub sow-requires : goal.sow-requires
-sow-requires c =
-    let k = c.lighten-lean.auto in
-    let p = c.requires in
-    record {
-      lent = (p.lent.0, (k.distances ∙ p.lent.1.0 ∙ sym k.keys, p.lent.1.1));
-      key_value = (p.key_value.0, p.key_value.1.0);
-    }
-
 pub returns-in_err-rows : goal.returns-in_err-rows
 returns-in_err-rows c =
     let a = c.args in

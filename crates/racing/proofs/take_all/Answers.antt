@@ -53,15 +53,12 @@ returns-then-surely_full c =
     l.keys l.distances l.now.waiting l.estimates l.cells (l.invariant.4 s h)
     l.invariant.0 l.invariant.3 at_most_14 (sym c.surely_full.ensures ∙ c.if-surely_full.true)
 
-pub take_next-requires : goal.take_next-requires
-take_next-requires c =
+pub take_next-requires-clause-waiting_nonzero : goal.take_next-requires-clause-waiting_nonzero
+take_next-requires-clause-waiting_nonzero c =
     let p = c.requires in
-    let at = c.loop-now.invariant.4 p.sown.0 p.sown.1 in
-    let h = at.ready.held in
-    let l = c.loop-now-test.true in record {
-      lent = (p.tabled.0.lent, (h.front.marked.long, h.front.heap.long));
-      waiting_nonzero = (l, (h.front.heap.fits, (p.tabled.1, first_on_lattice _ _ _ _ _ _ _ _ h l)));
-    }
+    let h = (c.loop-now.invariant.4 p.sown.0 p.sown.1).ready.held in
+    let l = c.loop-now-test.true in
+    (l, (h.front.heap.fits, (p.tabled.1, first_on_lattice _ _ _ _ _ _ _ _ h l)))
 
 pub returns-in_err-now : goal.returns-in_err-now
 unfolding Emptied

@@ -1,21 +1,8 @@
 -- `racing::take_next` meets its contract: the marks of a taking have a place once the march has been lightened.
 -- Assumes nothing.
 use Rattle.std.proofs.lemmas.Result.{err_from_is_err_and}
-use mathlib.Core.Path.{sym, ◌∙◌}
 use Rattle.racing.proofs.Lightening.{taken_goes}
 use Rattle.racing.proofs.take_next.Goals as goal
-
-pub lighten-lean-requires : goal.lighten-lean-requires
-lighten-lean-requires c = (c.requires.lent.1.0, c.requires.waiting_nonzero.1.0)
-
-pub take-requires : goal.take-requires
-take-requires c =
-    let k = c.lighten-lean.auto in
-    let p = c.requires in
-    record {
-      lent = (p.lent.0, (k.distances ∙ p.lent.1.0 ∙ sym k.keys, p.lent.1.1));
-      waiting_nonzero = p.waiting_nonzero;
-    }
 
 pub returns-in_err-rows : goal.returns-in_err-rows
 returns-in_err-rows c =
