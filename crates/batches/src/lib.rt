@@ -7,13 +7,14 @@ ghost use Rattle.batching.specs.Batches.{batch_outcome, batch_end, readings_take
 ghost use Rattle.batching.specs.Read.{entries_in, OneLength};
 ghost use Rattle.batching.specs.Steps.{far_up_to};
 ghost use Rattle.owning.specs.Runs.{RunTo};
+ghost use Rattle.table.specs.Read.{table_in};
 
 use batching::{Batched, Counts, Ending, Readings, RefusedReading, batched_of, readings_taken};
 use floats::Metres;
 use fusing::{Step, fuse_sound};
 use measuring::Reading;
 use owning::{Run, batch_run};
-use table::{Rows, Settings, check_with, lengths_ok};
+use table::{Rows, RowsMut, Settings, check_with, lengths_ok};
 
 // Fewer readings than these are fused one by one.
 const MANY: usize = 16;
@@ -26,29 +27,21 @@ struct Went {
 }
 
 // One reading of a batch, into the table itself.
-fn batch_one(
-    settings: Settings,
-    keys: &mut [u64],
-    distances: &mut [f32],
-    weights: &mut [f32],
-    count: &mut usize,
-    readings: &Readings,
-    from: usize,
-) -> Run
-    requires count_value { table_check settings (table keys.old distances.old weights.old count.old) ≡ (Ok tt) }
+fn batch_one(settings: Settings, rows: &mut RowsMut, readings: &Readings, from: usize) -> Run
+    requires count_value { table_check settings (table_in rows.old) ≡ (Ok tt) }
     requires from_in_bounds { from < length readings.now.keys.now }
     requires batch_distances_len { OneLength readings.now }
     ensures { RunTo settings
-        (table keys.old distances.old weights.old count.old)
+        (table_in rows.old)
         (entries_in readings.now) from
-        (from + 1) result (table keys.new distances.new weights.new count.new) }
+        (from + 1) result (table_in rows.new) }
 {
     let key = readings.keys[from];
     let reading = Reading::Direct {
         distance: Metres(readings.distances[from]),
         confidence: readings.confidences[from],
     };
-    match fuse_sound(settings, keys, distances, weights, count, key, reading) {
+    match fuse_sound(settings, rows, key, reading) {
         Err(why) => Run {
             end: Err(RefusedReading { why, at: from }),
             far: 0,
@@ -65,46 +58,31 @@ fn batch_one(
 }
 
 // The next readings of a batch: many through own rows, few one by one.
-fn batch_step(
-    settings: Settings,
-    keys: &mut [u64],
-    distances: &mut [f32],
-    weights: &mut [f32],
-    count: &mut usize,
-    readings: &Readings,
-    from: usize,
-) -> Run
-    requires count_value { table_check settings (table keys.old distances.old weights.old count.old) ≡ (Ok tt) }
+fn batch_step(settings: Settings, rows: &mut RowsMut, readings: &Readings, from: usize) -> Run
+    requires count_value { table_check settings (table_in rows.old) ≡ (Ok tt) }
     requires from_in_bounds { from < length readings.now.keys.now }
     requires batch_distances_len { OneLength readings.now }
     ensures { RunTo settings
-        (table keys.old distances.old weights.old count.old)
+        (table_in rows.old)
         (entries_in readings.now) from
-        (from + 1) result (table keys.new distances.new weights.new count.new) }
+        (from + 1) result (table_in rows.new) }
 {
     if readings.keys.len() - from >= MANY {
-        let run = batch_run(settings, keys, distances, weights, count, readings, from);
+        let run = batch_run(settings, rows, readings, from);
         if run.end != Ok(from) {
             return run;
         }
     }
-    batch_one(settings, keys, distances, weights, count, readings, from)
+    batch_one(settings, rows, readings, from)
 }
 
 // The readings in order, into a table that passed the check.
-fn batch_sound(
-    settings: Settings,
-    keys: &mut [u64],
-    distances: &mut [f32],
-    weights: &mut [f32],
-    count: &mut usize,
-    readings: &Readings,
-) -> Went
-    requires count_value { table_check settings (table keys.old distances.old weights.old count.old) ≡ (Ok tt) }
+fn batch_sound(settings: Settings, rows: &mut RowsMut, readings: &Readings) -> Went
+    requires count_value { table_check settings (table_in rows.old) ≡ (Ok tt) }
     requires batch_distances_len { OneLength readings.now }
-    ensures count_after { batch_end result.ending (table keys.new distances.new weights.new count.new)
+    ensures count_after { batch_end result.ending (table_in rows.new)
         ≡ batch_from settings 0
-        (table keys.old distances.old weights.old count.old)
+        (table_in rows.old)
         (entries_in readings.now) }
     ensures far_value { result.far ≡ far_up_to settings
         (entries_in readings.now)
@@ -114,7 +92,7 @@ fn batch_sound(
     let mut i = 0;
     // No `for`: a part takes as many readings as it does.
     while i < readings.keys.len() {
-        let run = batch_step(settings, keys, distances, weights, count, readings, i);
+        let run = batch_step(settings, rows, readings, i);
         far += run.far;
         match run.end {
             Err(refused) => {
@@ -148,17 +126,10 @@ fn counts_of(before: usize, after: usize, taken: usize, far: usize) -> Counts
 }
 
 // A batch of direct readings. A refusal ends it; the readings before it stand, and are counted.
-pub fn batch_update(
-    settings: Settings,
-    keys: &mut [u64],
-    distances: &mut [f32],
-    weights: &mut [f32],
-    count: &mut usize,
-    readings: &Readings,
-) -> Batched
-    ensures { batch_outcome result (table keys.new distances.new weights.new count.new)
+pub fn batch_update(settings: Settings, rows: &mut RowsMut, readings: &Readings) -> Batched
+    ensures { batch_outcome result (table_in rows.new)
         ≡ batch settings
-        (table keys.old distances.old weights.old count.old)
+        (table_in rows.old)
         readings.now.keys.now readings.now.distances.now readings.now.confidences.now }
 {
     let many = readings.keys.len();
@@ -168,19 +139,14 @@ pub fn batch_update(
         readings.confidences.len(),
         0,
     );
-    let before = *count;
+    let before = rows.count;
     check_with(
         fits,
         settings,
-        &Rows {
-            keys,
-            distances,
-            weights,
-            count: before,
-        },
+        &Rows { keys: rows.keys, distances: rows.distances, weights: rows.weights, count: before },
     )?;
-    let went = batch_sound(settings, keys, distances, weights, count, readings);
+    let went = batch_sound(settings, rows, readings);
     let taken = readings_taken(went.ending, many);
-    let counts = counts_of(before, *count, taken, went.far);
+    let counts = counts_of(before, rows.count, taken, went.far);
     batched_of(went.ending, counts)
 }

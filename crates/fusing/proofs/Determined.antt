@@ -57,10 +57,10 @@ pub fuse_sound_determined :
     → fuse_sound.Post κs a r s
     → fuse_sound.Post κs a r' s'
     → (r ≡ r')
-    × (s.1.0.now ≡ s'.1.0.now)
-    × (s.1.1.0.now ≡ s'.1.1.0.now)
-    × (s.1.1.1.0.now ≡ s'.1.1.1.0.now)
-    × (s.1.1.1.1.0.now ≡ s'.1.1.1.1.0.now)
+    × (s.1.0.now.keys.now ≡ s'.1.0.now.keys.now)
+    × (s.1.0.now.distances.now ≡ s'.1.0.now.distances.now)
+    × (s.1.0.now.weights.now ≡ s'.1.0.now.weights.now)
+    × (s.1.0.now.count ≡ s'.1.0.now.count)
 fuse_sound_determined κs a r r' s s' p q = effect_parts (p ∙ sym q)
 
 pub fuse_determined :
@@ -68,10 +68,10 @@ pub fuse_determined :
     → fuse.Post κs a r s
     → fuse.Post κs a r' s'
     → (r ≡ r')
-    × (s.1.0.now ≡ s'.1.0.now)
-    × (s.1.1.0.now ≡ s'.1.1.0.now)
-    × (s.1.1.1.0.now ≡ s'.1.1.1.0.now)
-    × (s.1.1.1.1.0.now ≡ s'.1.1.1.1.0.now)
+    × (s.1.0.now.keys.now ≡ s'.1.0.now.keys.now)
+    × (s.1.0.now.distances.now ≡ s'.1.0.now.distances.now)
+    × (s.1.0.now.weights.now ≡ s'.1.0.now.weights.now)
+    × (s.1.0.now.count ≡ s'.1.0.now.count)
 fuse_determined κs a r r' s s' p q = parts (p ∙ sym q)
 
 pub update_from_depth_determined :
@@ -79,10 +79,10 @@ pub update_from_depth_determined :
     → update_from_depth.Post κs a r s
     → update_from_depth.Post κs a r' s'
     → (r ≡ r')
-    × (s.1.0.now ≡ s'.1.0.now)
-    × (s.1.1.0.now ≡ s'.1.1.0.now)
-    × (s.1.1.1.0.now ≡ s'.1.1.1.0.now)
-    × (s.1.1.1.1.0.now ≡ s'.1.1.1.1.0.now)
+    × (s.1.0.now.keys.now ≡ s'.1.0.now.keys.now)
+    × (s.1.0.now.distances.now ≡ s'.1.0.now.distances.now)
+    × (s.1.0.now.weights.now ≡ s'.1.0.now.weights.now)
+    × (s.1.0.now.count ≡ s'.1.0.now.count)
 update_from_depth_determined κs a r r' s s' p q = parts (p ∙ sym q)
 
 pub update_from_depth_ray_determined :
@@ -90,8 +90,8 @@ pub update_from_depth_ray_determined :
     → update_from_depth_ray.Post κs a r s
     → update_from_depth_ray.Post κs a r' s'
     → (r ≡ r')
-    × (s.1.0.now ≡ s'.1.0.now)
-    × (s.1.1.0.now ≡ s'.1.1.0.now)
-    × (s.1.1.1.0.now ≡ s'.1.1.1.0.now)
-    × (s.1.1.1.1.0.now ≡ s'.1.1.1.1.0.now)
+    × (s.1.0.now.keys.now ≡ s'.1.0.now.keys.now)
+    × (s.1.0.now.distances.now ≡ s'.1.0.now.distances.now)
+    × (s.1.0.now.weights.now ≡ s'.1.0.now.weights.now)
+    × (s.1.0.now.count ≡ s'.1.0.now.count)
 update_from_depth_ray_determined κs a r r' s s' p q = parts (p ∙ sym q)

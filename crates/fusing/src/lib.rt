@@ -5,13 +5,14 @@ ghost use Rattle.std.specs.Prelude.{◌≡◌, true, length, take, Ok, None};
 ghost use Rattle.search.specs.Keys.{find, ascending};
 ghost use Rattle.table.specs.Table.{table, lengths_ok, table_check};
 ghost use Rattle.fusing.specs.Fusing.{outcome, effect, averaging_of, new_weight, fused_voxel, fused_near, effect_of, kind_of, fuse};
+ghost use Rattle.table.specs.Read.{table_in};
 
 use floats::{Metres, smaller, within};
 use lists::insert;
 use measuring::{Measured, Reading, admit};
 use refusals::Refusal;
 use search::{find_row, place_of};
-use table::{Rows, Settings, Voxel, check_table};
+use table::{Rows, RowsMut, Settings, Voxel, check_table};
 
 // What a fuse that is not refused answers: a row is new, a stored one is changed, or the reading is far.
 #[derive(Clone, Copy)]
@@ -73,22 +74,15 @@ pub fn fused_voxel(how: Averaging, old: Voxel, m: Measured) -> Voxel
 }
 
 // A new row for `key`, which no row has.
-fn add_row(
-    how: Averaging,
-    keys: &mut [u64],
-    distances: &mut [f32],
-    weights: &mut [f32],
-    count: &mut usize,
-    key: u64,
-    m: Measured,
-) -> Result<Step, Refusal>
-    requires count_value { lengths_ok (length keys.old) (length distances.old) (length weights.old) count.old ≡ true }
-    requires keys_value { ascending (take count.old keys.old) ≡ true }
-    requires keys_value_2 { find key (take count.old keys.old) ≡ None }
-    ensures { effect result (table keys.new distances.new weights.new count.new)
-        ≡ fused_near how (table keys.old distances.old weights.old count.old) key m }
+fn add_row(how: Averaging, rows: &mut RowsMut, key: u64, m: Measured) -> Result<Step, Refusal>
+    requires count_value { lengths_ok (length rows.old.keys.now) (length rows.old.distances.now) (length rows.old.weights.now) rows.old.count ≡ true }
+    requires keys_value { ascending (take rows.old.count rows.old.keys.now) ≡ true }
+    requires keys_value_2 { find key (take rows.old.count rows.old.keys.now) ≡ None }
+    ensures { effect result (table_in rows.new)
+        ≡ fused_near how (table_in rows.old) key m }
 {
-    let n = *count;
+    let n = rows.count;
+    let keys = &mut *rows.keys;
     if keys.len() <= n {
         return Err(Refusal::NoPlace);
     }
@@ -105,41 +99,34 @@ fn add_row(
     }
     let place = place_of(keys, n, key);
     insert(keys, n, place, key);
-    insert(distances, n, place, v.distance);
-    insert(weights, n, place, v.weight);
-    *count = n + 1;
+    insert(rows.distances, n, place, v.distance);
+    insert(rows.weights, n, place, v.weight);
+    rows.count = n + 1;
     Ok(Step::Added(place))
 }
 
 // A reading that is not far, fused into the row of `key`.
-fn fuse_near(
-    how: Averaging,
-    keys: &mut [u64],
-    distances: &mut [f32],
-    weights: &mut [f32],
-    count: &mut usize,
-    key: u64,
-    m: Measured,
-) -> Result<Step, Refusal>
-    requires count_value { lengths_ok (length keys.old) (length distances.old) (length weights.old) count.old ≡ true }
-    requires keys_value { ascending (take count.old keys.old) ≡ true }
-    ensures { effect result (table keys.new distances.new weights.new count.new)
-        ≡ fused_near how (table keys.old distances.old weights.old count.old) key m }
+fn fuse_near(how: Averaging, rows: &mut RowsMut, key: u64, m: Measured) -> Result<Step, Refusal>
+    requires count_value { lengths_ok (length rows.old.keys.now) (length rows.old.distances.now) (length rows.old.weights.now) rows.old.count ≡ true }
+    requires keys_value { ascending (take rows.old.count rows.old.keys.now) ≡ true }
+    ensures { effect result (table_in rows.new)
+        ≡ fused_near how (table_in rows.old) key m }
 {
-    let n = *count;
+    let n = rows.count;
+    let keys = &mut *rows.keys;
     let Some(i) = find_row(keys, n, key) else {
-        return add_row(how, keys, distances, weights, count, key, m);
+        return add_row(how, rows, key, m);
     };
     let old = Voxel {
-        distance: distances[i],
-        weight: weights[i],
+        distance: rows.distances[i],
+        weight: rows.weights[i],
     };
     let v = fused_voxel(how, old, m);
     if !within(1000000.0, v.distance) {
         return Err(Refusal::TooLarge);
     }
-    distances[i] = v.distance;
-    weights[i] = v.weight;
+    rows.distances[i] = v.distance;
+    rows.weights[i] = v.weight;
     Ok(Step::Changed(i))
 }
 
@@ -147,29 +134,18 @@ fn fuse_near(
 #[tactic(auto, unfolding(crate::specs::Fusing::effect_of, crate::specs::Fusing::fuse_if, crate::specs::Fusing::fused_if))]
 pub fn fuse_sound(
     settings: Settings,
-    keys: &mut [u64],
-    distances: &mut [f32],
-    weights: &mut [f32],
-    count: &mut usize,
+    rows: &mut RowsMut,
     key: u64,
     reading: Reading,
 ) -> Result<Step, Refusal>
-    requires { table_check settings (table keys.old distances.old weights.old count.old) ≡ (Ok tt) }
-    ensures { effect result (table keys.new distances.new weights.new count.new)
-        ≡ effect_of settings (table keys.old distances.old weights.old count.old) key reading }
+    requires { table_check settings (table_in rows.old) ≡ (Ok tt) }
+    ensures { effect result (table_in rows.new)
+        ≡ effect_of settings (table_in rows.old) key reading }
 {
     let Some(near) = admit(settings, key, reading)? else {
         return Ok(Step::Far);
     };
-    fuse_near(
-        Averaging::from(settings),
-        keys,
-        distances,
-        weights,
-        count,
-        key,
-        near,
-    )
+    fuse_near(Averaging::from(settings), rows, key, near)
 }
 
 // What is answered to what a reading did.
@@ -189,58 +165,53 @@ impl From<Step> for Fused {
 #[tactic(auto, unfolding(crate::specs::Fusing::fuse, crate::specs::Fusing::effect_of, crate::specs::Fusing::fuse_if))]
 pub fn fuse(
     settings: Settings,
-    keys: &mut [u64],
-    distances: &mut [f32],
-    weights: &mut [f32],
-    count: &mut usize,
+    rows: &mut RowsMut,
     key: u64,
     reading: Reading,
 ) -> Result<Fused, Refusal>
-    ensures { outcome result (table keys.new distances.new weights.new count.new)
-        ≡ fuse settings (table keys.old distances.old weights.old count.old) key reading }
+    ensures { outcome result (table_in rows.new)
+        ≡ fuse settings (table_in rows.old) key reading }
 {
+    let count = rows.count;
+    let keys = &mut *rows.keys;
+    let distances = &mut *rows.distances;
+    let weights = &mut *rows.weights;
     check_table(
         settings,
         &Rows {
             keys,
             distances,
             weights,
-            count: *count,
+            count,
         },
     )?;
-    let step = fuse_sound(settings, keys, distances, weights, count, key, reading)?;
+    let step = fuse_sound(settings, rows, key, reading)?;
     Ok(Fused::from(step))
 }
 
 // A direct reading.
 pub fn update_from_depth(
     settings: Settings,
-    keys: &mut [u64],
-    distances: &mut [f32],
-    weights: &mut [f32],
-    count: &mut usize,
+    rows: &mut RowsMut,
     key: u64,
     distance: Metres,
     confidence: f32,
 ) -> Result<Fused, Refusal>
-    ensures { outcome result (table keys.new distances.new weights.new count.new)
-        ≡ fuse settings (table keys.old distances.old weights.old count.old)
+    ensures { outcome result (table_in rows.new)
+        ≡ fuse settings (table_in rows.old)
         key (Reading.Direct distance confidence) }
 {
     let reading = Reading::Direct {
         distance,
         confidence,
     };
-    fuse(settings, keys, distances, weights, count, key, reading)
+    fuse(settings, rows, key, reading)
 }
 
 // A ray from a sensor.
 pub fn update_from_depth_ray(
     settings: Settings,
-    keys: &mut [u64],
-    distances: &mut [f32],
-    weights: &mut [f32],
-    count: &mut usize,
+    rows: &mut RowsMut,
     key: u64,
     sensor_x: Metres,
     sensor_y: Metres,
@@ -248,8 +219,8 @@ pub fn update_from_depth_ray(
     depth: Metres,
     confidence: f32,
 ) -> Result<Fused, Refusal>
-    ensures { outcome result (table keys.new distances.new weights.new count.new)
-        ≡ fuse settings (table keys.old distances.old weights.old count.old)
+    ensures { outcome result (table_in rows.new)
+        ≡ fuse settings (table_in rows.old)
         key (Reading.Ray sensor_x sensor_y sensor_z depth confidence) }
 {
     let reading = Reading::Ray {
@@ -259,5 +230,5 @@ pub fn update_from_depth_ray(
         depth,
         confidence,
     };
-    fuse(settings, keys, distances, weights, count, key, reading)
+    fuse(settings, rows, key, reading)
 }

@@ -10,7 +10,7 @@ ghost use Rattle.batching.specs.Read.{entries_in, OneLength};
 ghost use Rattle.sorting.specs.Sorting.{Numbered};
 ghost use Rattle.batching.specs.Steps.{is_far};
 ghost use Rattle.owning.specs.Runs.{old_voxel, Placed, Stepped, passed_far, OwnSlots, RanTo, RunTo};
-ghost use Rattle.table.specs.Read.{table_of};
+ghost use Rattle.table.specs.Read.{table_in, table_of};
 
 use batching::{Readings, RefusedReading};
 use floats::{Metres, between, within};
@@ -19,7 +19,7 @@ use gathering::{hold_back, load, locate, settle};
 use measuring::{Measured, Reading, admit};
 use refusals::Refusal;
 use sorting::{distinct, sort};
-use table::{Rows, Settings, Voxel};
+use table::{Rows, RowsMut, Settings, Voxel};
 
 // What a reading that is not refused does to the own rows of a batch: nothing where it is far; a row is added or changed;
 // or it is left to others where its row has no place in the table.
@@ -310,22 +310,14 @@ fn settle_own(
 }
 
 // Up to 4,096 readings from `from` on, through own rows that are settled into the table column by column.
-pub fn batch_run(
-    settings: Settings,
-    keys: &mut [u64],
-    distances: &mut [f32],
-    weights: &mut [f32],
-    count: &mut usize,
-    readings: &Readings,
-    from: usize,
-) -> Run
-    requires count_value { table_check settings (table keys.old distances.old weights.old count.old) ≡ (Ok tt) }
+pub fn batch_run(settings: Settings, rows: &mut RowsMut, readings: &Readings, from: usize) -> Run
+    requires count_value { table_check settings (table_in rows.old) ≡ (Ok tt) }
     requires from_in_bounds { from ≤ length readings.now.keys.now }
     requires batch_distances_len { OneLength readings.now }
     ensures { RunTo settings
-        (table keys.old distances.old weights.old count.old)
+        (table_in rows.old)
         (entries_in readings.now) from from
-        result (table keys.new distances.new weights.new count.new) }
+        result (table_in rows.new) }
 {
     let to = end_of(readings.keys.len(), from);
     // Lists of a fixed length, not `Vec`: no call takes memory.
@@ -334,15 +326,10 @@ pub fn batch_run(
     let mut own_weights = [0.0f32; 4096];
     let mut slots = [0u16; 4096];
     let mut seats = [0u32; 4096];
-    let n = *count;
+    let n = rows.count;
     let own = own_rows(&mut own_keys, &mut slots, readings.keys, from, to);
     load_own(
-        &Rows {
-            keys,
-            distances,
-            weights,
-            count: n,
-        },
+        &Rows { keys: rows.keys, distances: rows.distances, weights: rows.weights, count: n },
         &own_keys,
         &mut own_distances,
         &mut own_weights,
@@ -356,7 +343,7 @@ pub fn batch_run(
         &mut own_weights,
         own,
         &slots,
-        keys.len() - n,
+        rows.keys.len() - n,
         readings,
         from,
         to,
@@ -365,9 +352,9 @@ pub fn batch_run(
     let total = n + ran.added;
     settle_own(
         settings.max_weight,
-        keys,
-        distances,
-        weights,
+        rows.keys,
+        rows.distances,
+        rows.weights,
         n,
         &own_keys,
         &own_distances,
@@ -376,6 +363,6 @@ pub fn batch_run(
         own,
         total,
     );
-    *count = total;
+    rows.count = total;
     run
 }

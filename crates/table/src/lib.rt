@@ -60,6 +60,15 @@ pub struct Rows<'a> {
     pub count: usize,
 }
 
+// A table that is written: the same three lists, lent to be changed.
+#[derive(Drop)]
+pub struct RowsMut<'a> {
+    pub keys: &'a mut [u64],
+    pub distances: &'a mut [f32],
+    pub weights: &'a mut [f32],
+    pub count: usize,
+}
+
 // From 0 to 1,000,000, and not -0.
 fn farthest_ok(x: f32) -> bool
     ensures { result ≡ farthest_ok x }

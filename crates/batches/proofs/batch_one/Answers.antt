@@ -18,7 +18,7 @@ pub returns-in-Err : goal.returns-in-Err
 unfolding RunLeft
 returns-in-Err c =
     let a = c.args in
-    let t = table a.keys.now a.distances.now a.weights.now a.count.now in
+    let t = table a.rows.now.keys.now a.rows.now.distances.now a.rows.now.weights.now a.rows.now.count in
     let ks = a.readings.now.keys.now in
     let ds = a.readings.now.distances.now in
     let cs = a.readings.now.confidences.now in
@@ -33,7 +33,7 @@ pub returns-in-Ok-Far : goal.returns-in-Ok-Far
 unfolding RunLeft
 returns-in-Ok-Far c =
     let a = c.args in
-    let t = table a.keys.now a.distances.now a.weights.now a.count.now in
+    let t = table a.rows.now.keys.now a.rows.now.distances.now a.rows.now.weights.now a.rows.now.count in
     let ks = a.readings.now.keys.now in
     let ds = a.readings.now.distances.now in
     let cs = a.readings.now.confidences.now in
@@ -52,7 +52,7 @@ pub returns-in-Ok : goal.returns-in-Ok
 unfolding RunLeft
 returns-in-Ok c =
     let a = c.args in
-    let t = table a.keys.now a.distances.now a.weights.now a.count.now in
+    let t = table a.rows.now.keys.now a.rows.now.distances.now a.rows.now.weights.now a.rows.now.count in
     let ks = a.readings.now.keys.now in
     let ds = a.readings.now.distances.now in
     let cs = a.readings.now.confidences.now in

@@ -12,14 +12,14 @@ use Rattle.batches.proofs.batch_sound.Given as goal
 
 abbrev pub invariant-loop-i : goal.invariant-loop-i
 invariant-loop-i l = (l.i ≤ length l.readings.keys.now)
-    × (table_check l.settings (table l.keys l.distances l.weights l.count) ≡ (Ok tt))
-    × (batch_from l.settings 0 (table l.initial.keys l.initial.distances l.initial.weights l.initial.count)
+    × (table_check l.settings (table l.rows.keys.now l.rows.distances.now l.rows.weights.now l.rows.count) ≡ (Ok tt))
+    × (batch_from l.settings 0 (table l.initial.rows.keys.now l.initial.rows.distances.now l.initial.rows.weights.now l.initial.rows.count)
     (entries_in l.readings)
-    ≡ batch_from l.settings l.i (table l.keys l.distances l.weights l.count)
+    ≡ batch_from l.settings l.i (table l.rows.keys.now l.rows.distances.now l.rows.weights.now l.rows.count)
     (drop l.i (entries_in l.readings)))
-    × (length l.keys ≡ length l.initial.keys)
-    × (length l.distances ≡ length l.initial.distances)
-    × (length l.weights ≡ length l.initial.weights)
+    × (length l.rows.keys.now ≡ length l.initial.rows.keys.now)
+    × (length l.rows.distances.now ≡ length l.initial.rows.distances.now)
+    × (length l.rows.weights.now ≡ length l.initial.rows.weights.now)
     × (l.far ≡ far_up_to l.settings (entries_in l.readings) l.i)
 
 abbrev pub decreases-loop-i : goal.decreases-loop-i

@@ -26,60 +26,60 @@ add_row-requires c = record {
   keys_value_2 = sym (find_by-find _ _ c.requires.keys_value) ∙ sym c.find_row.ensures ∙ c.in_default.is;
 }
 
-pub offset_bounds-distances-i : goal.offset_bounds-distances-i
-offset_bounds-distances-i c = omega (
+pub offset_bounds-rows-i : goal.offset_bounds-rows-i
+offset_bounds-rows-i c = omega (
   arith,
-  place_in c.args.keys.now c.args.distances.now c.args.weights.now c.args.count.now c.requires.count_value _ _
-      (told c.args.key c.args.count.now c.args.keys.now c.requires.keys_value c.find_row.ensures c.in-Some.is),
+  place_in c.args.rows.now.keys.now c.args.rows.now.distances.now c.args.rows.now.weights.now c.args.rows.now.count c.requires.count_value _ _
+      (told c.args.key c.args.rows.now.count c.args.rows.now.keys.now c.requires.keys_value c.find_row.ensures c.in-Some.is),
 )
 
-pub bounds-distances-i : goal.bounds-distances-i
-bounds-distances-i c = (place_in c.args.keys.now c.args.distances.now c.args.weights.now c.args.count.now c.requires.count_value _ _
-    (told c.args.key c.args.count.now c.args.keys.now c.requires.keys_value c.find_row.ensures c.in-Some.is)).0
+pub bounds-rows-i : goal.bounds-rows-i
+bounds-rows-i c = (place_in c.args.rows.now.keys.now c.args.rows.now.distances.now c.args.rows.now.weights.now c.args.rows.now.count c.requires.count_value _ _
+    (told c.args.key c.args.rows.now.count c.args.rows.now.keys.now c.requires.keys_value c.find_row.ensures c.in-Some.is)).0
 
-pub offset_bounds-weights-i : goal.offset_bounds-weights-i
-offset_bounds-weights-i c = omega (
+pub offset_bounds-rows-i-2 : goal.offset_bounds-rows-i-2
+offset_bounds-rows-i-2 c = omega (
   arith,
-  place_in c.args.keys.now c.args.distances.now c.args.weights.now c.args.count.now c.requires.count_value _ _
-      (told c.args.key c.args.count.now c.args.keys.now c.requires.keys_value c.find_row.ensures c.in-Some.is),
+  place_in c.args.rows.now.keys.now c.args.rows.now.distances.now c.args.rows.now.weights.now c.args.rows.now.count c.requires.count_value _ _
+      (told c.args.key c.args.rows.now.count c.args.rows.now.keys.now c.requires.keys_value c.find_row.ensures c.in-Some.is),
 )
 
-pub bounds-weights-i : goal.bounds-weights-i
-bounds-weights-i c = (place_in c.args.keys.now c.args.distances.now c.args.weights.now c.args.count.now c.requires.count_value _ _
-    (told c.args.key c.args.count.now c.args.keys.now c.requires.keys_value c.find_row.ensures c.in-Some.is)).1
+pub bounds-rows-i-2 : goal.bounds-rows-i-2
+bounds-rows-i-2 c = (place_in c.args.rows.now.keys.now c.args.rows.now.distances.now c.args.rows.now.weights.now c.args.rows.now.count c.requires.count_value _ _
+    (told c.args.key c.args.rows.now.count c.args.rows.now.keys.now c.requires.keys_value c.find_row.ensures c.in-Some.is)).1
 
 pub returns-then-not-within : goal.returns-then-not-within
 returns-then-not-within c =
     too_large _ _ _ _ _ _ _ _
-    (told c.args.key c.args.count.now c.args.keys.now c.requires.keys_value c.find_row.ensures c.in-Some.is) _ c.fused_voxel-v.ensures (no c.within.ensures (ap not c.if-not-within.true))
+    (told c.args.key c.args.rows.now.count c.args.rows.now.keys.now c.requires.keys_value c.find_row.ensures c.in-Some.is) _ c.fused_voxel-v.ensures (no c.within.ensures (ap not c.if-not-within.true))
 
-pub offset_bounds-distances-i-2 : goal.offset_bounds-distances-i-2
-offset_bounds-distances-i-2 c =
+pub offset_bounds-rows-i-3 : goal.offset_bounds-rows-i-3
+offset_bounds-rows-i-3 c =
     omega (
       arith,
-      place_in c.args.keys.now c.args.distances.now c.args.weights.now c.args.count.now c.requires.count_value _ _
-          (told c.args.key c.args.count.now c.args.keys.now c.requires.keys_value c.find_row.ensures c.in-Some.is),
+      place_in c.args.rows.now.keys.now c.args.rows.now.distances.now c.args.rows.now.weights.now c.args.rows.now.count c.requires.count_value _ _
+          (told c.args.key c.args.rows.now.count c.args.rows.now.keys.now c.requires.keys_value c.find_row.ensures c.in-Some.is),
     )
 
-pub bounds-distances-i-2 : goal.bounds-distances-i-2
-bounds-distances-i-2 c =
-    (place_in c.args.keys.now c.args.distances.now c.args.weights.now c.args.count.now c.requires.count_value _ _
-    (told c.args.key c.args.count.now c.args.keys.now c.requires.keys_value c.find_row.ensures c.in-Some.is)).0
+pub bounds-rows-i-3 : goal.bounds-rows-i-3
+bounds-rows-i-3 c =
+    (place_in c.args.rows.now.keys.now c.args.rows.now.distances.now c.args.rows.now.weights.now c.args.rows.now.count c.requires.count_value _ _
+    (told c.args.key c.args.rows.now.count c.args.rows.now.keys.now c.requires.keys_value c.find_row.ensures c.in-Some.is)).0
 
-pub offset_bounds-weights-i-2 : goal.offset_bounds-weights-i-2
-offset_bounds-weights-i-2 c =
+pub offset_bounds-rows-i-4 : goal.offset_bounds-rows-i-4
+offset_bounds-rows-i-4 c =
     omega (
       arith,
-      place_in c.args.keys.now c.args.distances.now c.args.weights.now c.args.count.now c.requires.count_value _ _
-          (told c.args.key c.args.count.now c.args.keys.now c.requires.keys_value c.find_row.ensures c.in-Some.is),
+      place_in c.args.rows.now.keys.now c.args.rows.now.distances.now c.args.rows.now.weights.now c.args.rows.now.count c.requires.count_value _ _
+          (told c.args.key c.args.rows.now.count c.args.rows.now.keys.now c.requires.keys_value c.find_row.ensures c.in-Some.is),
     )
 
-pub bounds-weights-i-2 : goal.bounds-weights-i-2
-bounds-weights-i-2 c =
-    (place_in c.args.keys.now c.args.distances.now c.args.weights.now c.args.count.now c.requires.count_value _ _
-    (told c.args.key c.args.count.now c.args.keys.now c.requires.keys_value c.find_row.ensures c.in-Some.is)).1
+pub bounds-rows-i-4 : goal.bounds-rows-i-4
+bounds-rows-i-4 c =
+    (place_in c.args.rows.now.keys.now c.args.rows.now.distances.now c.args.rows.now.weights.now c.args.rows.now.count c.requires.count_value _ _
+    (told c.args.key c.args.rows.now.count c.args.rows.now.keys.now c.requires.keys_value c.find_row.ensures c.in-Some.is)).1
 
 pub returns : goal.returns
 returns c =
-    changed _ _ _ _ _ _ _ _ (told c.args.key c.args.count.now c.args.keys.now c.requires.keys_value c.find_row.ensures c.in-Some.is) _ c.fused_voxel-v.ensures
+    changed _ _ _ _ _ _ _ _ (told c.args.key c.args.rows.now.count c.args.rows.now.keys.now c.requires.keys_value c.find_row.ensures c.in-Some.is) _ c.fused_voxel-v.ensures
     (yes c.within.ensures (ap not c.if-not-within.false)) c.requires.count_value c.requires.keys_value

@@ -19,7 +19,7 @@ own_rows-own-requires c = record {
 
 pub load_own-requires : goal.load_own-requires
 load_own-requires c =
-    let k = sound c.args.settings (table c.args.keys.now c.args.distances.now c.args.weights.now c.args.count.now) c.requires.count_value in
+    let k = sound c.args.settings (table c.args.rows.now.keys.now c.args.rows.now.distances.now c.args.rows.now.weights.now c.args.rows.now.count) c.requires.count_value in
     let few = c.own_rows-own.ensures.upper_bound.0 in record {
       count_value = k.lengths;
       keys_value = (k.order, rw length-replicate few, c.own_rows-own.ensures.upper_bound.1);
@@ -28,13 +28,13 @@ load_own-requires c =
 
 pub overflow_sub-keys : goal.overflow_sub-keys
 overflow_sub-keys c =
-    let k = sound c.args.settings (table c.args.keys.now c.args.distances.now c.args.weights.now c.args.count.now) c.requires.count_value in
-    let f = lengths_known (length c.args.keys.now) (length c.args.distances.now) (length c.args.weights.now) c.args.count.now k.lengths in
+    let k = sound c.args.settings (table c.args.rows.now.keys.now c.args.rows.now.distances.now c.args.rows.now.weights.now c.args.rows.now.count) c.requires.count_value in
+    let f = lengths_known (length c.args.rows.now.keys.now) (length c.args.rows.now.distances.now) (length c.args.rows.now.weights.now) c.args.rows.now.count k.lengths in
     omega (arith, f)
 
 pub fuse_run-ran-requires : goal.fuse_run-ran-requires
 fuse_run-ran-requires c =
-    let k = sound c.args.settings (table c.args.keys.now c.args.distances.now c.args.weights.now c.args.count.now) c.requires.count_value in
+    let k = sound c.args.settings (table c.args.rows.now.keys.now c.args.rows.now.distances.now c.args.rows.now.weights.now c.args.rows.now.count) c.requires.count_value in
     record {
       settings_value = k.settings;
       own_value = simp (
@@ -51,12 +51,12 @@ fuse_run-ran-requires c =
 
 pub overflow_add-total : goal.overflow_add-total
 overflow_add-total c =
-    let k = sound c.args.settings (table c.args.keys.now c.args.distances.now c.args.weights.now c.args.count.now) c.requires.count_value in
-    let f = lengths_known (length c.args.keys.now) (length c.args.distances.now) (length c.args.weights.now) c.args.count.now k.lengths in
+    let k = sound c.args.settings (table c.args.rows.now.keys.now c.args.rows.now.distances.now c.args.rows.now.weights.now c.args.rows.now.count) c.requires.count_value in
+    let f = lengths_known (length c.args.rows.now.keys.now) (length c.args.rows.now.distances.now) (length c.args.rows.now.weights.now) c.args.rows.now.count k.lengths in
     omega (
       arith,
-      (counted c.args.settings c.args.keys.now c.args.distances.now c.args.weights.now
-          c.args.count.now c.requires.count_value _ _ _ _ _ c.load_own.auto.seats c.own_rows-own.auto.own_keys
+      (counted c.args.settings c.args.rows.now.keys.now c.args.rows.now.distances.now c.args.rows.now.weights.now
+          c.args.rows.now.count c.requires.count_value _ _ _ _ _ c.load_own.auto.seats c.own_rows-own.auto.own_keys
           c.load_own.auto.own_distances c.load_own.auto.own_weights
           c.own_rows-own.ensures.upper_bound.0 c.own_rows-own.ensures.upper_bound.1 c.load_own.ensures _ _ _ _ _ _
           c.fuse_run-ran.ensures (omega (arith, f))).1,
@@ -65,8 +65,8 @@ overflow_add-total c =
 
 pub settle_own-requires : goal.settle_own-requires
 settle_own-requires c =
-    let k = sound c.args.settings (table c.args.keys.now c.args.distances.now c.args.weights.now c.args.count.now) c.requires.count_value in
-    let f = lengths_known (length c.args.keys.now) (length c.args.distances.now) (length c.args.weights.now) c.args.count.now k.lengths in
+    let k = sound c.args.settings (table c.args.rows.now.keys.now c.args.rows.now.distances.now c.args.rows.now.weights.now c.args.rows.now.count) c.requires.count_value in
+    let f = lengths_known (length c.args.rows.now.keys.now) (length c.args.rows.now.distances.now) (length c.args.rows.now.weights.now) c.args.rows.now.count k.lengths in
     record {
       count_value = k.lengths;
       own_value = simp (
@@ -83,8 +83,8 @@ settle_own-requires c =
         omega (arith, c.load_own.auto.seats, length-replicate {A = ℕ} 4096 0, c.own_rows-own.ensures.upper_bound.0),
         c.load_own.ensures.seats,
       );
-      total_value = counted c.args.settings c.args.keys.now c.args.distances.now c.args.weights.now
-          c.args.count.now c.requires.count_value _ _ _ _ _ c.load_own.auto.seats c.own_rows-own.auto.own_keys
+      total_value = counted c.args.settings c.args.rows.now.keys.now c.args.rows.now.distances.now c.args.rows.now.weights.now
+          c.args.rows.now.count c.requires.count_value _ _ _ _ _ c.load_own.auto.seats c.own_rows-own.auto.own_keys
           c.load_own.auto.own_distances c.load_own.auto.own_weights
           c.own_rows-own.ensures.upper_bound.0 c.own_rows-own.ensures.upper_bound.1 c.load_own.ensures _ _ _ _ _ _
           c.fuse_run-ran.ensures (omega (arith, f));
@@ -92,10 +92,10 @@ settle_own-requires c =
 
 pub returns : goal.returns
 returns c =
-    let k = sound c.args.settings (table c.args.keys.now c.args.distances.now c.args.weights.now c.args.count.now) c.requires.count_value in
-    let f = lengths_known (length c.args.keys.now) (length c.args.distances.now) (length c.args.weights.now) c.args.count.now k.lengths in
-    settled c.args.settings c.args.keys.now c.args.distances.now c.args.weights.now
-    c.args.count.now c.requires.count_value _ _ _ _ _ c.load_own.auto.seats c.own_rows-own.auto.own_keys
+    let k = sound c.args.settings (table c.args.rows.now.keys.now c.args.rows.now.distances.now c.args.rows.now.weights.now c.args.rows.now.count) c.requires.count_value in
+    let f = lengths_known (length c.args.rows.now.keys.now) (length c.args.rows.now.distances.now) (length c.args.rows.now.weights.now) c.args.rows.now.count k.lengths in
+    settled c.args.settings c.args.rows.now.keys.now c.args.rows.now.distances.now c.args.rows.now.weights.now
+    c.args.rows.now.count c.requires.count_value _ _ _ _ _ c.load_own.auto.seats c.own_rows-own.auto.own_keys
     c.load_own.auto.own_distances c.load_own.auto.own_weights
     c.own_rows-own.ensures.upper_bound.0 c.own_rows-own.ensures.upper_bound.1 c.load_own.ensures _ _ _ _ _ _
     c.fuse_run-ran.ensures (omega (arith, f)) _ _ _
