@@ -7,7 +7,7 @@ ghost use Rattle.batching.specs.Batches.{batch_outcome, batch_end, readings_take
 ghost use Rattle.batching.specs.Read.{entries_in, OneLength};
 ghost use Rattle.batching.specs.Steps.{far_up_to};
 ghost use Rattle.owning.specs.Runs.{RunTo};
-ghost use Rattle.table.specs.Read.{table_in};
+ghost use Rattle.table.specs.Read.{same_lists, table_in};
 
 use batching::{Batched, Counts, Ending, Readings, RefusedReading, batched_of, readings_taken};
 use floats::Metres;
@@ -31,10 +31,11 @@ fn batch_one(settings: Settings, rows: &mut RowsMut, readings: &Readings, from: 
     requires count_value { table_check settings (table_in rows.old) ≡ (Ok tt) }
     requires from_in_bounds { from < length readings.now.keys.now }
     requires batch_distances_len { OneLength readings.now }
-    ensures { RunTo settings
+    ensures table_after { RunTo settings
         (table_in rows.old)
         (entries_in readings.now) from
         (from + 1) result (table_in rows.new) }
+    ensures same_lists { same_lists rows.old rows.new }
 {
     let key = readings.keys[from];
     let reading = Reading::Direct {
@@ -62,10 +63,11 @@ fn batch_step(settings: Settings, rows: &mut RowsMut, readings: &Readings, from:
     requires count_value { table_check settings (table_in rows.old) ≡ (Ok tt) }
     requires from_in_bounds { from < length readings.now.keys.now }
     requires batch_distances_len { OneLength readings.now }
-    ensures { RunTo settings
+    ensures table_after { RunTo settings
         (table_in rows.old)
         (entries_in readings.now) from
         (from + 1) result (table_in rows.new) }
+    ensures same_lists { same_lists rows.old rows.new }
 {
     if readings.keys.len() - from >= MANY {
         let run = batch_run(settings, rows, readings, from);
@@ -87,6 +89,7 @@ fn batch_sound(settings: Settings, rows: &mut RowsMut, readings: &Readings) -> W
     ensures far_value { result.far ≡ far_up_to settings
         (entries_in readings.now)
         (readings_taken result.ending (length readings.now.keys.now)) }
+    ensures same_lists { same_lists rows.old rows.new }
 {
     let mut far = 0;
     let mut i = 0;
@@ -127,10 +130,11 @@ fn counts_of(before: usize, after: usize, taken: usize, far: usize) -> Counts
 
 // A batch of direct readings. A refusal ends it; the readings before it stand, and are counted.
 pub fn batch_update(settings: Settings, rows: &mut RowsMut, readings: &Readings) -> Batched
-    ensures { batch_outcome result (table_in rows.new)
+    ensures table_after { batch_outcome result (table_in rows.new)
         ≡ batch settings
         (table_in rows.old)
         readings.now.keys.now readings.now.distances.now readings.now.confidences.now }
+    ensures same_lists { same_lists rows.old rows.new }
 {
     let many = readings.keys.len();
     let fits = lengths_ok(
@@ -140,10 +144,18 @@ pub fn batch_update(settings: Settings, rows: &mut RowsMut, readings: &Readings)
         0,
     );
     let before = rows.count;
+    let keys = &mut *rows.keys;
+    let distances = &mut *rows.distances;
+    let weights = &mut *rows.weights;
     check_with(
         fits,
         settings,
-        &Rows { keys: rows.keys, distances: rows.distances, weights: rows.weights, count: before },
+        &Rows {
+            keys,
+            distances,
+            weights,
+            count: before,
+        },
     )?;
     let went = batch_sound(settings, rows, readings);
     let taken = readings_taken(went.ending, many);

@@ -61,7 +61,7 @@ pub fuse_sound_determined :
     × (s.1.0.now.distances.now ≡ s'.1.0.now.distances.now)
     × (s.1.0.now.weights.now ≡ s'.1.0.now.weights.now)
     × (s.1.0.now.count ≡ s'.1.0.now.count)
-fuse_sound_determined κs a r r' s s' p q = effect_parts (p ∙ sym q)
+fuse_sound_determined κs a r r' s s' p q = effect_parts (p.0 ∙ sym q.0)
 
 pub fuse_determined :
     (κs : _) (a : _) (r r' : _) (s s' : _)
@@ -72,7 +72,7 @@ pub fuse_determined :
     × (s.1.0.now.distances.now ≡ s'.1.0.now.distances.now)
     × (s.1.0.now.weights.now ≡ s'.1.0.now.weights.now)
     × (s.1.0.now.count ≡ s'.1.0.now.count)
-fuse_determined κs a r r' s s' p q = parts (p ∙ sym q)
+fuse_determined κs a r r' s s' p q = parts (p.0 ∙ sym q.0)
 
 pub update_from_depth_determined :
     (κs : _) (a : _) (r r' : _) (s s' : _)
@@ -83,7 +83,7 @@ pub update_from_depth_determined :
     × (s.1.0.now.distances.now ≡ s'.1.0.now.distances.now)
     × (s.1.0.now.weights.now ≡ s'.1.0.now.weights.now)
     × (s.1.0.now.count ≡ s'.1.0.now.count)
-update_from_depth_determined κs a r r' s s' p q = parts (p ∙ sym q)
+update_from_depth_determined κs a r r' s s' p q = parts (p.0 ∙ sym q.0)
 
 pub update_from_depth_ray_determined :
     (κs : _) (a : _) (r r' : _) (s s' : _)
@@ -94,4 +94,4 @@ pub update_from_depth_ray_determined :
     × (s.1.0.now.distances.now ≡ s'.1.0.now.distances.now)
     × (s.1.0.now.weights.now ≡ s'.1.0.now.weights.now)
     × (s.1.0.now.count ≡ s'.1.0.now.count)
-update_from_depth_ray_determined κs a r r' s s' p q = parts (p ∙ sym q)
+update_from_depth_ray_determined κs a r r' s s' p q = parts (p.0 ∙ sym q.0)

@@ -5,7 +5,7 @@ ghost use Rattle.std.specs.Prelude.{◌≡◌, true, length, take, Ok, None};
 ghost use Rattle.search.specs.Keys.{find, ascending};
 ghost use Rattle.table.specs.Table.{table, lengths_ok, table_check};
 ghost use Rattle.fusing.specs.Fusing.{outcome, effect, averaging_of, new_weight, fused_voxel, fused_near, effect_of, kind_of, fuse};
-ghost use Rattle.table.specs.Read.{table_in};
+ghost use Rattle.table.specs.Read.{same_lists, table_in};
 
 use floats::{Metres, smaller, within};
 use lists::insert;
@@ -78,8 +78,9 @@ fn add_row(how: Averaging, rows: &mut RowsMut, key: u64, m: Measured) -> Result<
     requires count_value { lengths_ok (length rows.old.keys.now) (length rows.old.distances.now) (length rows.old.weights.now) rows.old.count ≡ true }
     requires keys_value { ascending (take rows.old.count rows.old.keys.now) ≡ true }
     requires keys_value_2 { find key (take rows.old.count rows.old.keys.now) ≡ None }
-    ensures { effect result (table_in rows.new)
+    ensures table_after { effect result (table_in rows.new)
         ≡ fused_near how (table_in rows.old) key m }
+    ensures same_lists { same_lists rows.old rows.new }
 {
     let n = rows.count;
     let keys = &mut *rows.keys;
@@ -109,8 +110,9 @@ fn add_row(how: Averaging, rows: &mut RowsMut, key: u64, m: Measured) -> Result<
 fn fuse_near(how: Averaging, rows: &mut RowsMut, key: u64, m: Measured) -> Result<Step, Refusal>
     requires count_value { lengths_ok (length rows.old.keys.now) (length rows.old.distances.now) (length rows.old.weights.now) rows.old.count ≡ true }
     requires keys_value { ascending (take rows.old.count rows.old.keys.now) ≡ true }
-    ensures { effect result (table_in rows.new)
+    ensures table_after { effect result (table_in rows.new)
         ≡ fused_near how (table_in rows.old) key m }
+    ensures same_lists { same_lists rows.old rows.new }
 {
     let n = rows.count;
     let keys = &mut *rows.keys;
@@ -139,8 +141,9 @@ pub fn fuse_sound(
     reading: Reading,
 ) -> Result<Step, Refusal>
     requires { table_check settings (table_in rows.old) ≡ (Ok tt) }
-    ensures { effect result (table_in rows.new)
+    ensures table_after { effect result (table_in rows.new)
         ≡ effect_of settings (table_in rows.old) key reading }
+    ensures same_lists { same_lists rows.old rows.new }
 {
     let Some(near) = admit(settings, key, reading)? else {
         return Ok(Step::Far);
@@ -169,8 +172,9 @@ pub fn fuse(
     key: u64,
     reading: Reading,
 ) -> Result<Fused, Refusal>
-    ensures { outcome result (table_in rows.new)
+    ensures table_after { outcome result (table_in rows.new)
         ≡ fuse settings (table_in rows.old) key reading }
+    ensures same_lists { same_lists rows.old rows.new }
 {
     let count = rows.count;
     let keys = &mut *rows.keys;
@@ -197,9 +201,10 @@ pub fn update_from_depth(
     distance: Metres,
     confidence: f32,
 ) -> Result<Fused, Refusal>
-    ensures { outcome result (table_in rows.new)
+    ensures table_after { outcome result (table_in rows.new)
         ≡ fuse settings (table_in rows.old)
         key (Reading.Direct distance confidence) }
+    ensures same_lists { same_lists rows.old rows.new }
 {
     let reading = Reading::Direct {
         distance,
@@ -219,9 +224,10 @@ pub fn update_from_depth_ray(
     depth: Metres,
     confidence: f32,
 ) -> Result<Fused, Refusal>
-    ensures { outcome result (table_in rows.new)
+    ensures table_after { outcome result (table_in rows.new)
         ≡ fuse settings (table_in rows.old)
         key (Reading.Ray sensor_x sensor_y sensor_z depth confidence) }
+    ensures same_lists { same_lists rows.old rows.new }
 {
     let reading = Reading::Ray {
         x: sensor_x,

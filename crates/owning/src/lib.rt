@@ -10,7 +10,7 @@ ghost use Rattle.batching.specs.Read.{entries_in, OneLength};
 ghost use Rattle.sorting.specs.Sorting.{Numbered};
 ghost use Rattle.batching.specs.Steps.{is_far};
 ghost use Rattle.owning.specs.Runs.{old_voxel, Placed, Stepped, passed_far, OwnSlots, RanTo, RunTo};
-ghost use Rattle.table.specs.Read.{table_in, table_of};
+ghost use Rattle.table.specs.Read.{same_lists, table_in, table_of};
 
 use batching::{Readings, RefusedReading};
 use floats::{Metres, between, within};
@@ -314,10 +314,11 @@ pub fn batch_run(settings: Settings, rows: &mut RowsMut, readings: &Readings, fr
     requires count_value { table_check settings (table_in rows.old) ≡ (Ok tt) }
     requires from_in_bounds { from ≤ length readings.now.keys.now }
     requires batch_distances_len { OneLength readings.now }
-    ensures { RunTo settings
+    ensures table_after { RunTo settings
         (table_in rows.old)
         (entries_in readings.now) from from
         result (table_in rows.new) }
+    ensures same_lists { same_lists rows.old rows.new }
 {
     let to = end_of(readings.keys.len(), from);
     // Lists of a fixed length, not `Vec`: no call takes memory.
@@ -327,9 +328,17 @@ pub fn batch_run(settings: Settings, rows: &mut RowsMut, readings: &Readings, fr
     let mut slots = [0u16; 4096];
     let mut seats = [0u32; 4096];
     let n = rows.count;
+    let keys = &mut *rows.keys;
+    let distances = &mut *rows.distances;
+    let weights = &mut *rows.weights;
     let own = own_rows(&mut own_keys, &mut slots, readings.keys, from, to);
     load_own(
-        &Rows { keys: rows.keys, distances: rows.distances, weights: rows.weights, count: n },
+        &Rows {
+            keys,
+            distances,
+            weights,
+            count: n,
+        },
         &own_keys,
         &mut own_distances,
         &mut own_weights,
@@ -343,7 +352,7 @@ pub fn batch_run(settings: Settings, rows: &mut RowsMut, readings: &Readings, fr
         &mut own_weights,
         own,
         &slots,
-        rows.keys.len() - n,
+        keys.len() - n,
         readings,
         from,
         to,
@@ -352,9 +361,9 @@ pub fn batch_run(settings: Settings, rows: &mut RowsMut, readings: &Readings, fr
     let total = n + ran.added;
     settle_own(
         settings.max_weight,
-        rows.keys,
-        rows.distances,
-        rows.weights,
+        keys,
+        distances,
+        weights,
         n,
         &own_keys,
         &own_distances,

@@ -5,16 +5,16 @@ use Rattle.lists.proofs.Bools.{yes, no}
 use Rattle.fusing.proofs.Storing.{no_place, too_large_new, added}
 use Rattle.fusing.proofs.add_row.Goals as goal
 
-pub returns-then-keys-n : goal.returns-then-keys-n
-returns-then-keys-n c = no_place _ _ _ _ _ _ _ c.requires.keys_value_2 c.if-keys-n.true
+pub returns-then-keys-n-clause-table_after : goal.returns-then-keys-n-clause-table_after
+returns-then-keys-n-clause-table_after c = no_place _ _ _ _ _ _ _ c.requires.keys_value_2 c.if-keys-n.true
 
-pub returns-then-not-within : goal.returns-then-not-within
-returns-then-not-within c =
+pub returns-then-not-within-clause-table_after : goal.returns-then-not-within-clause-table_after
+returns-then-not-within-clause-table_after c =
     too_large_new _ _ _ _ _ _ _ c.requires.keys_value_2 c.if-keys-n.false _
     c.fused_voxel-v.ensures (no c.within.ensures (ap not c.if-not-within.true))
 
-pub returns : goal.returns
-returns c =
+pub returns-clause-table_after : goal.returns-clause-table_after
+returns-clause-table_after c =
     added _ _ _ _ _ _ _ c.requires.keys_value_2 c.if-keys-n.false _
     c.fused_voxel-v.ensures (yes c.within.ensures (ap not c.if-not-within.false)) c.requires.count_value
     c.requires.keys_value

@@ -48,8 +48,8 @@ pub bounds-rows-i-2 : goal.bounds-rows-i-2
 bounds-rows-i-2 c = (place_in c.args.rows.now.keys.now c.args.rows.now.distances.now c.args.rows.now.weights.now c.args.rows.now.count c.requires.count_value _ _
     (told c.args.key c.args.rows.now.count c.args.rows.now.keys.now c.requires.keys_value c.find_row.ensures c.in-Some.is)).1
 
-pub returns-then-not-within : goal.returns-then-not-within
-returns-then-not-within c =
+pub returns-then-not-within-clause-table_after : goal.returns-then-not-within-clause-table_after
+returns-then-not-within-clause-table_after c =
     too_large _ _ _ _ _ _ _ _
     (told c.args.key c.args.rows.now.count c.args.rows.now.keys.now c.requires.keys_value c.find_row.ensures c.in-Some.is) _ c.fused_voxel-v.ensures (no c.within.ensures (ap not c.if-not-within.true))
 
@@ -79,7 +79,7 @@ bounds-rows-i-4 c =
     (place_in c.args.rows.now.keys.now c.args.rows.now.distances.now c.args.rows.now.weights.now c.args.rows.now.count c.requires.count_value _ _
     (told c.args.key c.args.rows.now.count c.args.rows.now.keys.now c.requires.keys_value c.find_row.ensures c.in-Some.is)).1
 
-pub returns : goal.returns
-returns c =
+pub returns-clause-table_after : goal.returns-clause-table_after
+returns-clause-table_after c =
     changed _ _ _ _ _ _ _ _ (told c.args.key c.args.rows.now.count c.args.rows.now.keys.now c.requires.keys_value c.find_row.ensures c.in-Some.is) _ c.fused_voxel-v.ensures
     (yes c.within.ensures (ap not c.if-not-within.false)) c.requires.count_value c.requires.keys_value

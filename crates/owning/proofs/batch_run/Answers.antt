@@ -90,8 +90,8 @@ settle_own-requires c =
           c.fuse_run-ran.ensures (omega (arith, f));
     }
 
-pub returns : goal.returns
-returns c =
+pub returns-clause-table_after : goal.returns-clause-table_after
+returns-clause-table_after c =
     let k = sound c.args.settings (table c.args.rows.now.keys.now c.args.rows.now.distances.now c.args.rows.now.weights.now c.args.rows.now.count) c.requires.count_value in
     let f = lengths_known (length c.args.rows.now.keys.now) (length c.args.rows.now.distances.now) (length c.args.rows.now.weights.now) c.args.rows.now.count k.lengths in
     settled c.args.settings c.args.rows.now.keys.now c.args.rows.now.distances.now c.args.rows.now.weights.now
