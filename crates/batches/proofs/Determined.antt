@@ -26,8 +26,8 @@ pub batch_update_determined :
     → batch_update.Post κs a r s
     → batch_update.Post κs a r' s'
     → (r ≡ r')
-    × (s.1.0.now ≡ s'.1.0.now)
-    × (s.1.1.0.now ≡ s'.1.1.0.now)
-    × (s.1.1.1.0.now ≡ s'.1.1.1.0.now)
-    × (s.1.1.1.1.0.now ≡ s'.1.1.1.1.0.now)
-batch_update_determined κs a r r' s s' p q = batch_parts (p ∙ sym q)
+    × (s.1.0.now.keys.now ≡ s'.1.0.now.keys.now)
+    × (s.1.0.now.distances.now ≡ s'.1.0.now.distances.now)
+    × (s.1.0.now.weights.now ≡ s'.1.0.now.weights.now)
+    × (s.1.0.now.count ≡ s'.1.0.now.count)
+batch_update_determined κs a r r' s s' p q = batch_parts (p.0 ∙ sym q.0)

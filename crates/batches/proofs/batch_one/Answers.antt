@@ -14,9 +14,9 @@ use Rattle.batching.proofs.Batching.{stops, goes_on, far_here, near_here, passes
 use borrow.Author.Rules.{rules}
 use Rattle.batches.proofs.batch_one.Goals as goal
 
-pub returns-in-Err : goal.returns-in-Err
+pub returns-in-Err-clause-table_after : goal.returns-in-Err-clause-table_after
 unfolding RunLeft
-returns-in-Err c =
+returns-in-Err-clause-table_after c =
     let a = c.args in
     let t = table a.rows.now.keys.now a.rows.now.distances.now a.rows.now.weights.now a.rows.now.count in
     let ks = a.readings.now.keys.now in
@@ -24,14 +24,14 @@ returns-in-Err c =
     let cs = a.readings.now.confidences.now in
     let len = c.requires.batch_distances_len in
     let h : a.from < length ks = c.requires.from_in_bounds in (
-      stops a.settings t ks ds cs a.from len.0 len.1 h _ _ c.fuse_sound.ensures _ c.in-Err.is,
-      passes_again a.settings t ks ds cs a.from len.0 len.1 h _ _ c.fuse_sound.ensures c.requires.count_value,
+      stops a.settings t ks ds cs a.from len.0 len.1 h _ _ c.fuse_sound.ensures.table_after _ c.in-Err.is,
+      passes_again a.settings t ks ds cs a.from len.0 len.1 h _ _ c.fuse_sound.ensures.table_after c.requires.count_value,
       sym (add-zero _),
     )
 
-pub returns-in-Ok-Far : goal.returns-in-Ok-Far
+pub returns-in-Ok-Far-clause-table_after : goal.returns-in-Ok-Far-clause-table_after
 unfolding RunLeft
-returns-in-Ok-Far c =
+returns-in-Ok-Far-clause-table_after c =
     let a = c.args in
     let t = table a.rows.now.keys.now a.rows.now.distances.now a.rows.now.weights.now a.rows.now.count in
     let ks = a.readings.now.keys.now in
@@ -40,17 +40,17 @@ returns-in-Ok-Far c =
     let len = c.requires.batch_distances_len in
     let h : a.from < length ks = c.requires.from_in_bounds in (
       (
-        goes_on a.settings t ks ds cs a.from len.0 len.1 h _ _ c.fuse_sound.ensures _ c.in-Ok-Far.is,
+        goes_on a.settings t ks ds cs a.from len.0 len.1 h _ _ c.fuse_sound.ensures.table_after _ c.in-Ok-Far.is,
         omega arith,
         rw (by_length entry ks ds cs len.0 len.1) (omega arith),
       ),
-      passes_again a.settings t ks ds cs a.from len.0 len.1 h _ _ c.fuse_sound.ensures c.requires.count_value,
-      far_here a.settings t ks ds cs a.from len.0 len.1 h _ _ c.fuse_sound.ensures c.requires.count_value (c.in-Ok-Far.is ∙ ap Ok c.in-Ok-Far.field-0-is),
+      passes_again a.settings t ks ds cs a.from len.0 len.1 h _ _ c.fuse_sound.ensures.table_after c.requires.count_value,
+      far_here a.settings t ks ds cs a.from len.0 len.1 h _ _ c.fuse_sound.ensures.table_after c.requires.count_value (c.in-Ok-Far.is ∙ ap Ok c.in-Ok-Far.field-0-is),
     )
 
-pub returns-in-Ok : goal.returns-in-Ok
+pub returns-in-Ok-clause-table_after : goal.returns-in-Ok-clause-table_after
 unfolding RunLeft
-returns-in-Ok c =
+returns-in-Ok-clause-table_after c =
     let a = c.args in
     let t = table a.rows.now.keys.now a.rows.now.distances.now a.rows.now.weights.now a.rows.now.count in
     let ks = a.readings.now.keys.now in
@@ -59,10 +59,10 @@ returns-in-Ok c =
     let len = c.requires.batch_distances_len in
     let h : a.from < length ks = c.requires.from_in_bounds in (
       (
-        goes_on a.settings t ks ds cs a.from len.0 len.1 h _ _ c.fuse_sound.ensures _ c.in-Ok.is,
+        goes_on a.settings t ks ds cs a.from len.0 len.1 h _ _ c.fuse_sound.ensures.table_after _ c.in-Ok.is,
         omega arith,
         rw (by_length entry ks ds cs len.0 len.1) (omega arith),
       ),
-      passes_again a.settings t ks ds cs a.from len.0 len.1 h _ _ c.fuse_sound.ensures c.requires.count_value,
-      near_here a.settings t ks ds cs a.from len.0 len.1 h _ _ c.fuse_sound.ensures c.requires.count_value _ c.in-Ok.is (search rules),
+      passes_again a.settings t ks ds cs a.from len.0 len.1 h _ _ c.fuse_sound.ensures.table_after c.requires.count_value,
+      near_here a.settings t ks ds cs a.from len.0 len.1 h _ _ c.fuse_sound.ensures.table_after c.requires.count_value _ c.in-Ok.is (search rules),
     )

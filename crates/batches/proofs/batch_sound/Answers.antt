@@ -30,46 +30,53 @@ more_far m p q = rw p (sym q)
 
 pub loop-i-init : goal.loop-i-init
 unfolding far_up_to
-loop-i-init c = (search rules, c.requires.count_value, refl, refl, refl, refl, refl)
+loop-i-init c = (search rules, c.requires.count_value, refl, (refl, refl, refl), refl)
 
 pub overflow_add-far : goal.overflow_add-far
 overflow_add-far c =
     let r = c.args.readings.now in
     omega (
       arith,
-      c.loop-i.invariant.6,
-      c.batch_step-run.ensures.2,
+      c.loop-i.invariant.4,
+      c.batch_step-run.ensures.table_after.2,
       few c.args.settings r.keys.now r.distances.now r.confidences.now c.requires.batch_distances_len.0 c.requires.batch_distances_len.1
           (left_off c.batch_step-run.result.end),
     )
 
 pub returns-in-Err : goal.returns-in-Err
 returns-in-Err c =
-    let r = run_stops _ _ _ _ _ _ _ c.batch_step-run.ensures _ c.in-Err.is in
+    let r = run_stops _ _ _ _ _ _ _ c.batch_step-run.ensures.table_after _ c.in-Err.is in
     record {
       count_after = sym (c.loop-i.invariant.2 ∙ r.0);
-      far_value = more_far c.batch_step-run.result.far c.loop-i.invariant.6 r.1;
+      far_value = more_far c.batch_step-run.result.far c.loop-i.invariant.4 r.1;
+      same_lists = (
+        c.batch_step-run.ensures.same_lists.0 ∙ c.loop-i.invariant.3.0,
+        c.batch_step-run.ensures.same_lists.1 ∙ c.loop-i.invariant.3.1,
+        c.batch_step-run.ensures.same_lists.2 ∙ c.loop-i.invariant.3.2,
+      );
     }
 
 pub loop-i-smaller : goal.loop-i-smaller
 loop-i-smaller c =
     let a = c.args.readings.now in
     let n = by_length entry a.keys.now a.distances.now a.confidences.now c.requires.batch_distances_len.0 c.requires.batch_distances_len.1 in
-    let r = run_goes _ _ _ _ _ _ _ c.batch_step-run.ensures _ c.in-Ok.is in
+    let r = run_goes _ _ _ _ _ _ _ c.batch_step-run.ensures.table_after _ c.in-Ok.is in
     omega (arith, n, r.1, r.2, c.loop-i-test.true)
 
 pub loop-i-preserved : goal.loop-i-preserved
 loop-i-preserved c =
     let a = c.args.readings.now in
     let n = by_length entry a.keys.now a.distances.now a.confidences.now c.requires.batch_distances_len.0 c.requires.batch_distances_len.1 in
-    let r = run_goes _ _ _ _ _ _ _ c.batch_step-run.ensures _ c.in-Ok.is in (
+    let r = run_goes _ _ _ _ _ _ _ c.batch_step-run.ensures.table_after _ c.in-Ok.is in (
       omega (arith, n, r.2),
-      c.batch_step-run.ensures.1,
+      c.batch_step-run.ensures.table_after.1,
       c.loop-i.invariant.2 ∙ r.0,
-      c.batch_step-run.auto.keys ∙ c.loop-i.invariant.3,
-      c.batch_step-run.auto.distances ∙ c.loop-i.invariant.4,
-      c.batch_step-run.auto.weights ∙ c.loop-i.invariant.5,
-      more_far c.batch_step-run.result.far c.loop-i.invariant.6 r.3,
+      (
+        c.batch_step-run.ensures.same_lists.0 ∙ c.loop-i.invariant.3.0,
+        c.batch_step-run.ensures.same_lists.1 ∙ c.loop-i.invariant.3.1,
+        c.batch_step-run.ensures.same_lists.2 ∙ c.loop-i.invariant.3.2,
+      ),
+      more_far c.batch_step-run.result.far c.loop-i.invariant.4 r.3,
     )
 
 pub returns : goal.returns
@@ -79,5 +86,6 @@ returns c =
       count_after = sym (c.loop-i.invariant.2
           ∙ ended c.args.settings _ a.keys.now a.distances.now a.confidences.now
           c.loop-i.i c.loop-i-test.false);
-      far_value = c.loop-i.invariant.6 ∙ ap (far_up_to c.args.settings (entries_in a)) all;
+      far_value = c.loop-i.invariant.4 ∙ ap (far_up_to c.args.settings (entries_in a)) all;
+      same_lists = c.loop-i.invariant.3;
     }

@@ -24,14 +24,14 @@ moved : (g : RefusedReading → RefusedReading → Bool) (e : Result ℕ Refused
 moved g (Ok i) n h e = let same : i ≡ n = cc in let wrong : false ≡ true = rw (eq-eqb i n same) at h in cc
 moved g (Err refused) n h e = cc
 
-pub returns-then-ne : goal.returns-then-ne
-returns-then-ne c = went_on _ _ _ _ _ _ c.batch_run-run.ensures (moved _ _ _ (sym c.ne.ensures ∙ c.if-ne.true))
+pub returns-then-ne-clause-table_after : goal.returns-then-ne-clause-table_after
+returns-then-ne-clause-table_after c = went_on _ _ _ _ _ _ c.batch_run-run.ensures.table_after (moved _ _ _ (sym c.ne.ensures ∙ c.if-ne.true))
 
-pub returns : goal.returns
-returns c =
+pub returns-clause-table_after : goal.returns-clause-table_after
+returns-clause-table_after c =
     elim c.if-readings-from-ge-MANY.branch [
       | then-readings-from-ge-MANY+else-ne w ↦
-          then_runs _ _ _ _ _ _ w.batch_run-run.ensures (stayed _ _ _ (sym w.ne.ensures ∙ w.if-ne.false)) _ _
-          (rw (w.keys-is, w.distances-is, w.weights-is, w.count-is) at c.batch_one.ensures)
-      | else-readings-from-ge-MANY w ↦ rw (w.keys-is, w.distances-is, w.weights-is, w.count-is) at c.batch_one.ensures
+          then_runs _ _ _ _ _ _ w.batch_run-run.ensures.table_after (stayed _ _ _ (sym w.ne.ensures ∙ w.if-ne.false)) _ _
+          (rw w.rows-is at c.batch_one.ensures.table_after)
+      | else-readings-from-ge-MANY w ↦ rw w.rows-is at c.batch_one.ensures.table_after
     ]

@@ -35,15 +35,15 @@ counts_of-counts-requires c =
     c.batch_sound-went.ensures.far_value in
     (n.0, n.1)
 
-pub returns-in_err-check_with : goal.returns-in_err-check_with
+pub returns-in_err-check_with-clause-table_after : goal.returns-in_err-check_with-clause-table_after
 unfolding batch batch_if
-returns-in_err-check_with c =
+returns-in_err-check_with-clause-table_after c =
     let p = err_from_is_err_and c.from_residual.result c.from_residual.ensures.1 in
     rw (p.1, p.2, ← c.lengths_ok-fits.ensures, ← c.check_with.ensures, c.in_err-check_with.was)
 
-pub returns : goal.returns
+pub returns-clause-table_after : goal.returns-clause-table_after
 unfolding batch batch_if
-returns c =
+returns-clause-table_after c =
     let p = with_passed _ _ _ (sym c.check_with.ensures ∙ c.in_ok-check_with.was) in
     let k = lengths_known _ _ _ _ (sym c.lengths_ok-fits.ensures ∙ p.0) in
     let n =
