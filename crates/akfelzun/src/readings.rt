@@ -8,7 +8,7 @@ ghost use Rattle.answers.specs.Readings.{direct_reading, ray_reading, fuse_back,
 use answers::readings::{batch_back, fused_number};
 use batching::Readings;
 use floats::Metres;
-use table::settings_of;
+use table::{RowsMut, settings_of};
 
 #[unsafe(no_mangle)]
 pub extern "C" fn akf_update_from_depth(
@@ -31,16 +31,14 @@ pub extern "C" fn akf_update_from_depth(
         (direct_reading distance confidence)) }
 {
     let settings = settings_of(truncation, max_weight, voxel_size, max_distance);
-    let fused = fusing::update_from_depth(
-        settings,
+    let mut rows = RowsMut {
         keys,
         distances,
         weights,
-        count,
-        key,
-        Metres(distance),
-        confidence,
-    );
+        count: *count,
+    };
+    let fused = fusing::update_from_depth(settings, &mut rows, key, Metres(distance), confidence);
+    *count = rows.count;
     fused_number(fused)
 }
 
@@ -68,12 +66,15 @@ pub extern "C" fn akf_update_from_depth_ray(
         (ray_reading sensor_x sensor_y sensor_z depth confidence)) }
 {
     let settings = settings_of(truncation, max_weight, voxel_size, max_distance);
-    let fused = fusing::update_from_depth_ray(
-        settings,
+    let mut rows = RowsMut {
         keys,
         distances,
         weights,
-        count,
+        count: *count,
+    };
+    let fused = fusing::update_from_depth_ray(
+        settings,
+        &mut rows,
         key,
         Metres(sensor_x),
         Metres(sensor_y),
@@ -81,6 +82,7 @@ pub extern "C" fn akf_update_from_depth_ray(
         Metres(depth),
         confidence,
     );
+    *count = rows.count;
     fused_number(fused)
 }
 
@@ -110,18 +112,22 @@ pub extern "C" fn akf_batch_update(
         batch_keys.now batch_distances.now batch_confidences.now) }
 {
     let settings = settings_of(truncation, max_weight, voxel_size, max_distance);
-    let batched = batches::batch_update(
-        settings,
+    let mut rows = RowsMut {
         keys,
         distances,
         weights,
-        count,
+        count: *count,
+    };
+    let batched = batches::batch_update(
+        settings,
+        &mut rows,
         &Readings {
             keys: batch_keys,
             distances: batch_distances,
             confidences: batch_confidences,
         },
     );
+    *count = rows.count;
     let back = batch_back(batched);
     let counts = back.counts;
     *added = counts.added;

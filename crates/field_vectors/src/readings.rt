@@ -2,6 +2,7 @@
 use floats::Metres;
 use fusing::Fused;
 use refusals::Refusal;
+use table::RowsMut;
 use vectors::{Field, Line, float, same};
 
 // The number of an answer: 0 where a row is stored, new or changed, since the Rust does not tell which; that of a refusal is no vector's.
@@ -27,28 +28,35 @@ fn row_is(field: Field, key: u64, distance: u64, weight: u64) -> bool {
 
 // The field after a direct reading, and whether its answer and row came out again.
 fn with_direct(mut field: Field, words: [u64; 16]) -> (Field, bool) {
+    let mut rows = RowsMut {
+        keys: &mut field.keys,
+        distances: &mut field.distances,
+        weights: &mut field.weights,
+        count: field.rows,
+    };
     let fused = fusing::update_from_depth(
         field.settings,
-        &mut field.keys,
-        &mut field.distances,
-        &mut field.weights,
-        &mut field.rows,
+        &mut rows,
         words[0],
         Metres(float(words[1])),
         float(words[2]),
     );
+    field.rows = rows.count;
     let agrees = fused_number(fused) == words[3] && row_is(field, words[0], words[4], words[5]);
     (field, agrees)
 }
 
 // The field after a ray's reading, and whether its answer and row came out again.
 fn with_ray(mut field: Field, words: [u64; 16]) -> (Field, bool) {
+    let mut rows = RowsMut {
+        keys: &mut field.keys,
+        distances: &mut field.distances,
+        weights: &mut field.weights,
+        count: field.rows,
+    };
     let fused = fusing::update_from_depth_ray(
         field.settings,
-        &mut field.keys,
-        &mut field.distances,
-        &mut field.weights,
-        &mut field.rows,
+        &mut rows,
         words[0],
         Metres(float(words[1])),
         Metres(float(words[2])),
@@ -56,6 +64,7 @@ fn with_ray(mut field: Field, words: [u64; 16]) -> (Field, bool) {
         Metres(float(words[4])),
         float(words[5]),
     );
+    field.rows = rows.count;
     let agrees = fused_number(fused) == words[6] && row_is(field, words[0], words[7], words[8]);
     (field, agrees)
 }

@@ -15,7 +15,7 @@ use fusing::Fused;
 use ids::Cells;
 use lines::Line;
 use refusals::Refusal;
-use table::{Rows, Settings, settings_of};
+use table::{Rows, RowsMut, Settings, settings_of};
 
 // Where the run stands after a line: the settings, where P came, how many bytes the line prints, and whether the run goes on.
 #[derive(Clone, Copy)]
@@ -84,16 +84,21 @@ fn take_reading(
         ≡ reading_of settings (table keys.old distances.old weights.old count.old) x y z distance confidence }
 {
     let (key, distance, confidence) = read_cell(x, y, z, distance, confidence)?;
-    fusing::update_from_depth(
-        settings,
+    let mut rows = RowsMut {
         keys,
         distances,
         weights,
-        count,
+        count: *count,
+    };
+    let fused = fusing::update_from_depth(
+        settings,
+        &mut rows,
         key,
         Metres(distance),
         confidence,
-    )
+    );
+    *count = rows.count;
+    fused
 }
 
 // A line for each of `n` vertices, from the place `at` on.

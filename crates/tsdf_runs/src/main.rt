@@ -7,7 +7,7 @@ use floats::Metres;
 use fusing::Fused;
 use refusals::Refusal;
 use std::io;
-use table::{Settings, settings_of};
+use table::{RowsMut, Settings, settings_of};
 
 // A fused table in so many places, under its settings.
 #[derive(Drop)]
@@ -32,48 +32,57 @@ impl<const ROOM: usize> Field<ROOM> {
 
     // A direct reading of the cell 7, at 10.
     fn take_direct(&mut self) -> Result<Fused, Refusal> {
-        fusing::update_from_depth(
-            self.settings,
-            &mut self.keys,
-            &mut self.distances,
-            &mut self.weights,
-            &mut self.count,
-            7,
-            Metres(10.0),
-            1.0,
-        )
+        let mut rows = RowsMut {
+            keys: &mut self.keys,
+            distances: &mut self.distances,
+            weights: &mut self.weights,
+            count: self.count,
+        };
+        let fused = fusing::update_from_depth(self.settings, &mut rows, 7, Metres(10.0), 1.0);
+        self.count = rows.count;
+        fused
     }
 
     // A ray from (1, 1, 5) to the cell 7, at (1, 1, 1), seen at a depth.
     fn take_ray(&mut self, depth: f32) -> Result<Fused, Refusal> {
-        fusing::update_from_depth_ray(
+        let mut rows = RowsMut {
+            keys: &mut self.keys,
+            distances: &mut self.distances,
+            weights: &mut self.weights,
+            count: self.count,
+        };
+        let fused = fusing::update_from_depth_ray(
             self.settings,
-            &mut self.keys,
-            &mut self.distances,
-            &mut self.weights,
-            &mut self.count,
+            &mut rows,
             7,
             Metres(1.0),
             Metres(1.0),
             Metres(5.0),
             Metres(depth),
             1.0,
-        )
+        );
+        self.count = rows.count;
+        fused
     }
 
     fn take_batch(&mut self, keys: &[u64], distances: &[f32], confidences: &[f32]) -> Batched {
-        batches::batch_update(
+        let mut rows = RowsMut {
+            keys: &mut self.keys,
+            distances: &mut self.distances,
+            weights: &mut self.weights,
+            count: self.count,
+        };
+        let batched = batches::batch_update(
             self.settings,
-            &mut self.keys,
-            &mut self.distances,
-            &mut self.weights,
-            &mut self.count,
+            &mut rows,
             &Readings {
                 keys,
                 distances,
                 confidences,
             },
-        )
+        );
+        self.count = rows.count;
+        batched
     }
 }
 
