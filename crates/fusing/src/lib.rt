@@ -75,7 +75,8 @@ pub fn fused_voxel(how: Averaging, old: Voxel, m: Measured) -> Voxel
 
 // A new row for `key`, which no row has.
 fn add_row(how: Averaging, rows: &mut RowsMut, key: u64, m: Measured) -> Result<Step, Refusal>
-    requires count_value { lengths_ok (length rows.old.keys.now) (length rows.old.distances.now) (length rows.old.weights.now) rows.old.count ≡ true }
+    requires count_value { lengths_ok (length rows.old.keys.now) (length rows.old.distances.now)
+        (length rows.old.weights.now) rows.old.count ≡ true }
     requires keys_value { ascending (take rows.old.count rows.old.keys.now) ≡ true }
     requires keys_value_2 { find key (take rows.old.count rows.old.keys.now) ≡ None }
     ensures table_after { effect result (table_in rows.new)
@@ -108,7 +109,8 @@ fn add_row(how: Averaging, rows: &mut RowsMut, key: u64, m: Measured) -> Result<
 
 // A reading that is not far, fused into the row of `key`.
 fn fuse_near(how: Averaging, rows: &mut RowsMut, key: u64, m: Measured) -> Result<Step, Refusal>
-    requires count_value { lengths_ok (length rows.old.keys.now) (length rows.old.distances.now) (length rows.old.weights.now) rows.old.count ≡ true }
+    requires count_value { lengths_ok (length rows.old.keys.now) (length rows.old.distances.now)
+        (length rows.old.weights.now) rows.old.count ≡ true }
     requires keys_value { ascending (take rows.old.count rows.old.keys.now) ≡ true }
     ensures table_after { effect result (table_in rows.new)
         ≡ fused_near how (table_in rows.old) key m }

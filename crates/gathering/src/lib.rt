@@ -212,6 +212,7 @@ fn seat_row(
 }
 
 // The own rows, settled among the first `count` by their seats, from the last down; `total` result.
+// The columns stand side by side here, and in `slide` and `seat_row`, not as a `RowsMut`: each is settled by its own clause.
 pub fn settle(
     keys: &mut [u64],
     distances: &mut [f32],

@@ -225,7 +225,7 @@ fn print_surface(settings: Settings, rows: &Rows, out: &mut [u8]) -> Stepped
 }
 
 // What one line does, from its bytes without the newline and its number: P comes first and once, the others after it.
-// The table that it writes is three lent lists and a count, as `fusing::update_from_depth` takes it.
+// The table that it writes is three lent lists and a count, of which `take_reading` makes a `RowsMut`.
 pub fn take_line(
     settings: Option<Settings>,
     number: u64,

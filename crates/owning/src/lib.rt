@@ -269,6 +269,7 @@ fn load_own(
 }
 
 // The own rows that stand, settled among the table's first `count` rows by their seats; `total` rows result.
+// The table's lists stand side by side here, not as a `RowsMut`: `gathering::settle` settles each column by its own clause.
 fn settle_own(
     most: f32,
     keys: &mut [u64],

@@ -60,7 +60,8 @@ pub struct Rows<'a> {
     pub count: usize,
 }
 
-// A table that is written: the same three lists, lent to be changed.
+// A table that is written: the same three lists, lent to be changed. Who passes one of them as `&` lends it again first, as
+// `let keys = &mut *rows.keys;`: else only its length is known afterwards.
 #[derive(Drop)]
 pub struct RowsMut<'a> {
     pub keys: &'a mut [u64],
