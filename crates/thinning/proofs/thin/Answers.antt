@@ -1,8 +1,8 @@
 -- `thinning::thin` meets its contract: the marks of waiting cells that are left are those of cells further on.
-use mathlib.Core.Path.{refl, sym, ◌∙◌}
+use mathlib.Core.Path.{◌∙◌}
 use native.Mathlib.Omega.{arith}
 use lib.ListN.{length}
-use Rattle.thinning.proofs.Forgetting.{thin_begun, thin_more, thin_done}
+use Rattle.thinning.proofs.Forgetting.{thin_more, thin_done}
 use Rattle.thinning.proofs.thin.Goals as goal
 
 pub loop-i-preserved : goal.loop-i-preserved
