@@ -1,12 +1,14 @@
 // Binary STL, written and read.
 ghost use Rattle.std.specs.Prelude.{◌≡◌, length};
+ghost use Rattle.refusals.specs.Refusals.{answer_number};
 ghost use Rattle.lists.specs.Places.{zero_f};
-ghost use Rattle.lists.specs.Listing.{held_for, count_of, listed_number};
+ghost use Rattle.lists.specs.Listing.{held_for, count_of};
 ghost use Rattle.slopes.specs.Vertices.{xs_of, ys_of, zs_of};
 ghost use Rattle.stl.specs.Files.{file_of, facets_in, corners_of};
 ghost use Rattle.stl.specs.Calls.{facets_lent, export_answer, import_answer};
 
-use answers::keys::list_back;
+use answers::answer_number;
+use lists::count_of;
 
 #[unsafe(no_mangle)]
 pub extern "C" fn akf_export_mesh_stl(
@@ -21,7 +23,7 @@ pub extern "C" fn akf_export_mesh_stl(
     file: &mut [u8],
     written: &mut usize,
 ) -> u32
-    ensures value { result ≡ listed_number
+    ensures value { result ≡ answer_number
         (export_answer px.now py.now pz.now vertices t0.now t1.now
         t2.now triangles (length file.old)) }
     ensures file_after { file.new ≡ held_for 0
@@ -35,9 +37,8 @@ pub extern "C" fn akf_export_mesh_stl(
         t2.now triangles (length file.old)) }
 {
     let answer = stl_writing::export_mesh_stl(px, py, pz, vertices, t0, t1, t2, triangles, file);
-    let back = list_back(answer);
-    *written = back.count;
-    back.number
+    *written = count_of(answer);
+    answer_number(&answer)
 }
 
 #[unsafe(no_mangle)]
@@ -48,7 +49,7 @@ pub extern "C" fn akf_import_mesh_stl(
     pz: &mut [f32],
     vertices: &mut usize,
 ) -> u32
-    ensures value { result ≡ listed_number
+    ensures value { result ≡ answer_number
         (import_answer file.now (length px.old) (length py.old) (length pz.old)) }
     ensures px_after { px.new ≡ held_for zero_f
         (import_answer file.now (length px.old) (length py.old) (length pz.old))
@@ -63,7 +64,6 @@ pub extern "C" fn akf_import_mesh_stl(
         (import_answer file.now (length px.old) (length py.old) (length pz.old)) }
 {
     let answer = stl_reading::import_mesh_stl(file, px, py, pz);
-    let back = list_back(answer);
-    *vertices = back.count;
-    back.number
+    *vertices = count_of(answer);
+    answer_number(&answer)
 }

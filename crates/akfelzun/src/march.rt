@@ -1,19 +1,21 @@
 // The march, and questions about a marched table.
-ghost use Rattle.std.specs.Prelude.{◌≡◌, length};
-ghost use Rattle.lists.specs.Listing.{count_of, listed_number};
+ghost use Rattle.std.specs.Prelude.{◌≡◌, false, length};
+ghost use Rattle.floats.specs.Floats.{zero32};
+ghost use Rattle.refusals.specs.Refusals.{answer_number, found_number};
+ghost use Rattle.lists.specs.Listing.{count_of};
 ghost use Rattle.table.specs.Table.{settings_of, table};
 ghost use Rattle.esdf.specs.Compute.{computed, places};
 ghost use Rattle.marched.specs.Marched.{marched_table};
-ghost use Rattle.esdf_questions.specs.Lookups.{get_distance, distance_number, is_free_space, free_number};
-ghost use Rattle.esdf_questions.specs.Gradient.{get_gradient, gradient_number};
+ghost use Rattle.esdf_questions.specs.Lookups.{get_distance, is_free_space};
+ghost use Rattle.esdf_questions.specs.Gradient.{get_gradient};
 ghost use Rattle.esdf_surveys.specs.Within.{within_listed, within_keys, within_distances};
-ghost use Rattle.esdf_surveys.specs.Statistics.{get_stats, statistics_number};
-ghost use Rattle.mesh_answers.specs.Marching.{march_back, march_handed, marched_distance, free_found, slope_found, marched_stats};
+ghost use Rattle.esdf_surveys.specs.Statistics.{get_stats};
+ghost use Rattle.answers.specs.Given.{given, found, one_if};
+ghost use Rattle.mesh_answers.specs.Marching.{march_back, march_handed, no_slope, no_marched_stats};
 
-use answers::keys::list_back;
-use mesh_answers::march::{
-    distance_back, free_back, march_back, slope_back, stats_found, stats_number,
-};
+use answers::{answer_number, found_number};
+use lists::count_of;
+use mesh_answers::NO_MARCHED_STATS;
 use stored::Distances;
 use table::{Rows, settings_of};
 
@@ -58,10 +60,10 @@ pub extern "C" fn akf_compute_from_tsdf(
         waiting_estimates,
         waiting_keys,
     );
-    let back = march_back(marched);
-    *rows = back.first;
-    *takings = back.second;
-    back.number
+    let (marched_rows, marched_takings) = marched.unwrap_or((0, 0));
+    *rows = marched_rows;
+    *takings = marched_takings;
+    answer_number(&marched)
 }
 
 #[unsafe(no_mangle)]
@@ -72,8 +74,8 @@ pub extern "C" fn akf_esdf_get_distance(
     key: u64,
     distance: &mut f32,
 ) -> u32
-    ensures value { result ≡ distance_number (get_distance (marched_table keys.now distances.now count) key) }
-    ensures distance_after { distance.new ≡ marched_distance (get_distance (marched_table keys.now distances.now count) key) }
+    ensures value { result ≡ found_number (get_distance (marched_table keys.now distances.now count) key) }
+    ensures distance_after { distance.new ≡ found zero32 (get_distance (marched_table keys.now distances.now count) key) }
 {
     let found = esdf_questions::get_distance(
         &Distances {
@@ -83,9 +85,8 @@ pub extern "C" fn akf_esdf_get_distance(
         },
         key,
     );
-    let back = distance_back(found);
-    *distance = back.value;
-    back.number
+    *distance = found.unwrap_or(None).unwrap_or(0.0);
+    found_number(&found)
 }
 
 #[unsafe(no_mangle)]
@@ -97,8 +98,8 @@ pub extern "C" fn akf_is_free_space(
     threshold: f32,
     yes: &mut u32,
 ) -> u32
-    ensures value { result ≡ free_number (is_free_space (marched_table keys.now distances.now count) key threshold) }
-    ensures yes_after { yes.new ≡ free_found (is_free_space (marched_table keys.now distances.now count) key threshold) }
+    ensures value { result ≡ answer_number (is_free_space (marched_table keys.now distances.now count) key threshold) }
+    ensures yes_after { yes.new ≡ one_if (given false (is_free_space (marched_table keys.now distances.now count) key threshold)) }
 {
     let found = esdf_questions::is_free_space(
         &Distances {
@@ -109,9 +110,8 @@ pub extern "C" fn akf_is_free_space(
         key,
         threshold,
     );
-    let back = free_back(found);
-    *yes = back.yes;
-    back.number
+    *yes = u32::from(found.unwrap_or(false));
+    answer_number(&found)
 }
 
 #[unsafe(no_mangle)]
@@ -124,10 +124,10 @@ pub extern "C" fn akf_get_gradient(
     gy: &mut f32,
     gz: &mut f32,
 ) -> u32
-    ensures value { result ≡ gradient_number (get_gradient (marched_table keys.now distances.now count) key) }
-    ensures gx_after { gx.new ≡ (slope_found (get_gradient (marched_table keys.now distances.now count) key)).0 }
-    ensures gy_after { gy.new ≡ (slope_found (get_gradient (marched_table keys.now distances.now count) key)).1 }
-    ensures gz_after { gz.new ≡ (slope_found (get_gradient (marched_table keys.now distances.now count) key)).2 }
+    ensures value { result ≡ found_number (get_gradient (marched_table keys.now distances.now count) key) }
+    ensures gx_after { gx.new ≡ (found no_slope (get_gradient (marched_table keys.now distances.now count) key)).0 }
+    ensures gy_after { gy.new ≡ (found no_slope (get_gradient (marched_table keys.now distances.now count) key)).1 }
+    ensures gz_after { gz.new ≡ (found no_slope (get_gradient (marched_table keys.now distances.now count) key)).2 }
 {
     let gradient = esdf_questions::get_gradient(
         &Distances {
@@ -137,11 +137,11 @@ pub extern "C" fn akf_get_gradient(
         },
         key,
     );
-    let back = slope_back(gradient);
-    *gx = back.x;
-    *gy = back.y;
-    *gz = back.z;
-    back.number
+    let (x, y, z) = gradient.unwrap_or(None).unwrap_or((0.0, 0.0, 0.0));
+    *gx = x;
+    *gy = y;
+    *gz = z;
+    found_number(&gradient)
 }
 
 #[unsafe(no_mangle)]
@@ -154,7 +154,7 @@ pub extern "C" fn akf_get_voxels_within_distance(
     out_distances: &mut [f32],
     listed: &mut usize,
 ) -> u32
-    ensures value { result ≡ listed_number
+    ensures value { result ≡ answer_number
         (within_listed (marched_table keys.now distances.now count) threshold
         (length out_keys.old) (length out_distances.old)) }
     ensures out_keys_after { out_keys.new ≡ within_keys
@@ -177,9 +177,8 @@ pub extern "C" fn akf_get_voxels_within_distance(
         out_keys,
         out_distances,
     );
-    let back = list_back(answer);
-    *listed = back.count;
-    back.number
+    *listed = count_of(answer);
+    answer_number(&answer)
 }
 
 #[unsafe(no_mangle)]
@@ -193,25 +192,25 @@ pub extern "C" fn akf_esdf_stats(
     smallest: &mut f32,
     largest: &mut f32,
 ) -> u32
-    ensures value { result ≡ statistics_number (get_stats (marched_table keys.now distances.now count)) }
-    ensures voxel_count_after { voxel_count.new ≡ (marched_stats (get_stats (marched_table keys.now distances.now count))).voxel_count }
-    ensures obstacle_voxel_count_after { obstacle_voxel_count.new ≡ (marched_stats
+    ensures value { result ≡ answer_number (get_stats (marched_table keys.now distances.now count)) }
+    ensures voxel_count_after { voxel_count.new ≡ (given no_marched_stats (get_stats (marched_table keys.now distances.now count))).voxel_count }
+    ensures obstacle_voxel_count_after { obstacle_voxel_count.new ≡ (given no_marched_stats
         (get_stats (marched_table keys.now distances.now count))).obstacle_voxel_count }
-    ensures free_voxel_count_after { free_voxel_count.new ≡ (marched_stats
+    ensures free_voxel_count_after { free_voxel_count.new ≡ (given no_marched_stats
         (get_stats (marched_table keys.now distances.now count))).free_voxel_count }
-    ensures smallest_after { smallest.new ≡ (marched_stats (get_stats (marched_table keys.now distances.now count))).min_distance }
-    ensures largest_after { largest.new ≡ (marched_stats (get_stats (marched_table keys.now distances.now count))).max_distance }
+    ensures smallest_after { smallest.new ≡ (given no_marched_stats (get_stats (marched_table keys.now distances.now count))).min_distance }
+    ensures largest_after { largest.new ≡ (given no_marched_stats (get_stats (marched_table keys.now distances.now count))).max_distance }
 {
     let statistics = esdf_surveys::stats(&Distances {
         keys,
         distances,
         count,
     });
-    let found = stats_found(statistics);
+    let found = statistics.unwrap_or(NO_MARCHED_STATS);
     *voxel_count = found.voxel_count;
     *obstacle_voxel_count = found.obstacle_voxel_count;
     *free_voxel_count = found.free_voxel_count;
     *smallest = found.min_distance;
     *largest = found.max_distance;
-    stats_number(statistics)
+    answer_number(&statistics)
 }

@@ -1,20 +1,20 @@
 // The mesh of a table, a cell's edge numbers, area, box and statistics.
-ghost use Rattle.std.specs.Prelude.{◌≡◌, []};
+ghost use Rattle.std.specs.Prelude.{◌≡◌, [], false};
 ghost use Rattle.std.proofs.Math.ListN;
+ghost use Rattle.floats.specs.Floats.{zero32};
+ghost use Rattle.refusals.specs.Refusals.{answer_number, found_number};
 ghost use Rattle.table.specs.Table.{settings_of, table};
 ghost use Rattle.edges.specs.declared.Surface.TheVariants.{Closed};
 ghost use Rattle.mesh.specs.Mesh.{rooms};
 ghost use Rattle.groups.specs.CellEdges.{cell_span};
-ghost use Rattle.surfaces.specs.Areas.{area_answer, area_number, area_value};
-ghost use Rattle.surfaces.specs.Boxes.{box_answer, box_number};
-ghost use Rattle.surfaces.specs.Stats.{stats_answer, stats_number, stats_value};
-ghost use Rattle.answers.specs.Keys.{one_if};
-ghost use Rattle.mesh_answers.specs.Meshing.{MeshBackOn, TurnedBack, MeshBack, span_start, span_length, low_corner, high_corner};
+ghost use Rattle.surfaces.specs.Areas.{area_answer};
+ghost use Rattle.surfaces.specs.Boxes.{box_answer};
+ghost use Rattle.surfaces.specs.Stats.{stats_answer};
+ghost use Rattle.answers.specs.Given.{given, found, one_if};
+ghost use Rattle.mesh_answers.specs.Meshing.{MeshBackOn, TurnedBack, MeshBack, span_start, span_length, no_box};
 
-use mesh_answers::meshing::{
-    area_back, box_number, high_corner, low_corner, mesh_back, normals_back, span_length,
-    span_start,
-};
+use answers::{answer_number, found_number};
+use mesh_answers::{NO_CORNER, span_length, span_start};
 use table::{Rows, settings_of};
 
 #[unsafe(no_mangle)]
@@ -74,10 +74,10 @@ pub extern "C" fn akf_extract_mesh_from_tsdf(
         t1,
         t2,
     );
-    let back = mesh_back(meshed);
-    *edges = back.first;
-    *triangles = back.second;
-    back.number
+    let (vertices, corners) = meshed.unwrap_or((0, 0));
+    *edges = vertices;
+    *triangles = corners;
+    answer_number(&meshed)
 }
 
 #[unsafe(no_mangle)]
@@ -135,10 +135,10 @@ pub extern "C" fn akf_extract_closed_mesh(
         t1,
         t2,
     );
-    let closed = mesh_back(meshed);
-    *edges = closed.first;
-    *triangles = closed.second;
-    closed.number
+    let (cut, made) = meshed.unwrap_or((0, 0));
+    *edges = cut;
+    *triangles = made;
+    answer_number(&meshed)
 }
 
 #[unsafe(no_mangle)]
@@ -196,10 +196,10 @@ pub extern "C" fn akf_extract_turned_mesh(
         t1,
         t2,
     );
-    let turned = mesh_back(meshed);
-    *edges = turned.first;
-    *triangles = turned.second;
-    turned.number
+    let (cut, turned) = meshed.unwrap_or((0, 0));
+    *edges = cut;
+    *triangles = turned;
+    answer_number(&meshed)
 }
 
 #[unsafe(no_mangle)]
@@ -232,17 +232,16 @@ pub extern "C" fn akf_surface_area(
     triangles: usize,
     area: &mut f32,
 ) -> u32
-    ensures value { result ≡ area_number
+    ensures value { result ≡ answer_number
         (area_answer px.now py.now pz.now vertices t0.now t1.now
         t2.now triangles) }
-    ensures area_after { area.new ≡ area_value
+    ensures area_after { area.new ≡ given zero32
         (area_answer px.now py.now pz.now vertices t0.now t1.now
         t2.now triangles) }
 {
     let answer = surfaces::surface_area(px, py, pz, vertices, t0, t1, t2, triangles);
-    let back = area_back(answer);
-    *area = back.value;
-    back.number
+    *area = answer.unwrap_or(0.0);
+    answer_number(&answer)
 }
 
 #[unsafe(no_mangle)]
@@ -258,24 +257,23 @@ pub extern "C" fn akf_bounding_box(
     max_y: &mut f32,
     max_z: &mut f32,
 ) -> u32
-    ensures value { result ≡ box_number (box_answer px.now py.now pz.now vertices) }
-    ensures min_x_after { min_x.new ≡ (low_corner (box_answer px.now py.now pz.now vertices)).x.0 }
-    ensures min_y_after { min_y.new ≡ (low_corner (box_answer px.now py.now pz.now vertices)).y.0 }
-    ensures min_z_after { min_z.new ≡ (low_corner (box_answer px.now py.now pz.now vertices)).z.0 }
-    ensures max_x_after { max_x.new ≡ (high_corner (box_answer px.now py.now pz.now vertices)).x.0 }
-    ensures max_y_after { max_y.new ≡ (high_corner (box_answer px.now py.now pz.now vertices)).y.0 }
-    ensures max_z_after { max_z.new ≡ (high_corner (box_answer px.now py.now pz.now vertices)).z.0 }
+    ensures value { result ≡ found_number (box_answer px.now py.now pz.now vertices) }
+    ensures min_x_after { min_x.new ≡ (found no_box (box_answer px.now py.now pz.now vertices)).0.x.0 }
+    ensures min_y_after { min_y.new ≡ (found no_box (box_answer px.now py.now pz.now vertices)).0.y.0 }
+    ensures min_z_after { min_z.new ≡ (found no_box (box_answer px.now py.now pz.now vertices)).0.z.0 }
+    ensures max_x_after { max_x.new ≡ (found no_box (box_answer px.now py.now pz.now vertices)).1.x.0 }
+    ensures max_y_after { max_y.new ≡ (found no_box (box_answer px.now py.now pz.now vertices)).1.y.0 }
+    ensures max_z_after { max_z.new ≡ (found no_box (box_answer px.now py.now pz.now vertices)).1.z.0 }
 {
     let bounds = surfaces::bounding_box(px, py, pz, vertices);
-    let low = low_corner(bounds);
-    let high = high_corner(bounds);
+    let (low, high) = bounds.unwrap_or(None).unwrap_or((NO_CORNER, NO_CORNER));
     *min_x = low.x.0;
     *min_y = low.y.0;
     *min_z = low.z.0;
     *max_x = high.x.0;
     *max_y = high.y.0;
     *max_z = high.z.0;
-    box_number(bounds)
+    found_number(&bounds)
 }
 
 #[unsafe(no_mangle)]
@@ -286,11 +284,10 @@ pub extern "C" fn akf_mesh_stats(
     vertices: usize,
     has_normals: &mut u32,
 ) -> u32
-    ensures value { result ≡ stats_number (stats_answer nx.now ny.now nz.now vertices) }
-    ensures has_normals_after { has_normals.new ≡ one_if (stats_value (stats_answer nx.now ny.now nz.now vertices)) }
+    ensures value { result ≡ answer_number (stats_answer nx.now ny.now nz.now vertices) }
+    ensures has_normals_after { has_normals.new ≡ one_if (given false (stats_answer nx.now ny.now nz.now vertices)) }
 {
     let stats = surfaces::mesh_stats(nx, ny, nz, vertices);
-    let back = normals_back(stats);
-    *has_normals = back.yes;
-    back.number
+    *has_normals = u32::from(stats.unwrap_or(false));
+    answer_number(&stats)
 }

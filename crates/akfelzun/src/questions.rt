@@ -1,16 +1,18 @@
 // Questions about a table, and lists from it.
-ghost use Rattle.std.specs.Prelude.{◌≡◌, length};
-ghost use Rattle.lists.specs.Listing.{count_of, listed_number};
+ghost use Rattle.std.specs.Prelude.{◌≡◌, false, length};
+ghost use Rattle.floats.specs.Floats.{zero32};
+ghost use Rattle.refusals.specs.Refusals.{answer_number, found_number};
+ghost use Rattle.lists.specs.Listing.{count_of};
 ghost use Rattle.table.specs.Table.{settings_of, table};
-ghost use Rattle.tsdf_questions.specs.Lookups.{looked_up, distance_of, weight_of, surface_of, distance_number, weight_number, surface_number};
+ghost use Rattle.tsdf_questions.specs.Lookups.{looked_up, distance_of, weight_of, surface_of};
 ghost use Rattle.tsdf_surveys.specs.Surface.{surface_listed, surface_held};
-ghost use Rattle.tsdf_surveys.specs.Statistics.{statistics_of, statistics_number};
+ghost use Rattle.tsdf_surveys.specs.Statistics.{statistics_of};
 ghost use Rattle.edges.specs.Listing.{edges_answer, firsts_held, seconds_held};
-ghost use Rattle.answers.specs.Questions.{distance_found, weight_found, surface_found, stats_found};
+ghost use Rattle.answers.specs.Given.{given, found, no_metres, no_stats, one_if};
 
-use answers::keys::list_back;
-use answers::questions::{distance_back, stats_found, stats_number, surface_back, weight_back};
+use answers::{NO_STATS, answer_number, found_number};
 use floats::Metres;
+use lists::count_of;
 use table::{Rows, settings_of};
 
 #[unsafe(no_mangle)]
@@ -26,14 +28,14 @@ pub extern "C" fn akf_tsdf_get_distance(
     key: u64,
     distance: &mut f32,
 ) -> u32
-    ensures value { result ≡ distance_number
+    ensures value { result ≡ found_number
         (distance_of
         (looked_up (settings_of truncation max_weight voxel_size max_distance)
         (table keys.now distances.now weights.now count) key)) }
-    ensures distance_after { distance.new ≡ distance_found
+    ensures distance_after { distance.new ≡ (found no_metres
         (distance_of
         (looked_up (settings_of truncation max_weight voxel_size max_distance)
-        (table keys.now distances.now weights.now count) key)) }
+        (table keys.now distances.now weights.now count) key))).0 }
 {
     let settings = settings_of(truncation, max_weight, voxel_size, max_distance);
     let found = tsdf_questions::get_distance(
@@ -46,9 +48,8 @@ pub extern "C" fn akf_tsdf_get_distance(
         },
         key,
     );
-    let back = distance_back(found);
-    *distance = back.value;
-    back.number
+    *distance = found.unwrap_or(None).unwrap_or(Metres(0.0)).0;
+    found_number(&found)
 }
 
 #[unsafe(no_mangle)]
@@ -64,10 +65,10 @@ pub extern "C" fn akf_tsdf_get_weight(
     key: u64,
     weight: &mut f32,
 ) -> u32
-    ensures value { result ≡ weight_number
+    ensures value { result ≡ found_number
         (weight_of (looked_up (settings_of truncation max_weight voxel_size max_distance)
         (table keys.now distances.now weights.now count) key)) }
-    ensures weight_after { weight.new ≡ weight_found
+    ensures weight_after { weight.new ≡ found zero32
         (weight_of (looked_up (settings_of truncation max_weight voxel_size max_distance)
         (table keys.now distances.now weights.now count) key)) }
 {
@@ -82,9 +83,8 @@ pub extern "C" fn akf_tsdf_get_weight(
         },
         key,
     );
-    let back = weight_back(found);
-    *weight = back.value;
-    back.number
+    *weight = found.unwrap_or(None).unwrap_or(0.0);
+    found_number(&found)
 }
 
 #[unsafe(no_mangle)]
@@ -101,14 +101,14 @@ pub extern "C" fn akf_is_surface_voxel(
     threshold: f32,
     yes: &mut u32,
 ) -> u32
-    ensures value { result ≡ surface_number
+    ensures value { result ≡ answer_number
         (surface_of threshold
         (looked_up (settings_of truncation max_weight voxel_size max_distance)
         (table keys.now distances.now weights.now count) key)) }
-    ensures yes_after { yes.new ≡ surface_found
+    ensures yes_after { yes.new ≡ one_if (given false
         (surface_of threshold
         (looked_up (settings_of truncation max_weight voxel_size max_distance)
-        (table keys.now distances.now weights.now count) key)) }
+        (table keys.now distances.now weights.now count) key))) }
 {
     let settings = settings_of(truncation, max_weight, voxel_size, max_distance);
     let found = tsdf_questions::is_surface_voxel(
@@ -122,9 +122,8 @@ pub extern "C" fn akf_is_surface_voxel(
         key,
         Metres(threshold),
     );
-    let back = surface_back(found);
-    *yes = back.yes;
-    back.number
+    *yes = u32::from(found.unwrap_or(false));
+    answer_number(&found)
 }
 
 #[unsafe(no_mangle)]
@@ -143,22 +142,22 @@ pub extern "C" fn akf_tsdf_stats(
     largest: &mut f32,
     average_weight: &mut f32,
 ) -> u32
-    ensures value { result ≡ statistics_number
+    ensures value { result ≡ answer_number
         (statistics_of (settings_of truncation max_weight voxel_size max_distance)
         (table keys.now distances.now weights.now count)) }
-    ensures voxel_count_after { voxel_count.new ≡ (stats_found
+    ensures voxel_count_after { voxel_count.new ≡ (given no_stats
         (statistics_of (settings_of truncation max_weight voxel_size max_distance)
         (table keys.now distances.now weights.now count))).voxel_count }
-    ensures surface_voxel_count_after { surface_voxel_count.new ≡ (stats_found
+    ensures surface_voxel_count_after { surface_voxel_count.new ≡ (given no_stats
         (statistics_of (settings_of truncation max_weight voxel_size max_distance)
         (table keys.now distances.now weights.now count))).surface_voxel_count }
-    ensures smallest_after { smallest.new ≡ (stats_found
+    ensures smallest_after { smallest.new ≡ (given no_stats
         (statistics_of (settings_of truncation max_weight voxel_size max_distance)
         (table keys.now distances.now weights.now count))).min_distance.0 }
-    ensures largest_after { largest.new ≡ (stats_found
+    ensures largest_after { largest.new ≡ (given no_stats
         (statistics_of (settings_of truncation max_weight voxel_size max_distance)
         (table keys.now distances.now weights.now count))).max_distance.0 }
-    ensures average_weight_after { average_weight.new ≡ (stats_found
+    ensures average_weight_after { average_weight.new ≡ (given no_stats
         (statistics_of (settings_of truncation max_weight voxel_size max_distance)
         (table keys.now distances.now weights.now count))).average_weight }
 {
@@ -172,13 +171,13 @@ pub extern "C" fn akf_tsdf_stats(
             count,
         },
     );
-    let found = stats_found(statistics);
+    let found = statistics.unwrap_or(NO_STATS);
     *voxel_count = found.voxel_count;
     *surface_voxel_count = found.surface_voxel_count;
     *smallest = found.min_distance.0;
     *largest = found.max_distance.0;
     *average_weight = found.average_weight;
-    stats_number(statistics)
+    answer_number(&statistics)
 }
 
 #[unsafe(no_mangle)]
@@ -195,7 +194,7 @@ pub extern "C" fn akf_get_surface_voxels(
     out: &mut [u64],
     listed: &mut usize,
 ) -> u32
-    ensures value { result ≡ listed_number
+    ensures value { result ≡ answer_number
         (surface_listed (settings_of truncation max_weight voxel_size max_distance)
         (table keys.now distances.now weights.now count) threshold
         (length out.old)) }
@@ -219,9 +218,8 @@ pub extern "C" fn akf_get_surface_voxels(
         Metres(threshold),
         out,
     );
-    let back = list_back(answer);
-    *listed = back.count;
-    back.number
+    *listed = count_of(answer);
+    answer_number(&answer)
 }
 
 #[unsafe(no_mangle)]
@@ -238,7 +236,7 @@ pub extern "C" fn akf_get_zero_crossing_edges(
     second: &mut [u64],
     listed: &mut usize,
 ) -> u32
-    ensures value { result ≡ listed_number
+    ensures value { result ≡ answer_number
         (edges_answer (settings_of truncation max_weight voxel_size max_distance)
         (table keys.now distances.now weights.now count) (length first.old)
         (length second.old)) }
@@ -265,7 +263,6 @@ pub extern "C" fn akf_get_zero_crossing_edges(
         first,
         second,
     );
-    let back = list_back(answer);
-    *listed = back.count;
-    back.number
+    *listed = count_of(answer);
+    answer_number(&answer)
 }

@@ -1,3 +1,2 @@
-pub mod Keys
+pub mod Given
 pub mod Readings
-pub mod Questions

@@ -1,10 +1,15 @@
-// What an answer is towards C: the settings that a host's four numbers make, and what is read off each answer, its number and what is handed
-// back. A number handed back is 0 unless the answer is 0, but for what a batch counts and names.
+// What an answer is towards C: the settings that a host's four numbers make, and the numbers of answers. A number handed back is 0 unless
+// the answer is 0, but for what a batch counts and names.
 #![tactic(auto)]
 
-pub mod keys;
-pub mod questions;
 pub mod readings;
+
+ghost use Rattle.std.specs.Prelude.{◌≡◌};
+ghost use Rattle.refusals.specs.Refusals.{answer_number, found_number};
+
+use floats::Metres;
+use refusals::Refusal;
+use tsdf_surveys::TsdfStats;
 
 // The numbers of answers that are no refusals.
 pub const DONE: u32 = 0;
@@ -17,31 +22,32 @@ pub const NEW: u32 = 102;
 
 pub const CHANGED: u32 = 103;
 
-// What is handed back in place of a length that there is not.
-pub const NOTHING: f32 = 0.0;
+// What is handed back in place of statistics that there are not.
+pub const NO_STATS: TsdfStats = TsdfStats {
+    voxel_count: 0,
+    surface_voxel_count: 0,
+    min_distance: Metres(0.0),
+    max_distance: Metres(0.0),
+    average_weight: 0.0,
+};
 
-// What calls hand back: the answer's number, and a length, yes or no as 1 or 0, a count, or two.
-#[derive(Clone, Copy)]
-pub struct LengthBack {
-    pub number: u32,
-    pub value: f32,
+// The number of an answer.
+pub fn answer_number<T>(answer: &Result<T, Refusal>) -> u32
+    ensures { result ≡ answer_number answer.now }
+{
+    match answer {
+        Ok(_) => DONE,
+        Err(why) => u32::from(*why),
+    }
 }
 
-#[derive(Clone, Copy)]
-pub struct YesBack {
-    pub number: u32,
-    pub yes: u32,
-}
-
-#[derive(Clone, Copy)]
-pub struct CountBack {
-    pub number: u32,
-    pub count: usize,
-}
-
-#[derive(Clone, Copy)]
-pub struct CountsBack {
-    pub number: u32,
-    pub first: usize,
-    pub second: usize,
+// The number of an answer that may be Absent.
+pub fn found_number<T>(found: &Result<Option<T>, Refusal>) -> u32
+    ensures { result ≡ found_number found.now }
+{
+    match found {
+        Ok(Some(_)) => DONE,
+        Ok(None) => ABSENT,
+        Err(why) => u32::from(*why),
+    }
 }

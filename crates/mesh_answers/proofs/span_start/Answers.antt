@@ -1,6 +1,6 @@
 -- Each branch is one of the definition's. Assumes nothing.
 use borrow.Author.Tests.{lt-ltb, le-ltb}
-use Rattle.mesh_answers.proofs.meshing.span_start.Goals as goal
+use Rattle.mesh_answers.proofs.span_start.Goals as goal
 
 pub returns-then-span : goal.returns-then-span
 returns-then-span c =
