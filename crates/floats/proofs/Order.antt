@@ -1,7 +1,7 @@
 -- What the tests say of any two floats that are no NaN, whatever their format: `le x y` is `not (lt y x)`, so a value
 -- is beyond a limit or within it. Assumes nothing.
-use Rattle.std.proofs.Common.{◌≡◌, ℕ, zero, suc, ◌+◌, ◌-◌, ◌*◌, ◌^◌, ◌<◌, ◌≤◌, Bool, true, false, cond, not, ◌&&◌, ◌||◌, T, eqb, ltb, ◌⊎◌, ℤ, pos, negsuc, sym, refl, ap, ◌∙◌, inl, inr, true≢false, zero-le, le_trans, le_of_eq, lt_of_lt_of_le, lt_of_le_of_lt, le_of_lt, mul-le-mul_right, mul_assoc, mul-le-mul, add_comm, lt_of_mul-lt-mul_right, eq-or-lt_of_le, zero-mul, mul-one, le-mul_of_pos_right, arith, lit≤, pow_pos, pow_mono, pow-add, ltb-false, ltb-true, le-ltb, lt-ltb, eq-eqb, ne_eqb}
-use mathlib.Core.Bool.{false≢true, and-true, and-false, or-false, or-true}
+use Rattle.std.proofs.Common.{◌≡◌, ℕ, zero, suc, ◌+◌, ◌-◌, ◌*◌, ◌^◌, ◌<◌, ◌≤◌, Bool, true, false, not, ◌&&◌, ◌||◌, T, eqb, ltb, ◌⊎◌, ℤ, pos, negsuc, sym, refl, ap, ◌∙◌, inl, inr, true≢false, zero-le, le_trans, le_of_eq, lt_of_lt_of_le, lt_of_le_of_lt, le_of_lt, mul-le-mul_right, mul_assoc, mul-le-mul, add_comm, lt_of_mul-lt-mul_right, eq-or-lt_of_le, zero-mul, mul-one, le-mul_of_pos_right, arith, lit≤, pow_pos, pow_mono, pow-add, ltb-false, le-ltb, lt-ltb, eq-eqb, ne_eqb}
+use mathlib.Core.Bool.{false≢true, and-false, or-false, or-true}
 use lib.Ieee.{Float, nan, inf, fin, binary32, up, down, neg, lt, le, eq, below, level, is_nan, fits, of_bits}
 use borrow.Author.Tests.{not-true}
 use Rattle.floats.specs.Floats.{zero32, largest, size_of, is_finite, between, within, beyond, positive_to}

@@ -1,5 +1,5 @@
 -- What the tests against zero say of a value. Assumes nothing.
-use Rattle.std.proofs.Common.{◌≡◌, ℕ, zero, suc, ◌+◌, ◌*◌, ◌<◌, ◌≤◌, Bool, true, false, ◌&&◌, ◌||◌, T, ℤ, sym, refl, ap, ◌∙◌, subst, true≢false, zero-le, le_of_eq, lt_of_lt_of_le, le-add_right, zero-lt-suc, mul-pos, ne_of_gt, zero-mul, not-le_of_lt, lit<, lit≤, le-ltb, lt-ltb, eq-eqb, ne_eqb}
+use Rattle.std.proofs.Common.{◌≡◌, ℕ, zero, suc, ◌+◌, ◌*◌, ◌<◌, ◌≤◌, Bool, true, false, ◌&&◌, T, ℤ, sym, refl, ap, ◌∙◌, subst, true≢false, zero-le, le_of_eq, lt_of_lt_of_le, le-add_right, zero-lt-suc, mul-pos, ne_of_gt, zero-mul, not-le_of_lt, lit<, lit≤, le-ltb, lt-ltb, eq-eqb, ne_eqb}
 use mathlib.Core.Bool.{beq, or-true}
 use lib.Ieee.{Float, nan, inf, fin, binary32, up, down, lt, eq, ne, neg, fits, is_nan, of_bits, to_bits}
 use lib.Ieee.Fits.{up_pos}

@@ -2,12 +2,12 @@
 -- result is at most b in size where the exact one is,
 -- and b is a value of the format.
 -- Assumes nothing.
-use Rattle.std.proofs.Common.{◌≡◌, ℕ, zero, suc, ◌+◌, ◌-◌, ◌*◌, ◌^◌, ◌<◌, ◌≤◌, Bool, true, false, cond, ◌&&◌, ◌||◌, T, eqb, ltb, ℤ, pos, sym, refl, ap, ◌∙◌, subst, ⊎_elim, true≢false, le_trans, le_of_eq, lt_of_lt_of_le, mul-le-mul_right, mul_assoc, mul_comm, mul-le-mul, mul-pos, mul-one, mul_right_comm, le_of_mul-le-mul_right, arith, lit<, pow_mono, pow-add, shl_lt, le-ltb, ne_eqb}
+use Rattle.std.proofs.Common.{◌≡◌, ℕ, zero, suc, ◌+◌, ◌-◌, ◌*◌, ◌^◌, ◌<◌, ◌≤◌, Bool, true, false, cond, ◌&&◌, ◌||◌, T, eqb, ltb, pos, sym, refl, ◌∙◌, subst, ⊎_elim, true≢false, le_trans, le_of_eq, lt_of_lt_of_le, mul-le-mul_right, mul_assoc, mul-le-mul, mul-pos, mul-one, mul_right_comm, le_of_mul-le-mul_right, arith, lit<, pow_mono, pow-add, shl_lt, le-ltb, ne_eqb}
 use native.Mathlib.Nat.{mul-mul-mul_comm}
 use mathlib.Core.Bool.{beq, false≢true}
 use lib.Ieee.{Float, nan, inf, fin, Format, binary32, unlike, up, down, low, emax, prec, odd, units, round, sum, add, sub, mul, neg, lt, le, eq, is_nan, of_int}
 use lib.Ieee.Exact.{HasValue, round_exact}
-use lib.Ieee.Fits.{up_pos, down_pos}
+use lib.Ieee.Fits.{down_pos}
 use lib.Ieee.Order.{round_mono}
 use Rattle.lists.proofs.Bools.{cases}
 use Rattle.floats.specs.Floats.{size_of, is_finite}

@@ -27,18 +27,16 @@ struct Scaled {
     lead: u64,
 }
 
-// A number of units below 2 ^ 23 is doubled until it has 24 digits.
+// A number of units below 2 ^ 23 times the power of two that gives it 24 digits.
 fn lifted(t: u32) -> Lead
     requires { (0 < t) × (t < 2 ^ 23) }
     ensures { LeadOf (t * units_of_one) result.n result.j }
 {
-    let mut n = t;
-    let mut j: u32 = 149;
-    while n < 0x80_0000 {
-        n = n * 2;
-        j = j - 1;
+    let up = 23 - t.ilog2();
+    Lead {
+        n: t << up,
+        j: 149 - up,
     }
-    Lead { n, j }
 }
 
 // The units of the bit pattern b, times 2 ^ 149, by the leading 24 digits.
@@ -79,20 +77,12 @@ fn scaled_of(b: u32) -> Scaled
     }
 }
 
-// The whole number nearest to the root of m: the whole part by halving steps, then the half.
-fn root_by_steps(m: u64) -> u64
+// The whole number nearest to the root of m: the whole part, then the half.
+fn whole_root(m: u64) -> u64
     requires { (0 < m) × (m < 2 ^ 48) }
     ensures { Near m result }
 {
-    let mut r: u64 = 0;
-    let mut step: u64 = 0x100_0000;
-    while 1 < step {
-        step = step - step / 2;
-        let c = r + step;
-        if c * c <= m {
-            r = c;
-        }
-    }
+    let r = m.isqrt();
     if m - r * r <= r { r } else { r + 1 }
 }
 
@@ -148,7 +138,7 @@ fn near_root(m: u64, lead: u64) -> u64
             return n;
         }
     }
-    root_by_steps(m)
+    whole_root(m)
 }
 
 // The bit pattern of the root of the value above zero whose bit pattern is b.

@@ -1,6 +1,6 @@
 -- `floats::sign` meets its contract: the pattern is below 2 ^ 31 where the sign is clear. Assumes nothing.
 use Rattle.std.proofs.Common.{Bool, not, T, sym, subst}
-use lib.Ieee.{binary32, fits, of_bits, neg}
+use lib.Ieee.{of_bits, neg}
 use Rattle.floats.proofs.Signs.{sign_nan, number, sign_clear, sign_set}
 use Rattle.floats.proofs.sign.Goals as goal
 

@@ -1,6 +1,6 @@
 -- `floats::size` meets its contract, by the three tests against zero. Assumes nothing.
 use Rattle.std.proofs.Common.{T, sym, subst}
-use lib.Ieee.{binary32, fits, of_bits}
+use lib.Ieee.{of_bits}
 use Rattle.floats.proofs.Signs.{size_zero, size_below, size_else}
 use Rattle.floats.proofs.size.Goals as goal
 

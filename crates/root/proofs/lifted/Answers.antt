@@ -1,41 +1,36 @@
--- `root::lifted` meets its contract. The loop keeps n * 2 ^ j; while n has less than 24 digits, j is large enough to fall. Assumes nothing.
-use Rattle.std.proofs.Common.{◌<◌, refl, arith}
-use Rattle.root.specs.Steps.{units_of_one}
-use Rattle.root.proofs.Leading.{enough, doubled}
+-- `root::lifted` meets its contract: t has k + 1 digits, so t * 2 ^ (23 - k) has 24. Assumes nothing.
+use Rattle.std.proofs.Common.{◌≡◌, ℕ, ◌+◌, ◌-◌, ◌*◌, ◌%◌, ◌^◌, ◌<◌, ◌≤◌, inl, inr, sym, ap, ◌∙◌, mul-le-mul_right, mul-lt-mul_of_pos_right, mul_assoc, mod-eq_of_lt, arith, pow-add, pow_pos, pow_mono}
+use Rattle.floats.proofs.Values.{le_or_lt}
+use Rattle.root.specs.Steps.{units_of_one, LeadOf}
 use Rattle.root.proofs.lifted.Goals as goal
 
--- in a turn j is large enough
-more : (c : goal.In-loop-n) → 126 < c.loop-n.j
-more c = let b = c.before in
-    let g =
-    enough b.args.t b.loop-n.n 23 b.loop-n.j b.requires.0 b.loop-n.invariant.0
-    c.loop-n-test.true in omega arith
+few : (t k : ℕ) → 2 ^ k ≤ t → t < 2 ^ 23 → k ≤ 22
+few t k l h = elim (le_or_lt 23 k) [ inl g ↦ let p : 2 ^ 23 ≤ 2 ^ k = pow_mono g in omega arith | inr g ↦ omega arith ]
 
-pub loop-n-init : goal.loop-n-init
+power : (k u n : ℕ) → k + u ≡ n → 2 ^ k * 2 ^ u ≡ 2 ^ n
+power k u n e = sym (pow-add 2 k u) ∙ ap (λ (z : ℕ). 2 ^ z) e
+
+lead : (t k u : ℕ) → k + u ≡ 23 → 2 ^ k ≤ t → t < 2 * 2 ^ k → LeadOf (t * units_of_one) (t * 2 ^ u % 2 ^ 32) (149 - u)
 unfolding units_of_one
-loop-n-init c = (refl, c.requires.0, omega arith, omega arith)
+lead t k u e l h =
+    let p = power k u 23 e in
+    let a : 2 ^ k * 2 ^ u ≤ t * 2 ^ u = mul-le-mul_right (2 ^ u) l in
+    let b : t * 2 ^ u < 2 * 2 ^ k * 2 ^ u = mul-lt-mul_of_pos_right h (pow_pos u) in
+    let f : t * 2 ^ u < 2 ^ 24 = omega arith in
+    let m : t * 2 ^ u % 2 ^ 32 ≡ t * 2 ^ u = mod-eq_of_lt (omega arith) in
+    rw m (record {
+      same = ap (λ (z : ℕ). t * z) (sym (power u (149 - u) 149 (omega arith))) ∙ sym (mul_assoc t (2 ^ u) (2 ^ (149 - u)));
+      low = omega arith;
+      high = f;
+      least = omega arith;
+      most = omega arith;
+    })
 
-pub overflow_mul-n : goal.overflow_mul-n
-overflow_mul-n c = omega arith
-
-pub overflow_sub-j : goal.overflow_sub-j
-overflow_sub-j c = omega (arith, more c)
-
-pub loop-n-smaller : goal.loop-n-smaller
-loop-n-smaller c = omega (arith, more c)
-
-pub loop-n-preserved : goal.loop-n-preserved
-loop-n-preserved c =
-    let l = c.loop-n in
-    (doubled _ l.n l.j (omega (arith, more c)) l.invariant.0, omega arith, omega arith, omega arith)
+pub overflow_sub-up : goal.overflow_sub-up
+overflow_sub-up c = omega (arith, few c.args.t c.ilog2-up.result c.ilog2-up.ensures.power_le c.requires.1)
 
 pub returns : goal.returns
 returns c =
-    let l = c.loop-n in
-    record {
-      same = l.invariant.0;
-      low = c.loop-n-test.false;
-      high = l.invariant.2;
-      least = omega (arith, enough c.args.t l.n 24 l.j c.requires.0 l.invariant.0 l.invariant.2);
-      most = omega arith;
-    }
+    let k = c.ilog2-up.result in
+    let o = c.ilog2-up.ensures in
+    lead c.args.t k (23 - k) (omega (arith, few c.args.t k o.power_le c.requires.1)) o.power_le o.next_power_gt
