@@ -8,6 +8,7 @@ ghost use Rattle.stl.specs.Files.{file_of, facets_in, corners_of};
 ghost use Rattle.stl.specs.Calls.{facets_lent, export_answer, import_answer};
 
 use answers::answer_number;
+use corners::Threes;
 use lists::count_of;
 
 #[unsafe(no_mangle)]
@@ -36,7 +37,21 @@ pub extern "C" fn akf_export_mesh_stl(
         (export_answer px.now py.now pz.now vertices t0.now t1.now
         t2.now triangles (length file.old)) }
 {
-    let answer = stl_writing::export_mesh_stl(px, py, pz, vertices, t0, t1, t2, triangles, file);
+    let answer = stl_writing::export_mesh_stl(
+        &Threes {
+            first: px,
+            second: py,
+            third: pz,
+            count: vertices,
+        },
+        &Threes {
+            first: t0,
+            second: t1,
+            third: t2,
+            count: triangles,
+        },
+        file,
+    );
     *written = count_of(answer);
     answer_number(&answer)
 }

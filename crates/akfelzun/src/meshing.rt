@@ -14,6 +14,7 @@ ghost use Rattle.answers.specs.Given.{given, found, one_if};
 ghost use Rattle.mesh_answers.specs.Meshing.{MeshBackOn, TurnedBack, MeshBack, span_start, span_length, no_box};
 
 use answers::{answer_number, found_number};
+use corners::Threes;
 use mesh_answers::{NO_CORNER, span_length, span_start};
 use table::{Rows, settings_of};
 
@@ -239,7 +240,20 @@ pub extern "C" fn akf_surface_area(
         (area_answer px.now py.now pz.now vertices t0.now t1.now
         t2.now triangles) }
 {
-    let answer = surfaces::surface_area(px, py, pz, vertices, t0, t1, t2, triangles);
+    let answer = surfaces::surface_area(
+        &Threes {
+            first: px,
+            second: py,
+            third: pz,
+            count: vertices,
+        },
+        &Threes {
+            first: t0,
+            second: t1,
+            third: t2,
+            count: triangles,
+        },
+    );
     *area = answer.unwrap_or(0.0);
     answer_number(&answer)
 }
@@ -265,7 +279,12 @@ pub extern "C" fn akf_bounding_box(
     ensures max_y_after { max_y.new ≡ (found no_box (box_answer px.now py.now pz.now vertices)).1.y.0 }
     ensures max_z_after { max_z.new ≡ (found no_box (box_answer px.now py.now pz.now vertices)).1.z.0 }
 {
-    let bounds = surfaces::bounding_box(px, py, pz, vertices);
+    let bounds = surfaces::bounding_box(&Threes {
+        first: px,
+        second: py,
+        third: pz,
+        count: vertices,
+    });
     let (low, high) = bounds.unwrap_or(None).unwrap_or((NO_CORNER, NO_CORNER));
     *min_x = low.x.0;
     *min_y = low.y.0;
@@ -287,7 +306,12 @@ pub extern "C" fn akf_mesh_stats(
     ensures value { result ≡ answer_number (stats_answer nx.now ny.now nz.now vertices) }
     ensures has_normals_after { has_normals.new ≡ one_if (given false (stats_answer nx.now ny.now nz.now vertices)) }
 {
-    let stats = surfaces::mesh_stats(nx, ny, nz, vertices);
+    let stats = surfaces::mesh_stats(&Threes {
+        first: nx,
+        second: ny,
+        third: nz,
+        count: vertices,
+    });
     *has_normals = u32::from(stats.unwrap_or(false));
     answer_number(&stats)
 }

@@ -1,2 +1,3 @@
 pub mod Corners
+pub mod Read
 pub mod Steps

@@ -1,12 +1,31 @@
 // The tests of a mesh's corners: lent lists side by side, vertices in range, triangles that name vertices (src/layers/mesh.rs).
 #![tactic(auto)]
 
-ghost use Rattle.std.specs.Prelude.{◌≡◌, true, ◌<◌};
-ghost use Rattle.corners.specs.Corners.{set_ok, every, vertex, vertices_in, vertex_ok, triangle, triangles_in, triangle_ok};
-ghost use Rattle.corners.specs.Steps.{Lent};
+ghost use Rattle.std.specs.Prelude.{◌≡◌};
+ghost use Rattle.corners.specs.Corners.{set_ok, every, vertex, vertex_ok, triangle, triangle_ok};
+ghost use Rattle.corners.specs.Read.{threes_ok, Lies, points_in, numbers_in};
 
 use floats::within;
 use lists::LONGEST_LIST;
+
+// Three lent lists side by side, whose first `count` places are taken: the coordinates of vertices or of normals, or the
+// numbers of the vertices that triangles name.
+#[derive(Clone, Copy)]
+pub struct Threes<'a, T> {
+    pub first: &'a [T],
+    pub second: &'a [T],
+    pub third: &'a [T],
+    pub count: usize,
+}
+
+impl<'a, T> Threes<'a, T> {
+    // Whether they are a set.
+    pub fn is_ok(&self) -> bool
+        ensures { result ≡ threes_ok self.now }
+    {
+        set_ok(self.first.len(), self.second.len(), self.third.len(), self.count)
+    }
+}
 
 // Three lists of equal length within the limit, and no more entries than places.
 pub fn set_ok(a: usize, b: usize, c: usize, n: usize) -> bool
@@ -23,12 +42,18 @@ fn vertex_ok(x: f32, y: f32, z: f32) -> bool
 }
 
 // Every vertex is in its range.
-pub fn vertices_ok(px: &[f32], py: &[f32], pz: &[f32], vertices: usize) -> bool
-    requires { Lent px.now py.now pz.now vertices }
-    ensures { result ≡ every vertex_ok (vertices_in px.now py.now pz.now vertices) }
+pub fn vertices_ok(vertices: &Threes<f32>) -> bool
+    requires { Lies vertices.now }
+    ensures { result ≡ every vertex_ok (points_in vertices.now) }
 {
-    for i in 0..vertices {
-        if !vertex_ok(px[i], py[i], pz[i]) {
+    let Threes {
+        first,
+        second,
+        third,
+        count,
+    } = *vertices;
+    for i in 0..count {
+        if !vertex_ok(first[i], second[i], third[i]) {
             return false;
         }
     }
@@ -42,13 +67,19 @@ fn triangle_ok(vertices: usize, a: u32, b: u32, c: u32) -> bool
     ((a as usize) < vertices) & (((b as usize) < vertices) & ((c as usize) < vertices))
 }
 
-// Every triangle names three vertices.
-pub fn triangles_ok(vertices: usize, t0: &[u32], t1: &[u32], t2: &[u32], triangles: usize) -> bool
-    requires { Lent t0.now t1.now t2.now triangles }
-    ensures { result ≡ every (triangle_ok vertices) (triangles_in t0.now t1.now t2.now triangles) }
+// Every triangle names three of so many vertices.
+pub fn triangles_ok(vertices: usize, triangles: &Threes<u32>) -> bool
+    requires { Lies triangles.now }
+    ensures { result ≡ every (triangle_ok vertices) (numbers_in triangles.now) }
 {
-    for i in 0..triangles {
-        if !triangle_ok(vertices, t0[i], t1[i], t2[i]) {
+    let Threes {
+        first,
+        second,
+        third,
+        count,
+    } = *triangles;
+    for i in 0..count {
+        if !triangle_ok(vertices, first[i], second[i], third[i]) {
             return false;
         }
     }

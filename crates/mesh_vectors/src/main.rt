@@ -2,6 +2,7 @@
 // its normal, K each triangle; O the area; W the box.
 #![tactic(auto)]
 
+use corners::Threes;
 use vectors::{Field, Line, Score, float, same};
 
 // Three lists of numbers, and how many of their places are filled: the calls on a mesh take whole lists and a count.
@@ -164,21 +165,31 @@ fn area_again(given: Given, words: [u64; 16]) -> bool {
         ..
     } = given;
     let asked = surfaces::surface_area(
-        &places.x,
-        &places.y,
-        &places.z,
-        places.count,
-        &corners.first,
-        &corners.second,
-        &corners.third,
-        corners.count,
+        &Threes {
+            first: &places.x,
+            second: &places.y,
+            third: &places.z,
+            count: places.count,
+        },
+        &Threes {
+            first: &corners.first,
+            second: &corners.second,
+            third: &corners.third,
+            count: corners.count,
+        },
     );
     asked.is_ok_and(|area| same(area, float(words[0])))
 }
 
 fn box_again(given: Given, words: [u64; 16]) -> bool {
     let places = given.places;
-    match surfaces::bounding_box(&places.x, &places.y, &places.z, places.count) {
+    let bounds = surfaces::bounding_box(&Threes {
+        first: &places.x,
+        second: &places.y,
+        third: &places.z,
+        count: places.count,
+    });
+    match bounds {
         Ok(Some((low, high))) => {
             same(low.x.0, float(words[0]))
                 && same(low.y.0, float(words[1]))

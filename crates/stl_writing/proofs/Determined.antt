@@ -7,5 +7,5 @@ pub export_mesh_stl_determined :
     (κs : _) (a : _) (r r' : _) (s s' : _)
     → export_mesh_stl.Post κs a r s
     → export_mesh_stl.Post κs a r' s'
-    → (r ≡ r') × (s.1.1.1.1.1.1.1.1.0.now ≡ s'.1.1.1.1.1.1.1.1.0.now)
+    → (r ≡ r') × (s.1.1.0.now ≡ s'.1.1.0.now)
 export_mesh_stl_determined κs a r r' s s' p q = (p.0 ∙ sym q.0, p.1 ∙ sym q.1)

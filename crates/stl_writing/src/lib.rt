@@ -8,35 +8,30 @@ ghost use Rattle.lists.specs.Listing.{held_for};
 ghost use Rattle.stl.specs.Files.{file_of};
 ghost use Rattle.stl.specs.Calls.{facets_lent, export_answer};
 
+use corners::Threes;
 use lists::count_of;
 use refusals::Refusal;
 use words::write_zeros;
 
 // A mesh as the bytes of a file, and how many they are.
 pub fn export_mesh_stl(
-    px: &[f32],
-    py: &[f32],
-    pz: &[f32],
-    vertices: usize,
-    t0: &[u32],
-    t1: &[u32],
-    t2: &[u32],
-    triangles: usize,
+    vertices: &Threes<f32>,
+    triangles: &Threes<u32>,
     file: &mut [u8],
 ) -> Result<usize, Refusal>
-    ensures value { result ≡ export_answer px.now py.now pz.now vertices t0.now
-        t1.now t2.now triangles (length file.old) }
+    ensures value { result ≡ export_answer vertices.now.first.now vertices.now.second.now vertices.now.third.now vertices.now.count
+        triangles.now.first.now triangles.now.second.now triangles.now.third.now triangles.now.count (length file.old) }
     ensures file_after { file.new ≡ held_for 0
-        (export_answer px.now py.now pz.now vertices t0.now t1.now
-        t2.now triangles (length file.old))
+        (export_answer vertices.now.first.now vertices.now.second.now vertices.now.third.now vertices.now.count
+        triangles.now.first.now triangles.now.second.now triangles.now.third.now triangles.now.count (length file.old))
         (length file.old)
-        (file_of (facets_lent px.now py.now pz.now vertices t0.now t1.now
-        t2.now triangles)) }
+        (file_of (facets_lent vertices.now.first.now vertices.now.second.now vertices.now.third.now vertices.now.count
+        triangles.now.first.now triangles.now.second.now triangles.now.third.now triangles.now.count)) }
 {
-    let answer = writing::answer(px, py, pz, vertices, t0, t1, t2, triangles, file.len());
+    let answer = writing::answer(vertices, triangles, file.len());
     let n = count_of(answer);
     if 0 < n {
-        writing::write_file(px, py, pz, vertices, t0, t1, t2, triangles, file);
+        writing::write_file(vertices, triangles, file);
     }
     write_zeros(file, n, file.len() - n);
     answer

@@ -8,7 +8,7 @@ ghost use Rattle.stl.specs.Files.{vertex_bytes, facet_bytes, file_of};
 ghost use Rattle.stl.specs.Calls.{facets_lent, export_answer};
 ghost use Rattle.stl.specs.Steps.{Writable};
 
-use corners::{set_ok, triangles_ok, vertices_ok};
+use corners::{Threes, triangles_ok, vertices_ok};
 use refusals::Refusal;
 use slopes::Vertex;
 use surfaces::vertex_at;
@@ -16,28 +16,20 @@ use words::{LONGEST_FILE, write_word, write_zeros};
 
 // What is answered to a mesh, for a file of so many places.
 pub(crate) fn answer(
-    px: &[f32],
-    py: &[f32],
-    pz: &[f32],
-    vertices: usize,
-    t0: &[u32],
-    t1: &[u32],
-    t2: &[u32],
-    triangles: usize,
+    vertices: &Threes<f32>,
+    triangles: &Threes<u32>,
     room: usize,
 ) -> Result<usize, Refusal>
-    ensures { result ≡ export_answer px.now py.now pz.now vertices t0.now
-        t1.now t2.now triangles room }
+    ensures { result ≡ export_answer vertices.now.first.now vertices.now.second.now vertices.now.third.now vertices.now.count
+        triangles.now.first.now triangles.now.second.now triangles.now.third.now triangles.now.count room }
 {
-    if !(set_ok(px.len(), py.len(), pz.len(), vertices)
-        & (set_ok(t0.len(), t1.len(), t2.len(), triangles) & (room <= LONGEST_FILE)))
-    {
+    if !(vertices.is_ok() & (triangles.is_ok() & (room <= LONGEST_FILE))) {
         return Err(Refusal::Lengths);
     }
-    if !(vertices_ok(px, py, pz, vertices) & triangles_ok(vertices, t0, t1, t2, triangles)) {
+    if !(vertices_ok(vertices) & triangles_ok(vertices.count, triangles)) {
         return Err(Refusal::BadVertex);
     }
-    lists::room_for(84 + 50 * triangles, room)
+    lists::room_for(84 + 50 * triangles.count, room)
 }
 
 // A vertex's three floats from a place on.
@@ -66,47 +58,43 @@ fn write_facet(file: &mut [u8], at: usize, a: Vertex, b: Vertex, c: Vertex)
 
 // All triangles, one after the other.
 fn write_facets(
-    px: &[f32],
-    py: &[f32],
-    pz: &[f32],
-    vertices: usize,
-    t0: &[u32],
-    t1: &[u32],
-    t2: &[u32],
-    triangles: usize,
+    vertices: &Threes<f32>,
+    triangles: &Threes<u32>,
     file: &mut [u8],
 )
-    requires { Writable px.now py.now pz.now vertices t0.now t1.now t2.now triangles (length file.old) }
+    requires { Writable vertices.now.first.now vertices.now.second.now vertices.now.third.now vertices.now.count
+        triangles.now.first.now triangles.now.second.now triangles.now.third.now triangles.now.count (length file.old) }
     ensures { file.new ≡ sets file.old 84
-        (joined facet_bytes (facets_lent px.now py.now pz.now vertices t0.now
-        t1.now t2.now triangles)) }
+        (joined facet_bytes (facets_lent vertices.now.first.now vertices.now.second.now vertices.now.third.now vertices.now.count
+        triangles.now.first.now triangles.now.second.now triangles.now.third.now triangles.now.count)) }
 {
-    for i in 0..triangles {
-        let a = vertex_at(px, py, pz, t0[i] as usize);
-        let b = vertex_at(px, py, pz, t1[i] as usize);
-        let c = vertex_at(px, py, pz, t2[i] as usize);
+    let Threes {
+        first,
+        second,
+        third,
+        count,
+    } = *triangles;
+    for i in 0..count {
+        let a = vertex_at(vertices, first[i] as usize);
+        let b = vertex_at(vertices, second[i] as usize);
+        let c = vertex_at(vertices, third[i] as usize);
         write_facet(file, 84 + 50 * i, a, b, c);
     }
 }
 
 // The whole file, from the front.
 pub(crate) fn write_file(
-    px: &[f32],
-    py: &[f32],
-    pz: &[f32],
-    vertices: usize,
-    t0: &[u32],
-    t1: &[u32],
-    t2: &[u32],
-    triangles: usize,
+    vertices: &Threes<f32>,
+    triangles: &Threes<u32>,
     file: &mut [u8],
 )
-    requires { Writable px.now py.now pz.now vertices t0.now t1.now t2.now triangles (length file.old) }
+    requires { Writable vertices.now.first.now vertices.now.second.now vertices.now.third.now vertices.now.count
+        triangles.now.first.now triangles.now.second.now triangles.now.third.now triangles.now.count (length file.old) }
     ensures { file.new ≡ sets file.old 0
-        (file_of (facets_lent px.now py.now pz.now vertices t0.now t1.now
-        t2.now triangles)) }
+        (file_of (facets_lent vertices.now.first.now vertices.now.second.now vertices.now.third.now vertices.now.count
+        triangles.now.first.now triangles.now.second.now triangles.now.third.now triangles.now.count)) }
 {
     write_zeros(file, 0, 80);
-    write_word(file, 80, triangles as u32);
-    write_facets(px, py, pz, vertices, t0, t1, t2, triangles, file);
+    write_word(file, 80, triangles.count as u32);
+    write_facets(vertices, triangles, file);
 }

@@ -1,17 +1,17 @@
-// Result<f32, Refusal>, box and statistics of a mesh (src/layers/mesh.rs).
+// Area, box and statistics of a mesh (src/layers/mesh.rs).
 #![tactic(auto)]
 
 ghost use Rattle.std.specs.Prelude.{◌≡◌, true, ◌<◌, length, get_or};
 ghost use Rattle.std.specs.Float.{nan};
 ghost use Rattle.floats.specs.Floats.{zero32};
 ghost use Rattle.slopes.specs.Normals.{normal};
-ghost use Rattle.corners.specs.Corners.{every, vertex, vertices_in, triangles_in, triangle_ok};
+ghost use Rattle.corners.specs.Corners.{every, vertex, triangle_ok};
+ghost use Rattle.corners.specs.Read.{Lies, points_in, numbers_in};
 ghost use Rattle.surfaces.specs.Areas.{arrow_of, cross_of, area_between, area_from, area_answer};
 ghost use Rattle.surfaces.specs.Boxes.{lower_of, upper_of, box_of, box_answer};
 ghost use Rattle.surfaces.specs.Stats.{is_none, normals_in, stats_answer};
-ghost use Rattle.corners.specs.Steps.{Lent};
 
-use corners::{set_ok, triangles_ok, vertices_ok};
+use corners::{Threes, triangles_ok, vertices_ok};
 use floats::{Metres, larger, smaller};
 use refusals::Refusal;
 use slopes::Vertex;
@@ -55,67 +55,53 @@ fn area_between(v0: Vertex, v1: Vertex, v2: Vertex) -> f32
 }
 
 // The vertex at a place.
-pub fn vertex_at(px: &[f32], py: &[f32], pz: &[f32], i: usize) -> Vertex
-    requires { (i < length px.now) × (i < length py.now) × (i < length pz.now) }
-    ensures { result ≡ vertex (get_or px.now i nan) (get_or py.now i nan) (get_or pz.now i nan) }
+pub fn vertex_at(points: &Threes<f32>, i: usize) -> Vertex
+    requires { (i < length points.now.first.now) × (i < length points.now.second.now) × (i < length points.now.third.now) }
+    ensures { result ≡ vertex (get_or points.now.first.now i nan) (get_or points.now.second.now i nan)
+        (get_or points.now.third.now i nan) }
 {
     Vertex {
-        x: Metres(px[i]),
-        y: Metres(py[i]),
-        z: Metres(pz[i]),
+        x: Metres(points.first[i]),
+        y: Metres(points.second[i]),
+        z: Metres(points.third[i]),
     }
 }
 
 // The areas of all triangles, added up in order.
-fn area_of(
-    px: &[f32],
-    py: &[f32],
-    pz: &[f32],
-    vertices: usize,
-    t0: &[u32],
-    t1: &[u32],
-    t2: &[u32],
-    triangles: usize,
-) -> f32
-    requires lent { Lent px.now py.now pz.now vertices }
-    requires lent_2 { Lent t0.now t1.now t2.now triangles }
-    requires triangles_value { every (triangle_ok vertices) (triangles_in t0.now t1.now t2.now triangles) ≡ true }
-    ensures { result ≡ area_from (vertices_in px.now py.now pz.now vertices) zero32
-        (triangles_in t0.now t1.now t2.now triangles) }
+fn area_of(vertices: &Threes<f32>, triangles: &Threes<u32>) -> f32
+    requires lent { Lies vertices.now }
+    requires lent_2 { Lies triangles.now }
+    requires triangles_value { every (triangle_ok vertices.now.count) (numbers_in triangles.now) ≡ true }
+    ensures { result ≡ area_from (points_in vertices.now) zero32 (numbers_in triangles.now) }
 {
+    let Threes {
+        first,
+        second,
+        third,
+        count,
+    } = *triangles;
     let mut area = 0.0;
-    for i in 0..triangles {
-        let v0 = vertex_at(px, py, pz, t0[i] as usize);
-        let v1 = vertex_at(px, py, pz, t1[i] as usize);
-        let v2 = vertex_at(px, py, pz, t2[i] as usize);
+    for i in 0..count {
+        let v0 = vertex_at(vertices, first[i] as usize);
+        let v1 = vertex_at(vertices, second[i] as usize);
+        let v2 = vertex_at(vertices, third[i] as usize);
         area = area + area_between(v0, v1, v2);
     }
     area
 }
 
 // The area of a mesh.
-pub fn surface_area(
-    px: &[f32],
-    py: &[f32],
-    pz: &[f32],
-    vertices: usize,
-    t0: &[u32],
-    t1: &[u32],
-    t2: &[u32],
-    triangles: usize,
-) -> Result<f32, Refusal>
-    ensures { result ≡ area_answer px.now py.now pz.now vertices t0.now
-        t1.now t2.now triangles }
+pub fn surface_area(vertices: &Threes<f32>, triangles: &Threes<u32>) -> Result<f32, Refusal>
+    ensures { result ≡ area_answer vertices.now.first.now vertices.now.second.now vertices.now.third.now vertices.now.count
+        triangles.now.first.now triangles.now.second.now triangles.now.third.now triangles.now.count }
 {
-    if !(set_ok(px.len(), py.len(), pz.len(), vertices)
-        & set_ok(t0.len(), t1.len(), t2.len(), triangles))
-    {
+    if !(vertices.is_ok() & triangles.is_ok()) {
         return Err(Refusal::Lengths);
     }
-    if !(vertices_ok(px, py, pz, vertices) & triangles_ok(vertices, t0, t1, t2, triangles)) {
+    if !(vertices_ok(vertices) & triangles_ok(vertices.count, triangles)) {
         return Err(Refusal::BadVertex);
     }
-    Ok(area_of(px, py, pz, vertices, t0, t1, t2, triangles))
+    Ok(area_of(vertices, triangles))
 }
 
 // The smaller coordinates of two vertices.
@@ -141,22 +127,18 @@ fn upper_of(v: Vertex, w: Vertex) -> Vertex
 }
 
 // The box around some vertices.
-fn box_of(
-    px: &[f32],
-    py: &[f32],
-    pz: &[f32],
-    vertices: usize,
-) -> Result<Option<(Vertex, Vertex)>, Refusal>
-    requires { Lent px.now py.now pz.now vertices }
-    ensures { result ≡ box_of (vertices_in px.now py.now pz.now vertices) }
+fn box_of(vertices: &Threes<f32>) -> Result<Option<(Vertex, Vertex)>, Refusal>
+    requires { Lies vertices.now }
+    ensures { result ≡ box_of (points_in vertices.now) }
 {
-    if vertices == 0 {
+    let count = vertices.count;
+    if count == 0 {
         return Ok(None);
     }
-    let mut low = vertex_at(px, py, pz, 0);
+    let mut low = vertex_at(vertices, 0);
     let mut high = low;
-    for i in 1..vertices {
-        let v = vertex_at(px, py, pz, i);
+    for i in 1..count {
+        let v = vertex_at(vertices, i);
         low = lower_of(low, v);
         high = upper_of(high, v);
     }
@@ -164,21 +146,16 @@ fn box_of(
 }
 
 // The box around a mesh.
-pub fn bounding_box(
-    px: &[f32],
-    py: &[f32],
-    pz: &[f32],
-    vertices: usize,
-) -> Result<Option<(Vertex, Vertex)>, Refusal>
-    ensures { result ≡ box_answer px.now py.now pz.now vertices }
+pub fn bounding_box(vertices: &Threes<f32>) -> Result<Option<(Vertex, Vertex)>, Refusal>
+    ensures { result ≡ box_answer vertices.now.first.now vertices.now.second.now vertices.now.third.now vertices.now.count }
 {
-    if !set_ok(px.len(), py.len(), pz.len(), vertices) {
+    if !vertices.is_ok() {
         return Err(Refusal::Lengths);
     }
-    if !vertices_ok(px, py, pz, vertices) {
+    if !vertices_ok(vertices) {
         return Err(Refusal::BadVertex);
     }
-    box_of(px, py, pz, vertices)
+    box_of(vertices)
 }
 
 // Three zeros of either sign.
@@ -189,12 +166,19 @@ fn is_none(x: f32, y: f32, z: f32) -> bool
 }
 
 // No vertex has a normal.
-fn all_none(nx: &[f32], ny: &[f32], nz: &[f32], vertices: usize) -> bool
-    requires { Lent nx.now ny.now nz.now vertices }
-    ensures { result ≡ every is_none (normals_in nx.now ny.now nz.now vertices) }
+fn all_none(normals: &Threes<f32>) -> bool
+    requires { Lies normals.now }
+    ensures { result ≡ every is_none
+        (normals_in normals.now.first.now normals.now.second.now normals.now.third.now normals.now.count) }
 {
-    for i in 0..vertices {
-        if !is_none(nx[i], ny[i], nz[i]) {
+    let Threes {
+        first,
+        second,
+        third,
+        count,
+    } = *normals;
+    for i in 0..count {
+        if !is_none(first[i], second[i], third[i]) {
             return false;
         }
     }
@@ -202,11 +186,11 @@ fn all_none(nx: &[f32], ny: &[f32], nz: &[f32], vertices: usize) -> bool
 }
 
 // Whether some vertex has a normal.
-pub fn mesh_stats(nx: &[f32], ny: &[f32], nz: &[f32], vertices: usize) -> Result<bool, Refusal>
-    ensures { result ≡ stats_answer nx.now ny.now nz.now vertices }
+pub fn mesh_stats(normals: &Threes<f32>) -> Result<bool, Refusal>
+    ensures { result ≡ stats_answer normals.now.first.now normals.now.second.now normals.now.third.now normals.now.count }
 {
-    if !set_ok(nx.len(), ny.len(), nz.len(), vertices) {
+    if !normals.is_ok() {
         return Err(Refusal::Lengths);
     }
-    Ok(!all_none(nx, ny, nz, vertices))
+    Ok(!all_none(normals))
 }

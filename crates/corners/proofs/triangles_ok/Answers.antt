@@ -11,23 +11,23 @@ use Rattle.corners.proofs.triangles_ok.Goals as goal
 pub loop-i-init : goal.loop-i-init
 loop-i-init c = (search rules, refl)
 
-pub offset_bounds-t0-i : goal.offset_bounds-t0-i
-offset_bounds-t0-i c = omega arith
+pub offset_bounds-first-i : goal.offset_bounds-first-i
+offset_bounds-first-i c = omega arith
 
-pub bounds-t0-i : goal.bounds-t0-i
-bounds-t0-i c = omega arith
+pub bounds-first-i : goal.bounds-first-i
+bounds-first-i c = omega arith
 
-pub offset_bounds-t1-i : goal.offset_bounds-t1-i
-offset_bounds-t1-i c = omega arith
+pub offset_bounds-second-i : goal.offset_bounds-second-i
+offset_bounds-second-i c = omega arith
 
-pub bounds-t1-i : goal.bounds-t1-i
-bounds-t1-i c = omega arith
+pub bounds-second-i : goal.bounds-second-i
+bounds-second-i c = omega arith
 
-pub offset_bounds-t2-i : goal.offset_bounds-t2-i
-offset_bounds-t2-i c = omega arith
+pub offset_bounds-third-i : goal.offset_bounds-third-i
+offset_bounds-third-i c = omega arith
 
-pub bounds-t2-i : goal.bounds-t2-i
-bounds-t2-i c = omega arith
+pub bounds-third-i : goal.bounds-third-i
+bounds-third-i c = omega arith
 
 pub returns-then-not-triangle_ok : goal.returns-then-not-triangle_ok
 returns-then-not-triangle_ok c =

@@ -3,11 +3,9 @@
 use Prim.Native.Nat.{◌≤◌}
 use mathlib.Core.Path.{◌≡◌}
 use lib.ListN.{drop}
-use Rattle.corners.specs.Corners.{every, triangles_in, triangle_ok}
+use Rattle.corners.specs.Corners.{every, triangle_ok}
+use Rattle.corners.specs.Read.{numbers_in}
 use Rattle.corners.proofs.triangles_ok.Given as goal
 
 abbrev pub invariant-loop-i : goal.invariant-loop-i
-invariant-loop-i l =
-    (l.i ≤ l.triangles)
-    × (every (triangle_ok l.vertices) (triangles_in l.t0 l.t1 l.t2 l.triangles)
-    ≡ every (triangle_ok l.vertices) (drop l.i (triangles_in l.t0 l.t1 l.t2 l.triangles)))
+invariant-loop-i l = (l.i ≤ l.fn.triangles.count) × (every (triangle_ok l.vertices) (numbers_in l.fn.triangles) ≡ every (triangle_ok l.vertices) (drop l.i (numbers_in l.fn.triangles)))

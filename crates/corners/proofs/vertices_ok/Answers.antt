@@ -12,23 +12,23 @@ use Rattle.corners.proofs.vertices_ok.Goals as goal
 pub loop-i-init : goal.loop-i-init
 loop-i-init c = (search rules, refl)
 
-pub offset_bounds-px-i : goal.offset_bounds-px-i
-offset_bounds-px-i c = omega arith
+pub offset_bounds-first-i : goal.offset_bounds-first-i
+offset_bounds-first-i c = omega arith
 
-pub bounds-px-i : goal.bounds-px-i
-bounds-px-i c = omega arith
+pub bounds-first-i : goal.bounds-first-i
+bounds-first-i c = omega arith
 
-pub offset_bounds-py-i : goal.offset_bounds-py-i
-offset_bounds-py-i c = omega arith
+pub offset_bounds-second-i : goal.offset_bounds-second-i
+offset_bounds-second-i c = omega arith
 
-pub bounds-py-i : goal.bounds-py-i
-bounds-py-i c = omega arith
+pub bounds-second-i : goal.bounds-second-i
+bounds-second-i c = omega arith
 
-pub offset_bounds-pz-i : goal.offset_bounds-pz-i
-offset_bounds-pz-i c = omega arith
+pub offset_bounds-third-i : goal.offset_bounds-third-i
+offset_bounds-third-i c = omega arith
 
-pub bounds-pz-i : goal.bounds-pz-i
-bounds-pz-i c = omega arith
+pub bounds-third-i : goal.bounds-third-i
+bounds-third-i c = omega arith
 
 pub returns-then-not-vertex_ok : goal.returns-then-not-vertex_ok
 returns-then-not-vertex_ok c =

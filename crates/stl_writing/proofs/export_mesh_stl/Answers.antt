@@ -35,8 +35,8 @@ returns c =
     let answered = c.answer-answer.ensures in
     let n = c.count_of-n.ensures ∙ ap count_of answered in
     let written : (k : ℕ)
-    → export_answer a.px.now a.py.now a.pz.now a.vertices a.t0.now a.t1.now a.t2.now a.triangles (length a.file.now) ≡ Ok k
-    → c.if-n-gt0.file ≡ sets a.file.now 0 (file_of (facets_lent a.px.now a.py.now a.pz.now a.vertices a.t0.now a.t1.now a.t2.now a.triangles)) =
+    → export_answer a.vertices.now.first.now a.vertices.now.second.now a.vertices.now.third.now a.vertices.now.count a.triangles.now.first.now a.triangles.now.second.now a.triangles.now.third.now a.triangles.now.count (length a.file.now) ≡ Ok k
+    → c.if-n-gt0.file ≡ sets a.file.now 0 (file_of (facets_lent a.vertices.now.first.now a.vertices.now.second.now a.vertices.now.third.now a.vertices.now.count a.triangles.now.first.now a.triangles.now.second.now a.triangles.now.third.now a.triangles.now.count)) =
     elim c.if-n-gt0.branch [
       | then-n-gt0 w ↦ λ k g. w.file-is ∙ w.write_file.ensures
       | else-n-gt0 w ↦ λ k g. absurd (none_counted _ _ _ _ _ _ _ _ _ _ n w.if-n-gt0.false k g)

@@ -13,23 +13,23 @@ use Rattle.surfaces.proofs.all_none.Goals as goal
 pub loop-i-init : goal.loop-i-init
 loop-i-init c = (search rules, refl)
 
-pub offset_bounds-nx-i : goal.offset_bounds-nx-i
-offset_bounds-nx-i c = omega arith
+pub offset_bounds-first-i : goal.offset_bounds-first-i
+offset_bounds-first-i c = omega arith
 
-pub bounds-nx-i : goal.bounds-nx-i
-bounds-nx-i c = omega arith
+pub bounds-first-i : goal.bounds-first-i
+bounds-first-i c = omega arith
 
-pub offset_bounds-ny-i : goal.offset_bounds-ny-i
-offset_bounds-ny-i c = omega arith
+pub offset_bounds-second-i : goal.offset_bounds-second-i
+offset_bounds-second-i c = omega arith
 
-pub bounds-ny-i : goal.bounds-ny-i
-bounds-ny-i c = omega arith
+pub bounds-second-i : goal.bounds-second-i
+bounds-second-i c = omega arith
 
-pub offset_bounds-nz-i : goal.offset_bounds-nz-i
-offset_bounds-nz-i c = omega arith
+pub offset_bounds-third-i : goal.offset_bounds-third-i
+offset_bounds-third-i c = omega arith
 
-pub bounds-nz-i : goal.bounds-nz-i
-bounds-nz-i c = omega arith
+pub bounds-third-i : goal.bounds-third-i
+bounds-third-i c = omega arith
 
 pub returns-then-not-is_none : goal.returns-then-not-is_none
 returns-then-not-is_none c =

@@ -8,7 +8,5 @@ use Rattle.surfaces.specs.Stats.{is_none, normals_in}
 use Rattle.surfaces.proofs.all_none.Given as goal
 
 abbrev pub invariant-loop-i : goal.invariant-loop-i
-invariant-loop-i l =
-    (l.i ≤ l.vertices)
-    × (every (is_none) (normals_in l.nx l.ny l.nz l.vertices)
-    ≡ every (is_none) (drop l.i (normals_in l.nx l.ny l.nz l.vertices)))
+invariant-loop-i l = let ns = normals_in l.fn.normals.first.now l.fn.normals.second.now l.fn.normals.third.now l.fn.normals.count in
+    (l.i ≤ l.fn.normals.count) × (every is_none ns ≡ every is_none (drop l.i ns))

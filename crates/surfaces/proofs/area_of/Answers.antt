@@ -20,45 +20,33 @@ pub loop-i-init : goal.loop-i-init
 unfolding of_bits
 loop-i-init c = (search rules, c.requires.triangles_value, refl)
 
-pub offset_bounds-t0-i : goal.offset_bounds-t0-i
-offset_bounds-t0-i c = omega (arith, c.loop-i-test.true, c.requires.lent_2.fits, c.requires.lent_2.second, c.requires.lent_2.third)
+pub offset_bounds-first-i : goal.offset_bounds-first-i
+offset_bounds-first-i c = omega (arith, c.loop-i-test.true, c.requires.lent_2.fits, c.requires.lent_2.second, c.requires.lent_2.third)
 
-pub bounds-t0-i : goal.bounds-t0-i
-bounds-t0-i c = omega (arith, c.loop-i-test.true, c.requires.lent_2.fits, c.requires.lent_2.second, c.requires.lent_2.third)
-
-pub overflow_cast-t0 : goal.overflow_cast-t0
-overflow_cast-t0 c =
-    omega (arith, (named _ _ _ _ c.requires.lent _ _ _ _ c.requires.lent_2 c.loop-i.i c.loop-i-test.true c.loop-i.invariant.1).0, c.ranges.vertices)
+pub bounds-first-i : goal.bounds-first-i
+bounds-first-i c = omega (arith, c.loop-i-test.true, c.requires.lent_2.fits, c.requires.lent_2.second, c.requires.lent_2.third)
 
 pub vertex_at-v0-requires : goal.vertex_at-v0-requires
 vertex_at-v0-requires c =
     asked _ c.requires.lent
     (named _ _ _ _ c.requires.lent _ _ _ _ c.requires.lent_2 c.loop-i.i c.loop-i-test.true c.loop-i.invariant.1).0
 
-pub offset_bounds-t1-i : goal.offset_bounds-t1-i
-offset_bounds-t1-i c = omega (arith, c.loop-i-test.true, c.requires.lent_2.fits, c.requires.lent_2.second, c.requires.lent_2.third)
+pub offset_bounds-second-i : goal.offset_bounds-second-i
+offset_bounds-second-i c = omega (arith, c.loop-i-test.true, c.requires.lent_2.fits, c.requires.lent_2.second, c.requires.lent_2.third)
 
-pub bounds-t1-i : goal.bounds-t1-i
-bounds-t1-i c = omega (arith, c.loop-i-test.true, c.requires.lent_2.fits, c.requires.lent_2.second, c.requires.lent_2.third)
-
-pub overflow_cast-t1 : goal.overflow_cast-t1
-overflow_cast-t1 c =
-    omega (arith, (named _ _ _ _ c.requires.lent _ _ _ _ c.requires.lent_2 c.loop-i.i c.loop-i-test.true c.loop-i.invariant.1).1, c.ranges.vertices)
+pub bounds-second-i : goal.bounds-second-i
+bounds-second-i c = omega (arith, c.loop-i-test.true, c.requires.lent_2.fits, c.requires.lent_2.second, c.requires.lent_2.third)
 
 pub vertex_at-v1-requires : goal.vertex_at-v1-requires
 vertex_at-v1-requires c =
     asked _ c.requires.lent
     (named _ _ _ _ c.requires.lent _ _ _ _ c.requires.lent_2 c.loop-i.i c.loop-i-test.true c.loop-i.invariant.1).1
 
-pub offset_bounds-t2-i : goal.offset_bounds-t2-i
-offset_bounds-t2-i c = omega (arith, c.loop-i-test.true, c.requires.lent_2.fits, c.requires.lent_2.second, c.requires.lent_2.third)
+pub offset_bounds-third-i : goal.offset_bounds-third-i
+offset_bounds-third-i c = omega (arith, c.loop-i-test.true, c.requires.lent_2.fits, c.requires.lent_2.second, c.requires.lent_2.third)
 
-pub bounds-t2-i : goal.bounds-t2-i
-bounds-t2-i c = omega (arith, c.loop-i-test.true, c.requires.lent_2.fits, c.requires.lent_2.second, c.requires.lent_2.third)
-
-pub overflow_cast-t2 : goal.overflow_cast-t2
-overflow_cast-t2 c =
-    omega (arith, (named _ _ _ _ c.requires.lent _ _ _ _ c.requires.lent_2 c.loop-i.i c.loop-i-test.true c.loop-i.invariant.1).2, c.ranges.vertices)
+pub bounds-third-i : goal.bounds-third-i
+bounds-third-i c = omega (arith, c.loop-i-test.true, c.requires.lent_2.fits, c.requires.lent_2.second, c.requires.lent_2.third)
 
 pub vertex_at-v2-requires : goal.vertex_at-v2-requires
 vertex_at-v2-requires c =
@@ -70,7 +58,7 @@ loop-i-preserved c =
     let h = c.loop-i-test.true in
     let v = c.loop-i.invariant in (
       omega arith,
-      others_pass triangle 0 _ _ _ _ c.requires.lent_2 _ (triangle_ok c.args.vertices) h v.1,
+      others_pass triangle 0 _ _ _ _ c.requires.lent_2 _ (triangle_ok c.args.vertices.now.count) h v.1,
       v.2
           ∙ area_more _ _ _ _ c.requires.lent _ _ _ _ c.requires.lent_2 c.loop-i.i h v.1 _ _ _ _ _ _
           c.vertex_at-v0.ensures

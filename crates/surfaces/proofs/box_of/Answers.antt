@@ -4,14 +4,14 @@ use native.Mathlib.Omega.{arith}
 use Rattle.surfaces.proofs.BoxLaws.{box_none, box_first, box_more, box_done}
 use Rattle.surfaces.proofs.box_of.Goals as goal
 
-pub returns-then-vertices-eq0 : goal.returns-then-vertices-eq0
-returns-then-vertices-eq0 c = box_none _ _ _ _ c.if-vertices-eq0.true
+pub returns-then-count-eq0 : goal.returns-then-count-eq0
+returns-then-count-eq0 c = box_none _ _ _ _ c.if-count-eq0.true
 
 pub vertex_at-low-requires : goal.vertex_at-low-requires
-vertex_at-low-requires c = omega (arith, c.if-vertices-eq0.false, c.requires.fits, c.requires.second, c.requires.third)
+vertex_at-low-requires c = omega (arith, c.if-count-eq0.false, c.requires.fits, c.requires.second, c.requires.third)
 
 pub loop-i-init : goal.loop-i-init
-loop-i-init c = (omega (arith, c.if-vertices-eq0.false), box_first _ _ _ _ c.requires (omega (arith, c.if-vertices-eq0.false)) _ c.vertex_at-low.ensures)
+loop-i-init c = (omega (arith, c.if-count-eq0.false), box_first _ _ _ _ c.requires (omega (arith, c.if-count-eq0.false)) _ c.vertex_at-low.ensures)
 
 pub vertex_at-v-requires : goal.vertex_at-v-requires
 vertex_at-v-requires c = omega (arith, c.loop-i-test.true, c.requires.fits, c.requires.second, c.requires.third)

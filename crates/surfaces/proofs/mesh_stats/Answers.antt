@@ -6,13 +6,13 @@ use Rattle.surfaces.specs.Stats.{stats_answer}
 use Rattle.corners.proofs.Sets.{lent}
 use Rattle.surfaces.proofs.mesh_stats.Goals as goal
 
-pub returns-then-not-set_ok : goal.returns-then-not-set_ok
+pub returns-then-not-is_ok : goal.returns-then-not-is_ok
 unfolding stats_answer
-returns-then-not-set_ok c = rw (no c.set_ok.ensures (ap not c.if-not-set_ok.true))
+returns-then-not-is_ok c = rw (no c.is_ok.ensures (ap not c.if-not-is_ok.true))
 
 pub all_none-requires : goal.all_none-requires
-all_none-requires c = lent _ _ _ _ (yes c.set_ok.ensures (ap not c.if-not-set_ok.false))
+all_none-requires c = lent _ _ _ _ (yes c.is_ok.ensures (ap not c.if-not-is_ok.false))
 
 pub returns : goal.returns
 unfolding stats_answer
-returns c = rw (yes c.set_ok.ensures (ap not c.if-not-set_ok.false), c.all_none.ensures)
+returns c = rw (yes c.is_ok.ensures (ap not c.if-not-is_ok.false), c.all_none.ensures)

@@ -14,7 +14,7 @@ pub returns : goal.returns
 unfolding file_of
 returns c =
     let a = c.args in
-    let fs = facets_lent a.px.now a.py.now a.pz.now a.vertices a.t0.now a.t1.now a.t2.now a.triangles in
+    let fs = facets_lent a.vertices.now.first.now a.vertices.now.second.now a.vertices.now.third.now a.vertices.now.count a.triangles.now.first.now a.triangles.now.second.now a.triangles.now.third.now a.triangles.now.count in
     three_parts a.file.now 0 (zeros 80) 80 (bytes_of (length fs)) 84 (joined facet_bytes fs)
     c.write_zeros.ensures refl
     (rw (facets_length _ _ _ _ _ _ _ _ c.requires.triangles) c.write_word.ensures) refl
