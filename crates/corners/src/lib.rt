@@ -23,7 +23,12 @@ impl<'a, T> Threes<'a, T> {
     pub fn is_ok(&self) -> bool
         ensures { result ≡ threes_ok self.now }
     {
-        set_ok(self.first.len(), self.second.len(), self.third.len(), self.count)
+        set_ok(
+            self.first.len(),
+            self.second.len(),
+            self.third.len(),
+            self.count,
+        )
     }
 }
 

@@ -90,13 +90,7 @@ fn take_reading(
         weights,
         count: *count,
     };
-    let fused = fusing::update_from_depth(
-        settings,
-        &mut rows,
-        key,
-        Metres(distance),
-        confidence,
-    );
+    let fused = fusing::update_from_depth(settings, &mut rows, key, Metres(distance), confidence);
     *count = rows.count;
     fused
 }

@@ -57,11 +57,7 @@ fn write_facet(file: &mut [u8], at: usize, a: Vertex, b: Vertex, c: Vertex)
 }
 
 // All triangles, one after the other.
-fn write_facets(
-    vertices: &Threes<f32>,
-    triangles: &Threes<u32>,
-    file: &mut [u8],
-)
+fn write_facets(vertices: &Threes<f32>, triangles: &Threes<u32>, file: &mut [u8])
     requires { Writable vertices.now.first.now vertices.now.second.now vertices.now.third.now vertices.now.count
         triangles.now.first.now triangles.now.second.now triangles.now.third.now triangles.now.count (length file.old) }
     ensures { file.new ≡ sets file.old 84
@@ -83,11 +79,7 @@ fn write_facets(
 }
 
 // The whole file, from the front.
-pub(crate) fn write_file(
-    vertices: &Threes<f32>,
-    triangles: &Threes<u32>,
-    file: &mut [u8],
-)
+pub(crate) fn write_file(vertices: &Threes<f32>, triangles: &Threes<u32>, file: &mut [u8])
     requires { Writable vertices.now.first.now vertices.now.second.now vertices.now.third.now vertices.now.count
         triangles.now.first.now triangles.now.second.now triangles.now.third.now triangles.now.count (length file.old) }
     ensures { file.new ≡ sets file.old 0
