@@ -10,7 +10,7 @@ ghost use Rattle.bcc_utils.specs.Snapping.{on_lattice, snapped};
 ghost use Rattle.bcc_utils.specs.Metres.{voxel_of};
 ghost use Rattle.answers.specs.Given.{given, no_cells, no_place, one_if};
 
-use answers::answer_number;
+use answers::{answer_number, one_if};
 use bcc_utils::WideCells;
 use floats::Metres;
 use ids::Cells;
@@ -117,5 +117,5 @@ pub extern "C" fn akf_is_valid_bcc(x: i32, y: i32, z: i32) -> u32
     ensures { result ≡ one_if (on_lattice x y z) }
 {
     let valid = bcc_utils::is_valid_bcc(WideCells(x), WideCells(y), WideCells(z));
-    u32::from(valid)
+    one_if(valid)
 }

@@ -13,7 +13,7 @@ ghost use Rattle.esdf_surveys.specs.Statistics.{get_stats};
 ghost use Rattle.answers.specs.Given.{given, found, one_if};
 ghost use Rattle.mesh_answers.specs.Marching.{march_back, march_handed, no_slope, no_marched_stats};
 
-use answers::{answer_number, found_number};
+use answers::{answer_number, found_number, one_if};
 use lists::count_of;
 use mesh_answers::NO_MARCHED_STATS;
 use stored::Distances;
@@ -110,7 +110,7 @@ pub extern "C" fn akf_is_free_space(
         key,
         threshold,
     );
-    *yes = u32::from(found.unwrap_or(false));
+    *yes = one_if(found.unwrap_or(false));
     answer_number(&found)
 }
 

@@ -13,7 +13,7 @@ ghost use Rattle.surfaces.specs.Stats.{stats_answer};
 ghost use Rattle.answers.specs.Given.{given, found, one_if};
 ghost use Rattle.mesh_answers.specs.Meshing.{MeshBackOn, TurnedBack, MeshBack, span_start, span_length, no_box};
 
-use answers::{answer_number, found_number};
+use answers::{answer_number, found_number, one_if};
 use corners::Threes;
 use mesh_answers::{NO_CORNER, span_length, span_start};
 use table::{Rows, settings_of};
@@ -312,6 +312,6 @@ pub extern "C" fn akf_mesh_stats(
         third: nz,
         count: vertices,
     });
-    *has_normals = u32::from(stats.unwrap_or(false));
+    *has_normals = one_if(stats.unwrap_or(false));
     answer_number(&stats)
 }

@@ -10,7 +10,7 @@ ghost use Rattle.tsdf_surveys.specs.Statistics.{statistics_of};
 ghost use Rattle.edges.specs.Listing.{edges_answer, firsts_held, seconds_held};
 ghost use Rattle.answers.specs.Given.{given, found, no_metres, no_stats, one_if};
 
-use answers::{NO_STATS, answer_number, found_number};
+use answers::{NO_STATS, answer_number, found_number, one_if};
 use floats::Metres;
 use lists::count_of;
 use table::{Rows, settings_of};
@@ -122,7 +122,7 @@ pub extern "C" fn akf_is_surface_voxel(
         key,
         Metres(threshold),
     );
-    *yes = u32::from(found.unwrap_or(false));
+    *yes = one_if(found.unwrap_or(false));
     answer_number(&found)
 }
 

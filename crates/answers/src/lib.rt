@@ -6,6 +6,7 @@ pub mod readings;
 
 ghost use Rattle.std.specs.Prelude.{◌≡◌};
 ghost use Rattle.refusals.specs.Refusals.{answer_number, found_number};
+ghost use Rattle.answers.specs.Given.{one_if};
 
 use floats::Metres;
 use refusals::Refusal;
@@ -30,6 +31,13 @@ pub const NO_STATS: TsdfStats = TsdfStats {
     max_distance: Metres(0.0),
     average_weight: 0.0,
 };
+
+// 1 for yes and 0 for no, as C reads it.
+pub fn one_if(yes: bool) -> u32
+    ensures { result ≡ one_if yes }
+{
+    u32::from(yes)
+}
 
 // The number of an answer.
 pub fn answer_number<T>(answer: &Result<T, Refusal>) -> u32
