@@ -159,6 +159,7 @@ pub fn hold_back(most: f32, own_weights: &[f32], seats: &mut [u32], own: usize)
 }
 
 // The rows from `from` up to `end`, moved up so that they end at `to`, each column's value in turn; the answer is where they then begin.
+// By one loop and not by `copy_within` for each column: most runs are of a few rows, and a shuffled batch takes longer by that.
 fn slide(
     keys: &mut [u64],
     distances: &mut [f32],
@@ -177,10 +178,15 @@ fn slide(
     if end == to {
         return from;
     }
-    let place = to - (end - from);
-    keys.copy_within(from..end, place);
-    distances.copy_within(from..end, place);
-    weights.copy_within(from..end, place);
+    let mut i = end;
+    let mut place = to;
+    while from < i {
+        i -= 1;
+        place -= 1;
+        keys[place] = keys[i];
+        distances[place] = distances[i];
+        weights[place] = weights[i];
+    }
     place
 }
 
