@@ -2,7 +2,8 @@ pub mod Bools
 pub mod Table
 pub mod Writing
 pub mod Held
-pub mod Rotating
+pub mod Shifting
+pub mod Lowering
 pub mod PaddingLaws
 pub mod ListLaws
 pub mod Inserting

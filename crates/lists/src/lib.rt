@@ -71,7 +71,9 @@ pub fn insert<T: Copy>(list: &mut [T], count: usize, place: usize, value: T)
     ensures { list.new ≡ inserted list.old count place value }
 {
     if place <= count && count < list.len() {
-        list[place..=count].rotate_right(1);
+        for i in (place..count).rev() {
+            list[i + 1] = list[i];
+        }
         list[place] = value;
     }
 }

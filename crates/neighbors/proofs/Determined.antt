@@ -1,9 +1,13 @@
 -- Every public contract settles its outcome: two that meet it are equal, in the answer and in every lent place.
 -- Assumes nothing.
 use mathlib.Core.Path.{◌≡◌, sym, ◌∙◌}
+use Rattle.neighbors.proofs.Near.cells.Reads as cells
 use Rattle.neighbors.proofs.around.Reads as around
 use Rattle.neighbors.proofs.are_adjacent.Reads as are_adjacent
 use Rattle.neighbors.proofs.neighbors_index64.Reads as neighbors_index64
+
+pub cells_determined : (κs : _) (a : _) (r r' : _) (s s' : _) → cells.Post κs a r s → cells.Post κs a r' s' → r.now ≡ r'.now
+cells_determined κs a r r' s s' p q = p ∙ sym q
 
 pub around_determined : (κs : _) (a : _) (r r' : _) (s s' : _) → around.Post κs a r s → around.Post κs a r' s' → r ≡ r'
 around_determined κs a r r' s s' p q = p ∙ sym q

@@ -1,6 +1,6 @@
 -- `lists::drop_first` meets its contract: the places after the first are copied one place down.
 -- Assumes nothing.
-use Rattle.lists.proofs.Rotating.{dropped}
+use Rattle.lists.proofs.Lowering.{dropped}
 use Rattle.lists.proofs.drop_first.Goals as goal
 
 pub returns-then-count-list : goal.returns-then-count-list
