@@ -8,7 +8,7 @@ use mathlib.Core.Path.{◌≡◌}
 use mathlib.Core.List.{List}
 use lib.ListN.{get_or}
 use lib.Dec.{lit<}
-use Rattle.lines.specs.Lines.{digit_of, hex_from, digits_from}
+use Rattle.lines.specs.Lines.{digit_of, hex_from, digits_from, settings_line, reading_line, line_of}
 
 -- a number of i digits and one more
 pub more_hex : (i : ℕ) {v d : ℕ} → v < 16 ^ i → d < 16 → v * 16 + d < 16 ^ suc i
@@ -49,3 +49,13 @@ module _ (n : ℕ) (s : List ℕ) (at i v : ℕ) (h : i < n) where
   digits_none e =
       let m : n - i ≡ suc (n - (i + 1)) = omega arith in
       rw (m, ← e)
+
+-- what a line is, by its first byte
+module _ (s : List ℕ) {b : ℕ} (e : b ≡ get_or s 0 0) where
+  pub settings_line_lem : b ≡ 80 → line_of s ≡ settings_line s
+  unfolding line_of
+  settings_line_lem f = rw (← e, f)
+
+  pub reading_line_lem : b ≡ 68 → line_of s ≡ reading_line s
+  unfolding line_of
+  reading_line_lem f = rw (← e, f)
