@@ -1,3 +1,4 @@
 pub mod SignedLaws
 pub mod BackLaws
 pub mod Determined
+pub mod Words

@@ -23,13 +23,16 @@ pub const NEW: u32 = 102;
 
 pub const CHANGED: u32 = 103;
 
+// What is handed back in place of a length that there is not.
+pub const NOTHING: f32 = 0.0;
+
 // What is handed back in place of statistics that there are not.
 pub const NO_STATS: TsdfStats = TsdfStats {
     voxel_count: 0,
     surface_voxel_count: 0,
-    min_distance: Metres(0.0),
-    max_distance: Metres(0.0),
-    average_weight: 0.0,
+    min_distance: Metres(NOTHING),
+    max_distance: Metres(NOTHING),
+    average_weight: NOTHING,
 };
 
 // 1 for yes and 0 for no, as C reads it.
