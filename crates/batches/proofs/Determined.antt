@@ -30,4 +30,9 @@ pub batch_update_determined :
     × (s.1.0.now.distances.now ≡ s'.1.0.now.distances.now)
     × (s.1.0.now.weights.now ≡ s'.1.0.now.weights.now)
     × (s.1.0.now.count ≡ s'.1.0.now.count)
-batch_update_determined κs a r r' s s' p q = batch_parts (p.0 ∙ sym q.0)
+    × (s.1.0.now.keys.ghost_name ≡ s'.1.0.now.keys.ghost_name)
+    × (s.1.0.now.distances.ghost_name ≡ s'.1.0.now.distances.ghost_name)
+    × (s.1.0.now.weights.ghost_name ≡ s'.1.0.now.weights.ghost_name)
+batch_update_determined κs a r r' s s' p q =
+    let e = batch_parts (p.0 ∙ sym q.0) in
+    (e.0, e.1, e.2, e.3, e.4, p.1.0 ∙ sym q.1.0, p.1.1 ∙ sym q.1.1, p.1.2 ∙ sym q.1.2)

@@ -61,7 +61,12 @@ pub fuse_sound_determined :
     × (s.1.0.now.distances.now ≡ s'.1.0.now.distances.now)
     × (s.1.0.now.weights.now ≡ s'.1.0.now.weights.now)
     × (s.1.0.now.count ≡ s'.1.0.now.count)
-fuse_sound_determined κs a r r' s s' p q = effect_parts (p.0 ∙ sym q.0)
+    × (s.1.0.now.keys.ghost_name ≡ s'.1.0.now.keys.ghost_name)
+    × (s.1.0.now.distances.ghost_name ≡ s'.1.0.now.distances.ghost_name)
+    × (s.1.0.now.weights.ghost_name ≡ s'.1.0.now.weights.ghost_name)
+fuse_sound_determined κs a r r' s s' p q =
+    let e = effect_parts (p.0 ∙ sym q.0) in
+    (e.0, e.1, e.2, e.3, e.4, p.1.0 ∙ sym q.1.0, p.1.1 ∙ sym q.1.1, p.1.2 ∙ sym q.1.2)
 
 pub fuse_determined :
     (κs : _) (a : _) (r r' : _) (s s' : _)
@@ -72,7 +77,12 @@ pub fuse_determined :
     × (s.1.0.now.distances.now ≡ s'.1.0.now.distances.now)
     × (s.1.0.now.weights.now ≡ s'.1.0.now.weights.now)
     × (s.1.0.now.count ≡ s'.1.0.now.count)
-fuse_determined κs a r r' s s' p q = parts (p.0 ∙ sym q.0)
+    × (s.1.0.now.keys.ghost_name ≡ s'.1.0.now.keys.ghost_name)
+    × (s.1.0.now.distances.ghost_name ≡ s'.1.0.now.distances.ghost_name)
+    × (s.1.0.now.weights.ghost_name ≡ s'.1.0.now.weights.ghost_name)
+fuse_determined κs a r r' s s' p q =
+    let e = parts (p.0 ∙ sym q.0) in
+    (e.0, e.1, e.2, e.3, e.4, p.1.0 ∙ sym q.1.0, p.1.1 ∙ sym q.1.1, p.1.2 ∙ sym q.1.2)
 
 pub update_from_depth_determined :
     (κs : _) (a : _) (r r' : _) (s s' : _)
@@ -83,7 +93,12 @@ pub update_from_depth_determined :
     × (s.1.0.now.distances.now ≡ s'.1.0.now.distances.now)
     × (s.1.0.now.weights.now ≡ s'.1.0.now.weights.now)
     × (s.1.0.now.count ≡ s'.1.0.now.count)
-update_from_depth_determined κs a r r' s s' p q = parts (p.0 ∙ sym q.0)
+    × (s.1.0.now.keys.ghost_name ≡ s'.1.0.now.keys.ghost_name)
+    × (s.1.0.now.distances.ghost_name ≡ s'.1.0.now.distances.ghost_name)
+    × (s.1.0.now.weights.ghost_name ≡ s'.1.0.now.weights.ghost_name)
+update_from_depth_determined κs a r r' s s' p q =
+    let e = parts (p.0 ∙ sym q.0) in
+    (e.0, e.1, e.2, e.3, e.4, p.1.0 ∙ sym q.1.0, p.1.1 ∙ sym q.1.1, p.1.2 ∙ sym q.1.2)
 
 pub update_from_depth_ray_determined :
     (κs : _) (a : _) (r r' : _) (s s' : _)
@@ -94,4 +109,9 @@ pub update_from_depth_ray_determined :
     × (s.1.0.now.distances.now ≡ s'.1.0.now.distances.now)
     × (s.1.0.now.weights.now ≡ s'.1.0.now.weights.now)
     × (s.1.0.now.count ≡ s'.1.0.now.count)
-update_from_depth_ray_determined κs a r r' s s' p q = parts (p.0 ∙ sym q.0)
+    × (s.1.0.now.keys.ghost_name ≡ s'.1.0.now.keys.ghost_name)
+    × (s.1.0.now.distances.ghost_name ≡ s'.1.0.now.distances.ghost_name)
+    × (s.1.0.now.weights.ghost_name ≡ s'.1.0.now.weights.ghost_name)
+update_from_depth_ray_determined κs a r r' s s' p q =
+    let e = parts (p.0 ∙ sym q.0) in
+    (e.0, e.1, e.2, e.3, e.4, p.1.0 ∙ sym q.1.0, p.1.1 ∙ sym q.1.1, p.1.2 ∙ sym q.1.2)
