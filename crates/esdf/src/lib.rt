@@ -70,7 +70,8 @@ fn march_checked(
             most: settings.max_distance.0,
         },
     };
-    march(&plan, keys, distances, estimates, cells)
+    let (rows, takings) = march(&plan, keys, distances, estimates, cells)?;
+    Ok((rows, takings))
 }
 
 // The march over a fused table: its rows into the marched lists, by way of the waiting ones.

@@ -17,7 +17,15 @@ returns-in_err-check c =
     let p = err_from_is_err_and c.from_residual.result c.from_residual.ensures.1 in
     rw (p.1, p.2) (refused_first _ _ _ _ _ _ (sym c.check.ensures ∙ c.in_err-check.was))
 
+pub returns-in_err-rows : goal.returns-in_err-rows
+returns-in_err-rows c =
+    let d = c.march in
+    let p = err_from_is_err_and c.from_residual-in_err-rows.result c.from_residual-in_err-rows.ensures.1 in
+    let marched = passed_first _ _ d.new.keys d.new.distances d.new.estimates d.new.cells d.result (sym c.check.ensures ∙ c.in_ok-check.was) d.ensures in
+    rw (p.1, p.2) (rw c.in_err-rows.was at marched)
+
 pub returns : goal.returns
 returns c =
     let d = c.march in
-    passed_first _ _ d.new.keys d.new.distances d.new.estimates d.new.cells d.result (sym c.check.ensures ∙ c.in_ok-check.was) d.ensures
+    let marched = passed_first _ _ d.new.keys d.new.distances d.new.estimates d.new.cells d.result (sym c.check.ensures ∙ c.in_ok-check.was) d.ensures in
+    rw c.in_ok-rows.was at marched
