@@ -27,6 +27,7 @@ use Rattle.mesh.specs.Mesh.{edges_of, triangles_of, vertices_of, have_room, held
 use Rattle.slopes.specs.Vertices.{xs_of, ys_of, zs_of}
 use Rattle.texts.specs.Texts.{hex_digits, hex_field, decimal_from, counts_line, vertex_line, bad_line, refused_line}
 use Rattle.fusing.specs.declared.Fused.{Fused}
+use Rattle.fusing.specs.declared.Fused.TheVariants as fused
 use Rattle.fusing.specs.Fusing.{outcome}
 use Rattle.lastlines.specs.declared.Stepped.{Stepped}
 use Rattle.lastlines.specs.Lastcheck.{setup_of, reading_of, vertex_lines, printed_for, mesh_text, goes_on_lem, held, After, after, after_setup, after_reading, after_mesh, after_line, step_of, stepped_as, IsStep}
@@ -253,3 +254,13 @@ module _ (bytes : List ℕ) (n : ℕ) (s : Option Settings) (t : Table) (l : Lis
       → Prints s (bad_line n) false r l o
       → IsStep (step_of bytes n s t) r t l o
   step_bad k p = is_step k p refl
+
+-- a reading that made a row or changed one is silent, and the run goes on
+module _ (s : Settings) where
+  pub fused_new : (l : List ℕ) {w : Result Fused Refusal} → w ≡ Ok fused.New → (t : Table) → PrintsStep (after_reading w s t) (stepped (Some s) 0 true) l l
+  unfolding after_reading
+  fused_new l e t = rw e (record { answer = refl; text = refl })
+
+  pub fused_changed : (l : List ℕ) {w : Result Fused Refusal} → w ≡ Ok fused.Changed → (t : Table) → PrintsStep (after_reading w s t) (stepped (Some s) 0 true) l l
+  unfolding after_reading
+  fused_changed l e t = rw e (record { answer = refl; text = refl })

@@ -1,5 +1,6 @@
 -- What each line does, and what the run prints.
 use Rattle.std.specs.Prelude.{ℕ, zero, suc, ◌≤◌, ◌≡◌, Bool, true, false, cond, List, [], ◌∷◌, ◌++◌, eqb, length, get_or, replicate, Float, Ok, Err, Some, None, Option, Result}
+use Rattle.std.specs.Option.{is_some, unwrap_or}
 use Rattle.std.proofs.lemmas.List.Edits.{sets}
 use Rattle.std.specs.Float.{nan, binary32}
 use Rattle.std.specs.Float.Ieee.{nan_bits, of_bits}
@@ -19,6 +20,7 @@ use Rattle.measuring.specs.declared.Reading.TheVariants as reading
 use Rattle.fusing.specs.Fusing.{Outcome, outcome, fuse}
 use Rattle.slopes.specs.Vertices.{xs_of, ys_of, zs_of}
 use Rattle.lastlines.specs.declared.Stepped.{Stepped}
+use Rattle.lastlines.specs.declared.Flagged.{Flagged}
 use Rattle.refusals.specs.declared.Refusal.{Refusal}
 
 -- the float of 32 bits; a NaN's bits are none
@@ -158,6 +160,14 @@ pub record IsStep (a : After) (r : Stepped) (t : Table) (out out' : List ℕ) : 
   pub left : t ≡ a.left
   pub text : out' ≡ sets out 0 a.text
   pub short : length a.text ≤ 15000
+
+-- settings beside a flag that says whether P came
+abbrev pub settings_if : Bool → Settings → Option Settings
+settings_if started s = cond started (Some s) None
+
+-- what a call answers of it that is lent a flag and settings: the settings as they came, where P didn't
+abbrev pub flagged_as : Settings → After → Flagged
+flagged_as s a = record { started = is_some a.settings; settings = unwrap_or a.settings s; length = length a.text; goes_on = a.goes }
 
 -- what the run prints for its lines, the first of them numbered n; it ends at a line that is bad or refused
 unfoldable pub transcript_from : ℕ → Option Settings → Table → List (List ℕ) → List ℕ

@@ -5,7 +5,7 @@ ghost use Rattle.std.specs.Prelude.{◌≡◌, true, false, ◌≤◌, length, S
 ghost use Rattle.std.proofs.lemmas.List.Edits.{sets};
 ghost use Rattle.table.specs.Table.{Table, table};
 ghost use Rattle.fusing.specs.Fusing.{outcome};
-ghost use Rattle.lastlines.specs.Lastcheck.{given_of, setup_of, taken_of, reading_of, vertex_lines, printed_for, goes_on_lem, after_setup, after_reading, after_mesh, step_of, IsStep};
+ghost use Rattle.lastlines.specs.Lastcheck.{given_of, setup_of, taken_of, reading_of, vertex_lines, printed_for, goes_on_lem, after_setup, after_reading, after_mesh, step_of, stepped_as, settings_if, flagged_as, IsStep};
 ghost use Rattle.texts.specs.Texts.{bad_line, refused_line};
 ghost use Rattle.lastlines.specs.Steps.{edges_in, stepped, Prints, PrintsStep};
 ghost use Rattle.table.specs.Read.{table_of};
@@ -21,6 +21,15 @@ use table::{Rows, RowsMut, Settings, settings_of};
 #[derive(Clone, Copy)]
 pub struct Stepped {
     pub settings: Option<Settings>,
+    pub length: usize,
+    pub goes_on: bool,
+}
+
+// The same for a run that keeps a flag beside its settings: whether P came.
+#[derive(Clone, Copy)]
+pub struct Flagged {
+    pub started: bool,
+    pub settings: Settings,
     pub length: usize,
     pub goes_on: bool,
 }
@@ -253,5 +262,33 @@ pub fn take_line(
             print_surface(settings, &rows, out)
         }
         _ => reject(settings, number, out),
+    }
+}
+
+// The same for a run that keeps a flag beside its settings, which are handed back as they came where P didn't.
+pub fn take_flagged_line(
+    started: bool,
+    settings: Settings,
+    number: u64,
+    line: &[u8],
+    keys: &mut [u64],
+    distances: &mut [f32],
+    weights: &mut [f32],
+    count: &mut usize,
+    out: &mut [u8],
+) -> Flagged
+    ensures value { result ≡ flagged_as settings (step_of line.now number (settings_if started settings)
+        (table keys.old distances.old weights.old count.old)) }
+    ensures step { IsStep (step_of line.now number (settings_if started settings) (table keys.old distances.old weights.old count.old))
+        (stepped_as (step_of line.now number (settings_if started settings) (table keys.old distances.old weights.old count.old)))
+        (table keys.new distances.new weights.new count.new) out.old out.new }
+{
+    let given = started.then_some(settings);
+    let step = take_line(given, number, line, keys, distances, weights, count, out);
+    Flagged {
+        started: step.settings.is_some(),
+        settings: step.settings.unwrap_or(settings),
+        length: step.length,
+        goes_on: step.goes_on,
     }
 }
