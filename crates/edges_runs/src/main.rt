@@ -3,7 +3,6 @@
 #![tactic(auto)]
 
 use refusals::Refusal;
-use std::io;
 use table::{Rows, Settings, settings_of};
 
 // The sample's settings: truncation 1, maximum weight 100, size 1.
@@ -32,16 +31,16 @@ fn edges_of(count: usize, first: &mut [u64], second: &mut [u64]) -> Result<usize
     )
 }
 
-// A line for an answer.
-fn say(rt: &impl Print, listed: Result<usize, Refusal>) -> io::Result<()> {
-    match listed {
+// A line for an answer; one that can't be written is passed over.
+fn say(rt: &impl Print, listed: Result<usize, Refusal>) {
+    let _ = match listed {
         Ok(n) => println!(rt; "edges {n}"),
         Err(why) => println!(rt; "refused {}", u32::from(why)),
-    }
+    };
 }
 
-fn main(rt: HostRuntime) -> io::Result<()> {
-    say(&rt, edges_of(15, &mut [0; 14], &mut [0; 14]))?;
-    say(&rt, edges_of(15, &mut [0; 13], &mut [0; 13]))?;
-    say(&rt, edges_of(0, &mut [0; 0], &mut [0; 0]))
+fn main(rt: HostRuntime) {
+    say(&rt, edges_of(15, &mut [0; 14], &mut [0; 14]));
+    say(&rt, edges_of(15, &mut [0; 13], &mut [0; 13]));
+    say(&rt, edges_of(0, &mut [0; 0], &mut [0; 0]));
 }

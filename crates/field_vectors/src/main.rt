@@ -6,7 +6,7 @@ mod questions;
 mod readings;
 
 use crate::questions::Given;
-use vectors::{Field, Line, Score};
+use vectors::{Field, Line, Lines, Score};
 
 // How far the replay has come: the field and the lists that the lines so far made, and the score.
 #[derive(Clone, Copy)]
@@ -40,14 +40,15 @@ fn after(replay: Replay, line: Line) -> Replay {
 
 fn replayed(bytes: &[u8]) -> Score {
     let mut replay = started();
-    for text in bytes.split_inclusive(|byte| *byte == b'\n') {
-        replay = after(replay, vectors::line_from(text, 0).line);
+    for line in Lines::of(bytes) {
+        replay = after(replay, line);
     }
     replay.score
 }
 
-fn main(rt: HostRuntime) -> std::io::Result<()> {
+// A score that can't be written is passed over.
+fn main(rt: HostRuntime) {
     let mut buffer = io::large_buffer();
     let n = io::read_full(0, &mut buffer);
-    println!(rt; "{}", replayed(&buffer[..n]))
+    let _ = println!(rt; "{}", replayed(&buffer[..n]));
 }

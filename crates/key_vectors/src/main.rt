@@ -3,19 +3,19 @@
 
 mod leaves;
 
-use vectors::Score;
+use vectors::{Lines, Score};
 
 fn replayed(bytes: &[u8]) -> Score {
     let mut score = vectors::unscored();
-    for text in bytes.split_inclusive(|byte| *byte == b'\n') {
-        let line = vectors::line_from(text, 0).line;
+    for line in Lines::of(bytes) {
         score = vectors::scored(score, line.letter, leaves::again(line));
     }
     score
 }
 
-fn main(rt: HostRuntime) -> std::io::Result<()> {
+// A score that can't be written is passed over.
+fn main(rt: HostRuntime) {
     let mut buffer = io::large_buffer();
     let n = io::read_full(0, &mut buffer);
-    println!(rt; "{}", replayed(&buffer[..n]))
+    let _ = println!(rt; "{}", replayed(&buffer[..n]));
 }

@@ -4,7 +4,7 @@
 
 use refusals::Refusal;
 use stored::Distances;
-use vectors::{Field, Line, Score, float, same};
+use vectors::{Field, Line, Lines, Score, float, same};
 
 // The rows that a march gave, the next of them to compare, and whether the last line's answer came out again.
 #[derive(Clone, Copy)]
@@ -148,14 +148,15 @@ fn after(replay: Replay, line: Line) -> Replay {
 
 fn replayed(bytes: &[u8]) -> Score {
     let mut replay = started();
-    for text in bytes.split_inclusive(|byte| *byte == b'\n') {
-        replay = after(replay, vectors::line_from(text, 0).line);
+    for line in Lines::of(bytes) {
+        replay = after(replay, line);
     }
     replay.score
 }
 
-fn main(rt: HostRuntime) -> std::io::Result<()> {
+// A score that can't be written is passed over.
+fn main(rt: HostRuntime) {
     let mut buffer = io::large_buffer();
     let n = io::read_full(0, &mut buffer);
-    println!(rt; "{}", replayed(&buffer[..n]))
+    let _ = println!(rt; "{}", replayed(&buffer[..n]));
 }

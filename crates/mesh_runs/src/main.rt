@@ -3,7 +3,6 @@
 #![tactic(auto)]
 
 use refusals::Refusal;
-use std::io;
 use table::{Rows, Settings, settings_of};
 
 // The sample's settings: truncation 1, maximum weight 100, size 1.
@@ -48,25 +47,25 @@ fn mesh_of(
     )
 }
 
-// A line for an answer.
-fn say(rt: &impl Print, meshed: Result<(usize, usize), Refusal>) -> io::Result<()> {
-    match meshed {
+// A line for an answer; one that can't be written is passed over.
+fn say(rt: &impl Print, meshed: Result<(usize, usize), Refusal>) {
+    let _ = match meshed {
         Ok((edges, triangles)) => println!(rt; "edges {edges} triangles {triangles}"),
         Err(why) => println!(rt; "refused {}", u32::from(why)),
-    }
+    };
 }
 
-fn main(rt: HostRuntime) -> io::Result<()> {
+fn main(rt: HostRuntime) {
     let mut groups = [0u32; 28];
     let mut t0 = [0u32; 364];
     let mut t1 = [0u32; 364];
     let mut t2 = [0u32; 364];
-    say(&rt, mesh_of(15, &mut groups, &mut t0, &mut t1, &mut t2))?;
+    say(&rt, mesh_of(15, &mut groups, &mut t0, &mut t1, &mut t2));
     let mut few = [0u32; 27];
-    say(&rt, mesh_of(15, &mut few, &mut t0, &mut t1, &mut t2))?;
+    say(&rt, mesh_of(15, &mut few, &mut t0, &mut t1, &mut t2));
     let mut u0 = [0u32; 363];
     let mut u1 = [0u32; 363];
     let mut u2 = [0u32; 363];
-    say(&rt, mesh_of(15, &mut groups, &mut u0, &mut u1, &mut u2))?;
-    say(&rt, mesh_of(0, &mut groups, &mut t0, &mut t1, &mut t2))
+    say(&rt, mesh_of(15, &mut groups, &mut u0, &mut u1, &mut u2));
+    say(&rt, mesh_of(0, &mut groups, &mut t0, &mut t1, &mut t2));
 }

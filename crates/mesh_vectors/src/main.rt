@@ -3,7 +3,7 @@
 #![tactic(auto)]
 
 use corners::Threes;
-use vectors::{Field, Line, Score, float, same};
+use vectors::{Field, Line, Lines, Score, float, same};
 
 // Three lists of numbers, and how many of their places are filled: the calls on a mesh take whole lists and a count.
 #[derive(Clone, Copy)]
@@ -234,14 +234,15 @@ fn after(replay: Replay, line: Line) -> Replay {
 
 fn replayed(bytes: &[u8]) -> Score {
     let mut replay = started();
-    for text in bytes.split_inclusive(|byte| *byte == b'\n') {
-        replay = after(replay, vectors::line_from(text, 0).line);
+    for line in Lines::of(bytes) {
+        replay = after(replay, line);
     }
     replay.score
 }
 
-fn main(rt: HostRuntime) -> std::io::Result<()> {
+// A score that can't be written is passed over.
+fn main(rt: HostRuntime) {
     let mut buffer = io::large_buffer();
     let n = io::read_full(0, &mut buffer);
-    println!(rt; "{}", replayed(&buffer[..n]))
+    let _ = println!(rt; "{}", replayed(&buffer[..n]));
 }

@@ -6,7 +6,6 @@ use batching::{Batched, Counts, Readings};
 use floats::Metres;
 use fusing::Fused;
 use refusals::Refusal;
-use std::io;
 use table::{RowsMut, Settings, settings_of};
 
 // A fused table in so many places, under its settings.
@@ -86,56 +85,61 @@ impl<const ROOM: usize> Field<ROOM> {
     }
 }
 
-fn say(rt: &impl Print, fused: Result<Fused, Refusal>) -> io::Result<()> {
-    match fused {
+// A line that can't be written is passed over, here and below.
+fn say(rt: &impl Print, fused: Result<Fused, Refusal>) {
+    let _ = match fused {
         Ok(Fused::New) => println!(rt; "new"),
         Ok(Fused::Changed) => println!(rt; "changed"),
         Ok(Fused::Far) => println!(rt; "far"),
         Err(why) => println!(rt; "refused {}", u32::from(why)),
-    }
+    };
 }
 
-fn say_counts(rt: &impl Print, counts: Counts) -> io::Result<()> {
-    println!(rt;
+fn say_counts(rt: &impl Print, counts: Counts) {
+    let _ = println!(rt;
         "added {}\nchanged {}\nfar {}",
         counts.added, counts.changed, counts.far
-    )
+    );
 }
 
-fn say_batch(rt: &impl Print, batched: Batched) -> io::Result<()> {
+fn say_batch(rt: &impl Print, batched: Batched) {
     match batched {
         Ok(counts) => {
-            println!(rt; "done")?;
-            say_counts(rt, counts)
+            let _ = println!(rt; "done");
+            say_counts(rt, counts);
         }
         Err(refused) => {
-            println!(rt; "refused {}\nat {}", u32::from(refused.why), refused.at)?;
-            say_counts(rt, refused.counts)
+            let _ = println!(rt; "refused {}\nat {}", u32::from(refused.why), refused.at);
+            say_counts(rt, refused.counts);
         }
     }
+}
+
+fn say_rows(rt: &impl Print, rows: usize) {
+    let _ = println!(rt; "rows {rows}");
 }
 
 // Maximum weight 1e-38, truncation 10: the reading 10 is stored, and the second time refused with 7.
-fn small_weight(rt: &impl Print) -> io::Result<()> {
+fn small_weight(rt: &impl Print) {
     let mut field: Field<2> = Field::empty(10.0, 1.0e-38);
-    say(rt, field.take_direct())?;
-    say(rt, field.take_direct())?;
-    println!(rt; "rows {}", field.count)
+    say(rt, field.take_direct());
+    say(rt, field.take_direct());
+    say_rows(rt, field.count);
 }
 
 // Three readings, the second off the lattice: the first stands. Then a ray from (1, 1, 5) to (1, 1, 1), seen at 4.5 and at 9.
-fn batch_and_ray(rt: &impl Print) -> io::Result<()> {
+fn batch_and_ray(rt: &impl Print) {
     let mut field: Field<2> = Field::empty(1.0, 100.0);
-    say_batch(rt, field.take_batch(&[8, 6, 7], &[0.5; 3], &[1.0; 3]))?;
-    println!(rt; "rows {}", field.count)?;
-    say(rt, field.take_ray(4.5))?;
-    say(rt, field.take_ray(9.0))?;
-    println!(rt; "rows {}", field.count)
+    say_batch(rt, field.take_batch(&[8, 6, 7], &[0.5; 3], &[1.0; 3]));
+    say_rows(rt, field.count);
+    say(rt, field.take_ray(4.5));
+    say(rt, field.take_ray(9.0));
+    say_rows(rt, field.count);
 }
 
 // A key twice is one new and one changed; a far reading is neither; confidence 0 makes a new row all the same, and the
 // same reading again a changed one whose bits stay.
-fn counted_few(rt: &impl Print) -> io::Result<()> {
+fn counted_few(rt: &impl Print) {
     let mut field: Field<8> = Field::empty(1.0, 100.0);
     say_batch(
         rt,
@@ -144,13 +148,13 @@ fn counted_few(rt: &impl Print) -> io::Result<()> {
             &[0.5, 0.25, 2.0, 0.5, 0.5],
             &[1.0, 1.0, 1.0, 0.0, 0.0],
         ),
-    )?;
-    println!(rt; "rows {}", field.count)
+    );
+    say_rows(rt, field.count);
 }
 
 // Eighteen readings of three keys, which go through own rows, with two that are far; and once more with one of them off
 // the lattice: those before it are counted.
-fn counted_many(rt: &impl Print) -> io::Result<()> {
+fn counted_many(rt: &impl Print) {
     let mut field: Field<8> = Field::empty(1.0, 100.0);
     let mut cells = [
         0u64, 8, 16, 0, 8, 16, 0, 8, 16, 0, 8, 16, 0, 8, 16, 0, 8, 16,
@@ -158,15 +162,15 @@ fn counted_many(rt: &impl Print) -> io::Result<()> {
     let mut sdfs = [0.5f32; 18];
     sdfs[2] = 2.0;
     sdfs[4] = 2.0;
-    say_batch(rt, field.take_batch(&cells, &sdfs, &[1.0; 18]))?;
+    say_batch(rt, field.take_batch(&cells, &sdfs, &[1.0; 18]));
     cells[10] = 6;
-    say_batch(rt, field.take_batch(&cells, &sdfs, &[1.0; 18]))?;
-    println!(rt; "rows {}", field.count)
+    say_batch(rt, field.take_batch(&cells, &sdfs, &[1.0; 18]));
+    say_rows(rt, field.count);
 }
 
-fn main(rt: HostRuntime) -> io::Result<()> {
-    small_weight(&rt)?;
-    batch_and_ray(&rt)?;
-    counted_few(&rt)?;
-    counted_many(&rt)
+fn main(rt: HostRuntime) {
+    small_weight(&rt);
+    batch_and_ray(&rt);
+    counted_few(&rt);
+    counted_many(&rt);
 }

@@ -127,6 +127,43 @@ pub fn line_from(bytes: &[u8], start: usize) -> Taken
     }
 }
 
+// The lines of some bytes, from a place on.
+#[derive(Clone, Copy)]
+pub struct Lines<'a> {
+    pub bytes: &'a [u8],
+    pub place: usize,
+}
+
+impl<'a> Lines<'a> {
+    // All of them.
+    pub fn of(bytes: &'a [u8]) -> Lines<'a>
+        ensures { (result.bytes.now ≡ bytes.now) × (result.place ≡ 0) }
+    {
+        Lines { bytes, place: 0 }
+    }
+}
+
+impl<'a> Iterator for Lines<'a> {
+    type Item = Line;
+
+    ghost use Rattle.std.specs.Prelude.{◌-◌, length};
+    ghost use Rattle.std.specs.Iterator.{at_most};
+    ghost use Rattle.vectors.specs.Reading.{NextLine};
+
+    ghost next_gives = { NextLine };
+
+    ghost remaining = { λ lines. at_most (length lines.bytes.now - lines.place) };
+
+    fn next(&mut self) -> Option<Line> {
+        if self.bytes.len() <= self.place {
+            return None;
+        }
+        let taken = line_from(self.bytes, self.place);
+        self.place = taken.next;
+        Some(taken.line)
+    }
+}
+
 // The low 16 bits.
 pub fn low16(word: u64) -> u16
     ensures { result ≡ low16_of word }
