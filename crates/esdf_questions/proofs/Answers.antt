@@ -1,12 +1,15 @@
 -- The gradient's parts. Assumes nothing.
-use Rattle.std.specs.Prelude.{Some, None}
+use Rattle.std.specs.Prelude.{Some, None, Ok}
 use mathlib.Core.Path.{◌≡◌}
 use Prim.Native.Nat.{ℕ, ◌+◌, ◌-◌, ◌<◌, ◌≤◌}
 use borrow.Author.Tests.{le-leb, lt-leb, eq-eqb, ne_eqb}
 use lib.Ieee.{Float, binary32, add, sub, mul, div, neg}
 use Rattle.ids.specs.Key.{x_of, y_of, z_of}
 use Rattle.ids.specs.declared.Coords.{Coords}
+use Rattle.marching.specs.March.{distance_of}
+use Rattle.marched.specs.Marched.{MarchedTable, marched_rows, key_check, once_passed}
 use Rattle.esdf_questions.specs.declared.Slopes.{Slopes}
+use Rattle.esdf_questions.specs.Lookups.{get_distance}
 use Rattle.esdf_questions.specs.Gradient.{whole, step_of, slopes_with, direction_of, mean_of}
 
 pub step_up : (from to : ℕ) → from ≤ to → whole (to - from) ≡ step_of from to
@@ -46,3 +49,12 @@ pub mean_some :
     (div binary32 sum.z (whole sum.count)) ≡ mean_of sum
 unfolding mean_of
 mean_some sum h = rw (ne_eqb sum.count 0 h)
+
+-- a stored cell's distance, where the tests pass
+pub distance_of_lem :
+    (t : MarchedTable) (k : ℕ) {d : Float}
+    → key_check t k ≡ Ok tt
+    → distance_of k (marched_rows t) ≡ Some d
+    → get_distance t k ≡ Ok (Some d)
+unfolding once_passed
+distance_of_lem t k e f = rw (e, f)
